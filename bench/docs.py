@@ -8,9 +8,9 @@
 PROGRAM is crates/ads/out/ads where it is absent (`rt run` in crates/ads builds it, and so does .ci/run). Of a page each block
 ```console is run, line by line in one shell, in a folder of its own that holds the examples: a line `$ ..` is a command, the lines
 behind it are all that it prints. `rt try -- ..` and `rt run -- ..` stand for the program itself. Ports are replaced by free ones.
-The spellings in the table of values are tried, the answers that docs/CONNECTING.md tells asked for (connecting.py), the cases counted, and the links between
-the pages followed, in the READMEs of the crates too; a page that a script makes is to be what it would make. Each difference is told with its page and line;
-status 1 where there is one.
+The spellings in the table of values are tried, the answers that docs/CONNECTING.md tells asked for (connecting.py; the daemon's too if it
+is built), the cases counted, and the links between the pages followed, in the READMEs of the crates too; a page that a script makes is to
+be what it would make. Each difference is told with its page and line; status 1 where there is one.
 """
 import pathlib
 import queue
@@ -28,6 +28,7 @@ import connecting
 ROOT = pathlib.Path(__file__).resolve().parent.parent
 LINKED = ["README.md", "bench/README.md", *sorted(str(p.relative_to(ROOT)) for form in ("docs/*.md", "crates/*/README.md") for p in ROOT.glob(form))]
 MADE = {"docs/CONTRACTS.md": "contracts.py", "docs/BELIEVED.md": "believed.py", "docs/*.1": "manual.py"}
+ADSD = ROOT / "crates/adsd/out/adsd"
 PAGES = [page for page in LINKED if not page.startswith("crates/") and "```console" in (ROOT / page).read_text()]
 MARK = "--- that was it ---"
 RT = 'rt() { if [ "$1" = try ] || [ "$1" = run ]; then shift; [ "$1" = -- ] && shift; ads "$@"; fi; }\n'
@@ -252,7 +253,7 @@ def look_at_pages():
     wrong = sum(w for _, w in counts)
     print(f"{sum(c for c, _ in counts)} links, {wrong} of them lead nowhere")
     count_words()
-    return wrong + try_made()
+    return wrong + try_made() + connecting.try_table()
 
 
 def main(words):
@@ -272,6 +273,8 @@ def main(words):
         for page in pages or PAGES:
             wrong += try_page(page, program, pathlib.Path(folder) / "tried")
         wrong += try_values(program, pathlib.Path(folder)) + count_cases() + connecting.try_steps(program)
+    if ADSD.is_file():
+        wrong += connecting.try_clients(str(ADSD))
     return 1 if wrong + look_at_pages() else 0
 
 
