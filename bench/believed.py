@@ -40,9 +40,8 @@ PARTS = (
     ("Stores", "What `keep` promises: a file of kept values, a disk, and what a stop of the machine may leave.", ("crates/file_run/src/keep_file.rt:keep",)),
     ("Clients", "What `get`, `set`, `watch`, `record` and the others ask, print and end with; a link, and a table of samples.",
      ("crates/call_run/src/asking.rt:ask", "crates/call_run/src/recording.rt:record")),
-    ("The daemon", "What the runs of `adsd` promise.",
-     ("crates/daemon_run/src/plant.rt:run_plant", "crates/daemon_run/src/plant_watched.rt:run_watched",
-      "crates/daemon_run/src/serving.rt:serve_plant", "crates/daemon_run/src/serving.rt:serve_watched")),
+    ("The daemon", "What a run of `adsd` promises, with a store or without one.",
+     ("crates/daemon_run/src/plant.rt:run_plant", "crates/daemon_run/src/plant_watched.rt:run_watched")),
     ("The command line", "What `run` promises: which words are a command, and what each comes to.", ("crates/ads_run/src/top_call.rt:run",)),
     ("Other signals", "What signals must keep that are not those of the programs. Of those of the programs it is proved, so nobody needs this part for them.",
      ("crates/server_core/src/sources.rt:calls of Sources",)),
@@ -557,6 +556,14 @@ def spare(parts):
     for items in same.values():
         if len(items) > 1:
             print(f"{len(items[0].lines):4} lines  " + ", ".join(map(told, items)))
+    print("the same field of two records that must be believed:")
+    fields = collections.defaultdict(list)
+    for item in (item for items in parts for item in items):
+        for field in re.findall(r"^  pub (\w+ : .*(?:\n      .*)*)", item.text, re.M):
+            fields[" ".join(field.split())].append(item)
+    for field, items in fields.items():
+        if len(items) > 1 and len(field) > 60:
+            print(f"            {field.split()[0]}: " + ", ".join(map(told, items)))
     print("the same name and type, and another text:")
     for items in heads.values():
         if len(items) > 1 and len({signs(item) for item in items}) > 1:
