@@ -71,6 +71,8 @@ def uses_of(lines):
                 at += 1
                 line += " " + lines[at].strip()
             found = USE.match(line)
+            if not found or re.search(r"[{ ]\*[,}]|[.:]\*;?$", line):
+                LOST.add(f"a use that can't be followed: {line}")
             if found:
                 public, path, names, alias = found.groups()
                 yield bool(public), path.replace("::", "."), [n.strip() for n in names.split(",") if n.strip()] if names else None, alias
