@@ -31,8 +31,8 @@ PAGE, GUARANTEES = ROOT / "docs/BELIEVED.md", ROOT / "docs/GUARANTEES.md"
 
 # The parts of docs/BELIEVED.md, in reading order: a title, what it is, and the functions and definitions that it is for.
 PARTS = (
-    ("The server", "What `serve` promises: first what a plant is, and the bytes on the wire (`spec_formats`, to be read beside the Beckhoff Information System); "
-     "then which descriptions are accepted (`spec_rules`), the written server (`spec_machine`), its laws and promises, and how a run goes and ends.",
+    ("The server", "What `serve` promises: first what a plant is, and the bytes on the wire (`spec_formats`, to be read beside the Beckhoff Information "
+     "System); then which descriptions are accepted (`spec_rules`), the written server (`spec_machine`), its laws and promises, and how a run goes and ends.",
      ("crates/file_run/src/serve_file.rt:serve",)),
     ("The relay", "What `relay` promises over a wire.", ("crates/file_run/src/relay_serve.rt:serve_relay",)),
     ("Scripts", "How a script is read, and the text of its play.",
