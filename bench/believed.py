@@ -31,8 +31,8 @@ PAGE, GUARANTEES = ROOT / "docs/BELIEVED.md", ROOT / "docs/GUARANTEES.md"
 
 # The parts of docs/BELIEVED.md, in reading order: a title, what it is, and the functions and definitions that it is for.
 PARTS = (
-    ("The server", "What `serve` promises: first what a plant is, and the bytes on the wire (`spec_formats`, to be read beside the Beckhoff Information System); then which "
-     "descriptions are accepted (`spec_rules`), the written server (`spec_machine`), its laws and promises, and how a run goes and ends.",
+    ("The server", "What `serve` promises: first what a plant is, and the bytes on the wire (`spec_formats`, to be read beside the Beckhoff Information "
+     "System); then which descriptions are accepted (`spec_rules`), the written server (`spec_machine`), its laws and promises, and how a run goes and ends.",
      ("crates/file_run/src/serve_file.rt:serve",)),
     ("The relay", "What `relay` promises over a wire.", ("crates/file_run/src/relay_serve.rt:serve_relay",)),
     ("Scripts", "How a script is read, and the text of its play.",
@@ -40,9 +40,8 @@ PARTS = (
     ("Stores", "What `keep` promises: a file of kept values, a disk, and what a stop of the machine may leave.", ("crates/file_run/src/keep_file.rt:keep",)),
     ("Clients", "What `get`, `set`, `watch`, `record` and the others ask, print and end with; a link, and a table of samples.",
      ("crates/call_run/src/asking.rt:ask", "crates/call_run/src/recording.rt:record")),
-    ("The daemon", "What the runs of `adsd` promise.",
-     ("crates/daemon_run/src/plant.rt:run_plant", "crates/daemon_run/src/plant_watched.rt:run_watched",
-      "crates/daemon_run/src/serving.rt:serve_plant", "crates/daemon_run/src/serving.rt:serve_watched")),
+    ("The daemon", "What a run of `adsd` promises, with a store or without one.",
+     ("crates/daemon_run/src/plant.rt:run_plant", "crates/daemon_run/src/plant_watched.rt:run_watched")),
     ("The command line", "What `run` promises: which words are a command, and what each comes to.", ("crates/ads_run/src/top_call.rt:run",)),
     ("Other signals", "What signals must keep that are not those of the programs. Of those of the programs it is proved, so nobody needs this part for them.",
      ("crates/server_core/src/sources.rt:calls of Sources",)),
@@ -72,6 +71,8 @@ def uses_of(lines):
                 at += 1
                 line += " " + lines[at].strip()
             found = USE.match(line)
+            if not found or re.search(r"[{ ]\*[,}]|[.:]\*;?$", line):
+                LOST.add(f"a use that can't be followed: {line}")
             if found:
                 public, path, names, alias = found.groups()
                 yield bool(public), path.replace("::", "."), [n.strip() for n in names.split(",") if n.strip()] if names else None, alias
@@ -557,6 +558,14 @@ def spare(parts):
     for items in same.values():
         if len(items) > 1:
             print(f"{len(items[0].lines):4} lines  " + ", ".join(map(told, items)))
+    print("the same field of two records that must be believed:")
+    fields = collections.defaultdict(list)
+    for item in (item for items in parts for item in items):
+        for field in re.findall(r"^  pub (\w+ : .*(?:\n      .*)*)", item.text, re.M):
+            fields[" ".join(field.split())].append(item)
+    for field, items in fields.items():
+        if len(items) > 1 and len(field) > 60:
+            print(f"            {field.split()[0]}: " + ", ".join(map(told, items)))
     print("the same name and type, and another text:")
     for items in heads.values():
         if len(items) > 1 and len({signs(item) for item in items}) > 1:
