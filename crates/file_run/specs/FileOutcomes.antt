@@ -77,11 +77,6 @@ IsOfService status.Budget = Unit {0}
 IsOfService status.Memory = Unit {0}
 IsOfService s = ⊥
 
--- or its description is refused
-abbrev pub IsOfServe : Status → Type 0
-IsOfServe (status.BadDescription n item) = Unit {0}
-IsOfServe s = IsOfService s
-
 -- how a play over a store ends, whose description and script are read
 abbrev pub IsOfKeeping : Status → Type 0
 IsOfKeeping status.Done = Unit {0}

@@ -95,18 +95,12 @@ pub record KeepsPromisesSoFarIn (profile : Profile) (d : Description) (waves : L
   pub kept_handles : IsAccepted d (length waves) → (before after : List Move) (bytes : List ℕ)
       → log ≡ before ++ move.Event (event.Reload bytes) ∷ after → KeepsHandlesIn profile d waves before bytes
 
-abbrev pub KeepsPromisesSoFar : Description → List Wave → List Move → Type 0
-KeepsPromisesSoFar d waves log = KeepsPromisesSoFarIn strict d waves log
-
 -- what a log promises that ended so
 abbrev pub KeepsPromisesAtIn : End → Profile → Description → List Wave → List Move → Type 0
 KeepsPromisesAtIn end.Done profile d waves log = KeepsPromisesIn profile d waves log
 KeepsPromisesAtIn end.Budget profile d waves log = KeepsPromisesIn profile d waves log
 KeepsPromisesAtIn end.LinkFault profile d waves log = KeepsPromisesIn profile d waves log
 KeepsPromisesAtIn end.Memory profile d waves log = KeepsPromisesSoFarIn profile d waves log
-
-abbrev pub KeepsPromisesAt : End → Description → List Wave → List Move → Type 0
-KeepsPromisesAt ended d waves log = KeepsPromisesAtIn ended strict d waves log
 
 -- the promises of a script's play
 abbrev pub PlayKeepsPromises : Description → List Wave → List ScriptLine → Type 0
