@@ -26,3 +26,5 @@ pub mod BitWrites
 pub mod HandleWrites
 pub mod Histories
 pub mod Profiles
+mod LogExamples
+mod OrderExamples
