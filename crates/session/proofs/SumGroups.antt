@@ -49,15 +49,9 @@ pub more-strict : (x : Manner) (n : ℕ) → is_wide x ≡ false → false ≡ i
 more-strict Strict n f = refl
 more-strict Wide n f = absurd (false≢true (sym f))
 
-either-wide : (n : ℕ) → ((n == sum_told_read) || (n == sum_short_read)) ≡ is_some (wide_sums n)
-either-wide n = elim (cases_Bool (n == sum_told_read)) [
-  | inl t ↦ rw t refl
-  | inr t ↦ rw t (elim (cases_Bool (n == sum_short_read)) [ | inl u ↦ rw u refl | inr u ↦ rw u refl ])
-]
-
-pub more-wide : (x : Manner) (n : ℕ) → is_wide x ≡ true → ((n == sum_told_read) || (n == sum_short_read)) ≡ is_some (sums_in_manner x n)
+pub more-wide : (x : Manner) (n : ℕ) → is_wide x ≡ true → is_some (wide_sums n) ≡ is_some (sums_in_manner x n)
 more-wide Strict n t = absurd (false≢true t)
-more-wide Wide n t = either-wide n
+more-wide Wide n t = refl
 
 more-sum : (x : Manner) (n : ℕ) → is_some (sums_in_manner x n) ≡ true → IsKnownSum (sums_in_manner x n) n
 more-sum x n =

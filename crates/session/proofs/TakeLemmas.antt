@@ -139,12 +139,7 @@ parts-perform : (d : Setup) (c : Client) (k : Asker) (s : SumRequest) (o : Optio
 parts-perform d c k s (Some code) = tt
 parts-perform d c k s None = tt
 
-group-more-performs : (d : Setup) (c : Client) (k : Asker) (o : Option (ℕ → List ℕ → SumRequest)) (group n len : ℕ) (bytes : List ℕ)
-    → IsPerform (decide_more d c k o group n len bytes)
-more-performs d c k (Some sum) group n len bytes = parts-perform d c k (sum n bytes) _
-more-performs d c k None group n len bytes = group-performs d c k (answered_group READ_WRITE group) (ReadWrite group n len bytes) n len bytes
-
-performs : (d : Setup) (c : Client) (k : Asker) (g : Option Group) (r : Request) (n len : ℕ) (bytes : List ℕ)
+group-performs : (d : Setup) (c : Client) (k : Asker) (g : Option Group) (r : Request) (n len : ℕ) (bytes : List ℕ)
     → IsPerform (decide_read_write d c k g r n len bytes)
 group-performs d c k (Some SumRead) r n len bytes = parts-perform d c k (sum_of_reads n bytes) _
 group-performs d c k (Some SumWrite) r n len bytes = parts-perform d c k (sum_of_writes n bytes) _

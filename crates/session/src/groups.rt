@@ -2,7 +2,7 @@
 
 ghost use Rattle.std.specs.Prelude.{◌≡◌, is_some};
 ghost use Rattle.spec_formats.specs.Groups.{group_of};
-ghost use Rattle.spec_machine.specs.MoreSums.{sums_in_manner};
+ghost use Rattle.spec_machine.specs.MoreSums.{wide_sums, sums_in_manner};
 ghost use Rattle.session.specs.HandleGroups as groups;
 
 use index_groups::{HANDLE_BY_NAME, RELEASE_HANDLE, VALUE_BY_HANDLE, VALUE_BY_NAME};
@@ -74,5 +74,11 @@ fn is_more_sum(port: &Port, number: u32) -> bool
     if !port.is_wide() {
         return false;
     }
+    is_wide_sum(number)
+}
+
+fn is_wide_sum(number: u32) -> bool
+    ensures { result ≡ is_some (wide_sums number) }
+{
     number == SUM_TOLD_READ || number == SUM_SHORT_READ
 }
