@@ -27,3 +27,5 @@ pub mod HandleWrites
 pub mod Histories
 pub mod Profiles
 pub mod RightsLaws
+mod LogExamples
+mod OrderExamples

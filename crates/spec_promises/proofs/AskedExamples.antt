@@ -1,5 +1,5 @@
 -- The requests of a piece one by one: which they are, what each finds, and what they write, by computation.
-use Rattle.std.specs.Prelude.{◌≡◌, refl, ℕ, List, [], ◌∷◌, ◌++◌, codes, map, take, drop, Bool, true, false, ◌==◌}
+use Rattle.std.specs.Prelude.{◌≡◌, refl, ℕ, List, [], ◌∷◌, ◌++◌, codes, map, take, drop, ◌==◌}
 use Rattle.std.proofs.Common.{ap}
 use Rattle.std.proofs.lemmas.Bool.{false≢true}
 use Rattle.spec_plant.specs.PartTexts.{name_behind, comment_behind}
@@ -44,16 +44,15 @@ use Rattle.spec_plant.specs.Spelling.{type_text}
 use Rattle.spec_plant.specs.Trees.{trees_behind, trees_of}
 use Rattle.spec_plant.specs.World.{byte_at, with_byte}
 use Rattle.std.specs.Fmt.{digits}
-use Rattle.ads_outside.specs.declared.moves.Move.{Move}
-use Rattle.ads_outside.specs.declared.moves.Move.{Move}
 use Rattle.spec_plant.specs.World.{ByteName, SymbolPart, Block, byte_or_zero}
 use Rattle.spec_formats.specs.Request.{Request, Read, Write}
-use Rattle.spec_machine.specs.World.{World, symbol_names}
+use Rattle.spec_machine.specs.World.{World}
 use Rattle.spec_machine.specs.Client.{Client}
 use Rattle.spec_machine.specs.MachineState.{MachineState}
 use Rattle.spec_promises.specs.Asked.{Asked, asked_of_move, asked_of_packets, asked_in_turn, question_of, requests_of, names_written, Leads}
 use Rattle.spec_frames.proofs.Hex.{hex}
-use Rattle.spec_machine.proofs.Plant.{q, q_viewer, named, piece, opened, tick, start, step}
+use Rattle.spec_frames.specs.Frame.{frame_bytes}
+use Rattle.spec_machine.proofs.Plant.{q, packet_from, piece, opened, tick, start, step}
 
 abbrev here : MachineState World Client
 here = state_after step start (opened 1 ∷ [])
@@ -79,6 +78,10 @@ short_sum = q 9 5 (codes "81f00000 02000000 08000000 1a000000  40400000 00000000
 -- a header that no frame has, which closes its connection
 abbrev broken : List ℕ
 broken = hex (codes "0100200000ff")
+
+-- a read of a machine that has no route, which closes its connection too
+abbrev unrouted : List ℕ
+unrouted = frame_bytes (packet_from (9 ∷ 9 ∷ 9 ∷ 9 ∷ 1 ∷ 1 ∷ []) 2 6 (hex (codes "40400000 00000000 04000000")))
 
 abbrev requests_in : MachineState World Client → List ℕ → List Request
 requests_in s bytes = map (λ (a : Asked). a.request) (asked_of_move s (piece 1 bytes))
@@ -111,6 +114,7 @@ pub record AskedRows : Type 0 where
   -- none of a connection that is not there, none behind a frame that closes it
   pub nobody : requests_in start read_count ≡ []
   pub behind_broken : requests_in here (read_count ++ broken ++ read_count) ≡ Read 0x4040 0 4 ∷ []
+  pub behind_unrouted : requests_in here (read_count ++ unrouted ++ read_count) ≡ Read 0x4040 0 4 ∷ []
   pub closing : requests_in (state_after step here (piece 1 broken ∷ [])) read_count ≡ []
   -- a tick asks nothing
   pub at_a_tick : asked_of_move here (tick 1000) ≡ []
@@ -145,6 +149,7 @@ asked_rows = record {
   refused_sum = refl;
   nobody = refl;
   behind_broken = refl;
+  behind_unrouted = refl;
   closing = refl;
   at_a_tick = refl;
   found = refl;

@@ -44,13 +44,11 @@ use Rattle.spec_plant.specs.Spelling.{type_text}
 use Rattle.spec_plant.specs.Trees.{trees_behind, trees_of}
 use Rattle.spec_plant.specs.World.{byte_at, with_byte}
 use Rattle.std.specs.Fmt.{digits}
-use Rattle.ads_outside.specs.declared.moves.Move.{Move}
-use Rattle.ads_outside.specs.declared.moves.Move.{Move}
-use Rattle.spec_plant.specs.Description.{Description, Rights, Read, Control}
+use Rattle.spec_plant.specs.Description.{Rights, Read, Control}
 use Rattle.spec_plant.specs.World.{PlantPort, plant_port}
 use Rattle.spec_plant.proofs.Plant.{ENGINEER, VIEWER, axis_type, count_symbol, title_symbol, symbols_with, port_with}
 use Rattle.spec_machine.specs.Acts.{Outcome}
-use Rattle.spec_machine.specs.Connection.{Connection, fresh_connection, is_deaf}
+use Rattle.spec_machine.specs.Connection.{Connection, fresh_connection}
 use Rattle.spec_machine.specs.Handles.{is_live, kept_status}
 use Rattle.spec_machine.specs.World.{World}
 use Rattle.spec_machine.specs.Client.{Client, new_client}

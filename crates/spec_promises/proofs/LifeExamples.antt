@@ -50,7 +50,7 @@ use Rattle.ads_outside.specs.declared.moves.Move.TheVariants as move
 use Rattle.spec_machine.specs.World.{World}
 use Rattle.spec_machine.specs.Client.{Client}
 use Rattle.spec_machine.specs.MachineState.{MachineState}
-use Rattle.spec_promises.specs.Notified.{TickSeen, IsByCycle, IsOnChange, life_of}
+use Rattle.spec_promises.specs.Notified.{TickSeen, IsByCycle, life_of}
 use Rattle.spec_machine.proofs.Plant.{q, added, piece, opened, tick, start, step}
 
 -- connection 1 watches `Main.count` in cycle mode, every 1,000, by handle 1, and on change, at each tick, by handle 2

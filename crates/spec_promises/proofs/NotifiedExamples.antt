@@ -1,8 +1,8 @@
 -- What a notification gives over its life, and what it may not, by computation.
-use Rattle.std.specs.Prelude.{◌≡◌, refl, ℕ, List, [], ◌∷◌, ◌++◌, codes, map, bytes_eq, Bool, true, false}
+use Rattle.std.specs.Prelude.{◌≡◌, refl, ℕ, List, [], ◌∷◌, ◌++◌, bytes_eq, Bool, true, false}
 use Rattle.std.proofs.Common.{inl, inr, lit<, lit≤, ap}
 use Rattle.std.proofs.lemmas.Bool.{false≢true, le-leb}
-use Rattle.spec_promises.specs.Notified.{TickSeen, GivesSample, GivesNone, unit_cycle, IsByCycle, GivesByCycle, IsOnChange, GivesOnChange}
+use Rattle.spec_promises.specs.Notified.{TickSeen, IsByCycle, IsOnChange}
 
 -- a tick at which the value, one byte, is this, and the samples that are given
 abbrev seen : ℕ → ℕ → List (List ℕ) → TickSeen

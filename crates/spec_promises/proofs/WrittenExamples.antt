@@ -1,5 +1,5 @@
 -- What an accepted write and an accepted control leave, and what they may not leave, by computation.
-use Rattle.std.specs.Prelude.{◌≡◌, refl, ℕ, List, [], ◌∷◌, ◌++◌, codes, map, take, drop, replicate, bytes_eq, Bool, true, false, ◌==◌, Option, Some, None, unwrap_or}
+use Rattle.std.specs.Prelude.{◌≡◌, refl, ℕ, List, [], ◌∷◌, ◌++◌, codes, take, replicate, bytes_eq, ◌==◌, Some, None, unwrap_or}
 use Rattle.std.proofs.Common.{ap, lit≤, subst, sym}
 use Rattle.std.proofs.lemmas.Bool.{false≢true}
 use Rattle.spec_plant.specs.PartTexts.{name_behind, comment_behind}
@@ -44,17 +44,15 @@ use Rattle.spec_plant.specs.Spelling.{type_text}
 use Rattle.spec_plant.specs.Trees.{trees_behind, trees_of}
 use Rattle.spec_plant.specs.World.{byte_at, with_byte}
 use Rattle.std.specs.Fmt.{digits}
-use Rattle.ads_outside.specs.declared.moves.Move.{Move}
-use Rattle.ads_outside.specs.declared.moves.Move.{Move}
-use Rattle.spec_plant.specs.Description.{Area, Memory, Process, Control}
+use Rattle.spec_plant.specs.Description.{Memory, Process, Control}
 use Rattle.spec_plant.specs.World.{PlantPort, Block, ByteName, SymbolPart, plant_port}
-use Rattle.spec_plant.proofs.Plant.{NET, ENGINEER, axis_type, count_symbol, title_symbol, symbols_with, port_with}
+use Rattle.spec_plant.proofs.Plant.{ENGINEER, axis_type, count_symbol, title_symbol, symbols_with, port_with}
 use Rattle.spec_formats.specs.Groups.{AreaBytes, AreaBit, ValueByHandle, ReleaseHandle, SumRead}
 use Rattle.spec_formats.specs.Request.{Request, Write, WriteControl}
-use Rattle.spec_machine.specs.Connection.{Connection, fresh_connection}
-use Rattle.spec_machine.specs.Handles.{Live, is_live, kept_status}
+use Rattle.spec_machine.specs.Connection.{fresh_connection}
+use Rattle.spec_machine.specs.Handles.{is_live}
 use Rattle.spec_machine.specs.World.{World, setup_of}
-use Rattle.spec_machine.specs.Client.{Client, Place, new_client}
+use Rattle.spec_machine.specs.Client.{Client, new_client}
 use Rattle.spec_machine.specs.MachineState.{MachineState}
 use Rattle.spec_machine.specs.Writes.{Asker}
 use Rattle.spec_laws.specs.ExactWrites.{IsBitPut}
