@@ -7,7 +7,7 @@ use Rattle.spec_machine.specs.Connection.{connection_of}
 use Rattle.spec_machine.specs.Offers.{is_among}
 use Rattle.spec_machine.specs.Summary.{count_of}
 use Rattle.spec_plant.specs.Rights.{rights_of}
-use Rattle.spec_relay.specs.RelayState.{Request, RelayWorld, Owned, RelayConnection, RelayState, is_heard, is_heard_among}
+use Rattle.spec_relay.specs.RelayState.{Request, RelayWorld, RelayConnection, RelayState, is_heard, is_heard_among}
 use Rattle.spec_relay.specs.RelaySummary.{relay_summary_of}
 use Rattle.spec_relay.specs.Requests.{requests_heard, is_asked_by, with_requests_heard}
 use Rattle.spec_machine.specs.Piece.{with_client}
@@ -261,7 +261,10 @@ counts_changed n f number taken s = λ i. record {
 pub routed_changed : (n : ℕ) (f : RelayConnection → RelayConnection) → ((k : RelayConnection) → (f k).number ≡ k.number)
     → ((k : RelayConnection) → (f k).client ≡ k.client) → (s : RelayState) → AreRouted s → AreRouted (at_connection n f s)
 routed_changed n f number client s h m k net found owned =
-    ap (λ (w : RelayWorld). is_some (rights_of net w.routes)) (world-change n f s) ∙ elim (cases_eq m n) [
+    ap (λ (w : RelayWorld). is_some (rights_of net w.routes)) (world-change n f s) ∙ before
+  where
+    before : is_some (rights_of net s.world.routes) ≡ true
+    before = elim (cases_eq m n) [
       | inl e ↦
           let b = before_number n f number s k (ap (λ j. connection_of j (at_connection n f s).connections) (sym e) ∙ found) in
           h n b.connection net b.found (sym (client b.connection) ∙ ap (λ (x : RelayConnection). x.client) b.is ∙ owned)
@@ -271,12 +274,17 @@ routed_changed n f number client s h m k net found owned =
 -- or gives one with a route to a connection
 pub routed_owned : (n : ℕ) (net : List ℕ) (s : RelayState) → is_some (rights_of net s.world.routes) ≡ true → AreRouted s → AreRouted (with_owner n net s)
 routed_owned n net s has h m k other found owned =
-    let f = with_client {C = Owned} (Some net) in
-    ap (λ (w : RelayWorld). is_some (rights_of other w.routes)) (world-change n f s) ∙ elim (cases_eq m n) [
+    ap (λ (w : RelayWorld). is_some (rights_of other w.routes)) (world-change n f s) ∙ before
+  where
+    f : RelayConnection → RelayConnection
+    f = with_client (Some net)
+
+    before : is_some (rights_of other s.world.routes) ≡ true
+    before = elim (cases_eq m n) [
       | inl e ↦
           let b = before_number n f (λ l. refl) s k (ap (λ j. connection_of j (at_connection n f s).connections) (sym e) ∙ found) in
-          let same : net ≡ other = some_same net other (ap (λ (x : RelayConnection). x.client) b.is ∙ owned) in
-          ap (λ x. is_some (rights_of x s.world.routes)) (sym same) ∙ has
+          let both : ◌≡◌ {A = Option (List ℕ)} (Some net) (Some other) = ap (λ (x : RelayConnection). x.client) b.is ∙ owned in
+          ap (λ x. is_some (rights_of x s.world.routes)) (sym (some_same net other both)) ∙ has
       | inr ne ↦ h m k other (sym (changed-other n m f (λ l. refl) (λ e. ne (sym e)) s) ∙ found) owned
     ]
 
