@@ -175,7 +175,7 @@ def recording_as_signal(program):
 
 def told_of(program, folder, port, name):
     """How a daemon over this recording ends: in one line, before it listens."""
-    it = subprocess.run([program, *configured(folder, port, name)], cwd=folder, capture_output=True, timeout=60)
+    it = subprocess.run([program, *configured(folder, port, name)], cwd=folder, capture_output=True, timeout=180)
     said = it.stderr.decode()
     expect(it.returncode in (1, 4) and it.stdout == b"" and said.startswith("adsd: [[signal]] 2: ") and said.count("\n") == 1, f"{name}: {it.returncode}, {said!r}")
     return f"{name}: {said[len('adsd: [[signal]] 2: '):-1]}"
