@@ -1,7 +1,8 @@
 #!/usr/bin/env python3
 """Tries `adsd` as a plant has it: real sockets, real signals, a log that nobody reads, systemd's socket, a status file.
 
-    python3 bench/daemon.py PROGRAM [NAME ..]     PROGRAM is the built adsd; without a NAME all tries are made
+    python3 bench/daemon.py PROGRAM [--kills N] [NAME ..]     PROGRAM is the built adsd; without a NAME all tries are made
+    python3 bench/daemon.py PROGRAM --kills 1000 keeps_over_kills      kills it a thousand times over one store, in half an hour; 12 times where it is not said
 
 Each try has a name and says what it saw; the last line counts them, and the status is 1 if one failed. Nothing is stubbed: the program runs
 in a folder of its own, and what it is to answer is worked out from the layouts of docs/FORMATS.md.
@@ -28,6 +29,7 @@ NET, ME = bytes([5, 1, 2, 3, 1, 1]), bytes([192, 168, 0, 9, 1, 1])
 BLOCKED = {signal.SIGTERM, signal.SIGINT, signal.SIGHUP}
 SUMMARY = re.compile(r"connections \d+ requests (\d+) replies (\d+) samples \d+ reloads \d+ \d+\n")
 TRIES = {}
+COUNTS = {"kills": 12}
 
 
 class Failed(Exception):
@@ -462,12 +464,23 @@ def wrong_words(program):
         return f"{len(WRONG)} cases"
 
 
+def words_of(words):
+    """The program and the names of the tries, out of the words; the count of --kills is set."""
+    if "--kills" in words[:-1]:
+        at = words.index("--kills")
+        COUNTS["kills"] = int(words[at + 1])
+        words = words[:at] + words[at + 2:]
+    return words[:1], words[1:]
+
+
 def main():
-    import daemon_store  # noqa: F401  (it registers its tries)
-    if len(sys.argv) < 2 or sys.argv[1].startswith("-") or not os.access(sys.argv[1], os.X_OK) or set(sys.argv[2:]) - TRIES.keys():
+    import daemon_disk  # noqa: F401  (they register their tries)
+    import daemon_store  # noqa: F401
+    programs, given = words_of(sys.argv[1:])
+    if not programs or programs[0].startswith("-") or not os.access(programs[0], os.X_OK) or set(given) - TRIES.keys():
         sys.exit(__doc__ + "\nThe tries: " + ", ".join(TRIES))
-    program, failed = os.path.abspath(sys.argv[1]), 0
-    names = sys.argv[2:] or TRIES
+    program, failed = os.path.abspath(programs[0]), 0
+    names = given or TRIES
     for name in names:
         try:
             print(f"{name}: {TRIES[name](program)}", flush=True)
@@ -479,7 +492,7 @@ def main():
 
 
 if __name__ == "__main__":
-    # As a module, so that the tries of daemon_store stand in the same table.
+    # As a module, so that the tries of the other files stand in the same table.
     sys.dont_write_bytecode = True
     import daemon
     sys.exit(daemon.main())

@@ -9,10 +9,11 @@ import signal
 import socket
 import struct
 import subprocess
+import sys
 import tempfile
 import time
 
-from daemon import Daemon, expect, frame, free_port, reading, reply, tried
+from daemon import COUNTS, Daemon, expect, frame, free_port, reading, reply, tried
 
 TITLE = 72                        # the place of Main.title in examples/plant.toml, a STRING(7) that is persistent
 KEPT = re.compile(r"connections \d+ requests \d+ replies \d+ samples \d+ reloads \d+ \d+\nsaved (\d+)\n")
@@ -69,13 +70,15 @@ def keeps_over_a_restart(program):
 
 
 @tried
-def keeps_over_kills(program, times=int(os.environ.get("KILLS", "12"))):
+def keeps_over_kills(program):
     """Killed at a random moment, again and again: the value that comes back was written, and at most a second and a save before the last one."""
-    chance, ages, writes = random.Random(7), [], 0
+    chance, ages, writes, times = random.Random(7), [], 0, COUNTS["kills"]
     with contextlib.ExitStack() as stack:
         folder = stack.enter_context(tempfile.TemporaryDirectory())
         number, written, killed = 0, {0: 0.0}, 0.0
-        for _ in range(times):
+        for count in range(times):
+            if count % 100 == 99:
+                print(f"keeps_over_kills: {count + 1} of {times}", file=sys.stderr, flush=True)
             it = in_folder(stack, program, folder, ["--store", "kept", "--save-each", "1", "--log", "none"])
             back = read_title(it)
             came = 0 if back == b"Mix\0\0\0\0\0" else int(back[:7])

@@ -1,10 +1,15 @@
 """The hostile runs of a client over a link, for `python3 bench/hostile.py`: peers that answer as a server should (bench/model.py), and then cut, repeat, delay, damage
 or leave out what they say; peers that lie in lengths, entries, types and samples; and each call of the link and of the output that fails. What must come is what the
 model of a client (bench/client.py) says.
+
+    python3 bench/hostile_peers.py --profiles [ADS ADSD]    whether each call of a client is answered alike by the strict and the wide server: by the model; and with
+                                                            the two programs, by `ads` over a socket to a daemon in both profiles
 """
 import os
 import re
+import subprocess
 import sys
+import tempfile
 
 HERE = os.path.dirname(os.path.abspath(__file__))
 sys.path.insert(0, HERE)
@@ -77,8 +82,8 @@ def linked(said, words, comes, **how):
 class Device:
     """A server that one client talks to."""
 
-    def __init__(self, d=PLANT):
-        self.server, self.moment = model.Server(d, SIGNALS), 0
+    def __init__(self, d=PLANT, wide=False):
+        self.server, self.moment = model.Server(d, SIGNALS, wide), 0
         model.turn(self.server, ("open", 1), [])
 
     def after(self, event):
@@ -94,9 +99,9 @@ class Device:
         return self.after(("tick", self.moment))
 
 
-def honest(words, d=PLANT):
+def honest(words, d=PLANT, wide=False):
     """What a peer gives that answers as it should: an answer to each request, and for a call that waits for samples what a tick brings."""
-    device, talker, found, at = Device(d), client.Client(words, ME, NET, 851), [], 0
+    device, talker, found, at = Device(d, wide), client.Client(words, ME, NET, 851), [], 0
     talker.begin(FIRST)
     while talker.over is None:
         frames = [part[1] for part in talker.parts[at:] if part[0] == "sent"]
@@ -594,3 +599,45 @@ def talker_of(name):
 
 
 SUBJECTS = {"pieces": pieces, "frames": frames, "entries": entries, "values": values, "lists": lists, "samples": samples, "types": types, "calls": calls, "local": locals_}
+
+
+# The profiles of the server.
+
+
+def by_program(ads, where, words):
+    """What a call of the program prints of a server over a socket, and its status; of a call that goes by the clock how many lines."""
+    given = [ads, *map(str, words), "--to", where, "--netid", NET, "--me", ME]
+    if words[0] == "watch":
+        given = [ads, "watch", words[1], "--mode", words[2], "--cycle", str(words[3]), "--count", str(words[4]), "--to", where, "--netid", NET, "--me", ME]
+    it = subprocess.run(given, capture_output=True, text=True, timeout=60)
+    return it.returncode, len(it.stdout.splitlines()) if words[0] == "watch" else it.stdout
+
+
+def wanted_of(words, steps):
+    status, out, _ = client.run(words, in_turn(steps), me=ME, peer=NET)
+    return status, len(out.splitlines()) if words[0] == "watch" else out
+
+
+def try_profiles(programs):
+    """Whether all calls are answered alike; how many are not."""
+    wrong = [f"{name}: the model answers otherwise in the wide profile" for name, words in COMMANDS.items() if honest(words, wide=True) != STEPS[name]]
+    for profile in ("strict", "wide") if programs else ():
+        import wide_runs  # noqa: PLC0415
+
+        ads, adsd = map(os.path.abspath, programs)
+        for name, words in COMMANDS.items():
+            # (a daemon anew: some calls change what it is)
+            with tempfile.TemporaryDirectory() as folder, wide_runs.served(adsd, folder, PLANT, profile) as (_, port):
+                came = by_program(ads, f"127.0.0.1:{port}", words)
+            if came != wanted_of(words, STEPS[name]):
+                wrong.append(f"{name}, {profile}: {came} came, {wanted_of(words, STEPS[name])} was wanted")
+    for said in wrong:
+        print(said)
+    print(f"{len(COMMANDS)} calls of a client by the model{', and by the programs' if programs else ''} in both profiles, {len(wrong)} otherwise")
+    return len(wrong)
+
+
+if __name__ == "__main__":
+    if sys.argv[1:2] != ["--profiles"] or len(sys.argv) not in (2, 4):
+        sys.exit(__doc__)
+    sys.exit(1 if try_profiles(sys.argv[2:]) else 0)
