@@ -242,7 +242,8 @@ def stop_file(program):
 
 LOG_LINES = (
     "<6>listening at 127.0.0.1:", "<6>opened 1 from 127.0.0.1:", "<6>speaks 1 as 192.168.0.9.1.1, port 32905", "<6>closed 1 from 127.0.0.1:",
-    '<4>no route for 2: to let it in, add three lines to the description: [[route]] and net = "10.0.0.7.1.1" and rights = "read"',
+    '<4>no route for 2: to let it in, add three lines to the description: [[route]] and net = "10.0.0.7.1.1" and rights = "read"; '
+    'to let every NetId in, add other_routes = "read" to the configuration',
     "<5>shut 2 from 127.0.0.1:", "<6>speaks 3 no ADS", "<5>shut 3 from 127.0.0.1:",
     "<4>reload refused: rule 12 item 1: a symbol lies within its area", "<6>reload accepted: version 2",
     "<4>reload refused: it is no TOML document", "<6>stopping: SIGTERM",
@@ -271,6 +272,26 @@ def log_lines(program):
         for line in LOG_LINES:
             expect(any(it.startswith(line) for it in err.splitlines()), f"no line {line!r} in {err!r}")
         return f"{len(err.splitlines())} lines"
+
+
+@tried
+def machines_without_a_route(program):
+    """`other_routes`: who has no route reads; a write of it is refused with 0x704, or done; the log says what it means."""
+    stranger, said = bytes([10, 0, 0, 7, 1, 1]), []
+    for right, code in (("read", 0x704), ("write", 0)):
+        with contextlib.ExitStack() as stack:
+            it = Daemon(stack, program, ["--log", "journal", "--other-routes", right])
+            with it.link() as link:
+                link.settimeout(5)
+                link.sendall(reading(1, stranger) + frame(2, 3, struct.pack("<IIII", 0x4040, 0, 4, 7), stranger))
+                expect(reply(link) == (1, struct.pack("<III", 0, 4, 42)), "a read of a stranger was not answered")
+                expect(reply(link) == (2, struct.pack("<I", code)), "a write of a stranger was answered otherwise")
+            out, err, status, _ = it.stopped(signal.SIGTERM)
+            in_order(out, status)
+            expect(any(line.startswith(f"<5>other_routes {right}: each machine") for line in err.splitlines()), f"the log says {err!r}")
+            expect("no route for" not in err, f"the log says {err!r}")
+            said.append(right)
+    return " and ".join(said)
 
 
 def busy(daemon, seconds=3):

@@ -45,8 +45,8 @@ def frame(command, number, payload, *, source=ME, net=NET, port=851, flags=4, le
     return u16(reserved) + u32(len(ams) if head is None else head) + ams
 
 
-def read(number, group, at, some):
-    return frame(2, number, u32(group) + u32(at) + u32(some))
+def read(number, group, at, some, **other):
+    return frame(2, number, u32(group) + u32(at) + u32(some), **other)
 
 
 def write(number, group, at, given, **other):
@@ -88,10 +88,11 @@ def replay(said, events, plants="plant2.toml"):
     return "\n".join(head + script + ["status 0", "out"] + [f"| {line}" for line in came.splitlines()]) + "\n"
 
 
-def played_wide(said, script, came):
-    """The same for cases_wide, which prints no summary."""
+def played_wide(said, script, came, others=None):
+    """The same for cases_wide, which prints no summary; with `others`, the right of machines without a route."""
     out = [f"| {line}" for line in came.splitlines()[:-1]]
-    return "\n".join([*(f"# {line}" for line in said.splitlines()), "script", *script, "out", *out]) + "\n"
+    right = [f"others {others}"] if others else []
+    return "\n".join([*(f"# {line}" for line in said.splitlines()), *right, "script", *script, "out", *out]) + "\n"
 
 
 def asked(said, *frames):

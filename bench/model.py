@@ -806,9 +806,9 @@ class Relay:
         return f"connections {self.opened} frames {self.frames} passed {self.passed} unknown {self.unknown}"
 
 
-def play(d, signals, events, wide=False, more=TOLD_SUMS):
+def play(d, signals, events, wide=False, others=None, more=TOLD_SUMS):
     """What `replay` prints of these events, with its summary; with `wide`, what it would print of the wide server with `more` sums."""
-    return played(Server(d, signals, wide, more=more), events)
+    return played(Server(d, signals, wide, others, more), events)
 
 
 def relayed(d, events):

@@ -9,7 +9,6 @@ library of CLONE (so it waits, half an hour at most), and hands the library over
 A clone that has built the library itself keeps its own: remove crates/*/out/rlib there first.
 """
 import fcntl
-import functools
 import glob
 import hashlib
 import json
@@ -41,8 +40,9 @@ def below(clone, names):
 
 def libraries(clone, names):
     os.chdir(clone)
-    # (a stamp is asked for by all that stand above it)
-    rtlib.Crate.stamp = functools.lru_cache(maxsize=None)(rtlib.Crate.stamp)
+    # (a stamp is asked for by all that stand above it, of which each has its own copy of the crate)
+    made, stamp = {}, rtlib.Crate.stamp
+    rtlib.Crate.stamp = lambda crate: made.get(crate.folder) or made.setdefault(crate.folder, stamp(crate))
     asked = below(clone, names)
     return [it for it in rtlib.crates_below(clone) if not it.is_program and it.name in asked]
 

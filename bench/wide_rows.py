@@ -44,18 +44,18 @@ def by_name(number, name, group=0xF003, most=4):
     return ask(number, group, 0, most, name)
 
 
-def row(said, *turns):
+def row(said, *turns, others=None):
     """A run of one client, connection 1, and of one beside it, 2: what each event is, and the frames that come of it."""
     events, out = [("open", 1)], []
     for event, *frames in turns:
         events.append(event if isinstance(event, tuple) else ("bytes", 1, event))
         conn = event[1] if isinstance(event, tuple) and event[0] == "bytes" else 1
         out += [it if isinstance(it, str) else f"out {conn} {it.hex()}" for it in frames]
-    came = model.play(PLANT, [], events, True)
+    came = model.play(PLANT, [], events, True, others)
     wanted = "".join(line + "\n" for line in out)
     if wanted != came.rsplit("\n", 2)[0] + "\n":
         raise SystemExit(f"the model of the protocol and a row differ: {said}\nwanted:\n{wanted}came:\n{came}")
-    return played_wide(said, [line for event in events for line in lines_of(event, "plant2.toml")], came)
+    return played_wide(said, [line for event in events for line in lines_of(event, "plant2.toml")], came, others)
 
 
 def beside(*frames):
@@ -84,6 +84,27 @@ def longer():
     yield row(
         "What stands behind the value is given to nobody who reads it, also where another machine wrote there.", first, (("open", 2),),
         (beside(write(1, 0x4040, 80, b"\xff" * 8)), done(1)), whole)
+
+
+def sums():
+    """Sums of reads whose results tell how many bytes each gave."""
+    first = (by_name(1, b"Main.title"), handled(1, 1))
+    heads = u32(0xF005) + u32(1) + u32(16) + u32(0xF005) + u32(99) + u32(4)
+    told = u32(0) + u32(8) + u32(0x710) + u32(0)
+    yield row("A sum of reads that tells their lengths: each result with the length of its data, and a refused part with none.", first,
+              (ask(2, 0xF084, 2, 36, heads), given(2, told + TITLE, 9)))
+    yield row("The other fills the data of each part with zeros to the asked length, that of a refused part too, and tells what was given.", first,
+              (ask(2, 0xF083, 2, 36, heads), given(2, told + TITLE + bytes(12), 9)))
+    yield row("Room for one byte less refuses the whole sum; so does data that is not as long as its heads, and more than 500 parts.", first,
+              (ask(2, 0xF083, 2, 35, heads), refused(2, 0x705, 9)), (ask(3, 0xF084, 2, 35, heads), refused(3, 0x705, 9)), (ask(4, 0xF083, 2, 1000, heads[:-1]), refused(4, 0x705, 9)),
+              (ask(5, 0xF084, 1, 1000, heads), refused(5, 0x705, 9)), (ask(6, 0xF084, 501, 0xFFFFFFFF, heads), refused(6, 0x706, 9)))
+    yield row("As a part of another sum neither is a group, nor is the one a part of the other.",
+              (ask(1, 0xF082, 2, 24, u32(0xF083) + u32(0) + u32(4) + u32(0) + u32(0xF084) + u32(0) + u32(4) + u32(0)), given(1, (u32(0x702) + u32(0)) * 2, 9)),
+              (ask(2, 0xF083, 1, 12, u32(0xF084) + u32(0) + u32(4)), given(2, u32(0x702) + u32(0) + bytes(4), 9)),
+              (read(3, 0xF083, 0, 4), refused(3, 0x702)), (write(4, 0xF084, 0, u32(1)), refused(4, 0x702, 3)))
+    yield row("No part; a part of no byte; and parts one behind the other.",
+              (ask(1, 0xF083, 0, 0, b""), given(1, b"", 9)), (ask(2, 0xF084, 1, 8, u32(0x4040) + u32(0) + u32(0)), given(2, u32(0) * 2, 9)),
+              (ask(3, 0xF084, 2, 22, u32(0x4040) + u32(0) + u32(4) + u32(0x4040) + u32(0) + u32(2)), given(3, u32(0) + u32(4) + u32(0) + u32(2) + u32(42) + u32(42)[:2], 9)))
 
 
 def alike():
@@ -125,4 +146,20 @@ def modes():
         yield row(f"Mode {mode} is none.", (add(1, 0x4040, 0, 4, mode), refused(1, 0x713, 6)))
 
 
-SUBJECTS = {"wide_longer": longer, "wide_alike": alike, "wide_reloads": reloads, "wide_names": names, "wide_modes": modes}
+STRANGER = "9.9.9.9.1.1"
+
+
+def others():
+    """A machine that no route of plant.toml names."""
+    reads = (read(1, 0x4040, 0, 4, source=STRANGER), reply(2, 1, u32(0) + u32(4) + u32(42), to=STRANGER))
+    writes = write(2, 0x4040, 0, u32(7), source=STRANGER)
+    barred = reply(3, 2, u32(0x704), to=STRANGER)
+    yield row("A machine without a route is shut out, where others have no right.", (read(1, 0x4040, 0, 4, source=STRANGER), "shut 1"))
+    yield row("Where others may read, it reads, and writes nothing.", reads, (writes, barred), (read(3, 0x4040, 0, 4), given(3, u32(42))), others="read")
+    yield row("Where others may write, it reads and writes, and controls nothing.", reads, (writes, reply(3, 2, u32(0), to=STRANGER)), (read(3, 0x4040, 0, 4), given(3, u32(7))),
+              (frame(5, 4, u16(6) + u16(0) + u32(0), source=STRANGER), reply(5, 4, u32(0x704), to=STRANGER)), others="write")
+    yield row("A machine with a route has the right of its route alone.", (write(2, 0x4040, 0, u32(1), source=OTHER), reply(3, 2, u32(0x704), to=OTHER)), others="write")
+    yield row("A reload leaves others their right.", (("reload", PLANT2), "reload ok 2"), (frame(4, 1, b"", source=STRANGER), reply(4, 1, u32(0) + u16(5) + u16(0), to=STRANGER)), (writes, barred), others="read")
+
+
+SUBJECTS = {"wide_longer": longer, "wide_sums": sums, "wide_alike": alike, "wide_reloads": reloads, "wide_names": names, "wide_modes": modes, "wide_others": others}

@@ -19,6 +19,8 @@ pub struct PlantJudge {
     pub store: Option<Text>,
     /// The body that stood in it.
     pub body: Octets,
+    /// Machines without a route may connect too.
+    pub lets_others_in: bool,
 }
 
 impl Judge for PlantJudge {
@@ -27,6 +29,10 @@ impl Judge for PlantJudge {
             Ok(Ok(description)) => nets_of(alloc, &description),
             Ok(Err(_)) | Err(NoMemory) => None,
         }
+    }
+
+    fn lets_others_in(&self) -> bool {
+        self.lets_others_in
     }
 
     fn unfit(&self, alloc: Global, bytes: &[u8]) -> ListOf<Octets> {

@@ -1,5 +1,8 @@
 //! The plant of a setup is served over the real outside.
 
+ghost use Rattle.std.specs.Prelude.{◌≡◌, option_map};
+ghost use Rattle.adsd_program.specs.Profiles.{manner_said, rights_said};
+
 use crate::kept_body::{first_body, net_in, standing_body};
 use crate::log_board::LogBoard;
 use crate::log_notes::LogNotes;
@@ -16,13 +19,15 @@ use daemon_log::{Chronicle, Noticeboard};
 use daemon_recordings::SqliteRecordings;
 use daemon_run::run_watched;
 use daemon_signals::{Played, SourceFault, Trouble, read_sources};
-use daemon_words::{IpNet, LogForm, ProfileWord, Setup};
+use daemon_words::{IpNet, LogForm, OthersWord, ProfileWord, Setup};
 use local_router::Routed;
-use port_device::Profile;
+use port_device::Manner;
 use real_disk::RealDisk;
 use run_tasks::{Status, end_without_memory, print_and_end};
+use server_core::Profile;
 use signals::Signal;
 use std::thread::Threads;
+use type_layout::Rights;
 use watched_wire::Watched;
 
 /// The log of a daemon over real sockets.
@@ -127,6 +132,9 @@ fn watched_of(
     if !stop.is_terminate_blocked() {
         log.warn("stop: SIGTERM is not blocked, it ends the process at once");
     }
+    if let Some(word) = setup.others {
+        log.lets_others_in(word.sentence());
+    }
     tell_store(rt, setup, files, &mut log)?;
     let wire = wire_of(rt, setup, files)?;
     Ok(Watched::new(wire, stop, log))
@@ -191,7 +199,7 @@ fn serve_signals<T: Threads + Sync, S: Sink>(
     Ok(run_watched(
         threads,
         rt.alloc(),
-        profile_of(setup.profile),
+        profile_of(setup),
         &setup.description,
         &setup.listen,
         &setup.store,
@@ -213,6 +221,7 @@ fn log_of(rt: &HostRuntime, setup: &Setup, board: &Noticeboard) -> Result<RealLo
         signals: setup.signals.len() as u32,
         store: copy_of_name(rt, &setup.store)?,
         body: body_at_start(rt, &setup.store)?,
+        lets_others_in: setup.others.is_some(),
     };
     let file = StatusFile::new(rt.alloc(), *rt, &setup.status)?;
     Ok(Chronicle::new(
@@ -282,10 +291,33 @@ fn nets_of(rt: &HostRuntime, nets: &[IpNet]) -> Result<Vec<AllowedNet>, NoMemory
     Ok(allowed)
 }
 
-fn profile_of(word: ProfileWord) -> Profile {
+// How requests are taken, and what machines without a route may do.
+fn profile_of(setup: &Setup) -> Profile
+    ensures manner { result.manner ≡ manner_said setup.now.profile }
+    ensures others { result.others ≡ option_map rights_said setup.now.others }
+{
+    Profile {
+        manner: manner_of(setup.profile),
+        others: others_of(setup.others),
+    }
+}
+
+fn manner_of(word: ProfileWord) -> Manner
+    ensures { result ≡ manner_said word }
+{
     match word {
-        ProfileWord::Wide => Profile::Wide,
-        ProfileWord::Strict => Profile::Strict,
+        ProfileWord::Wide => Manner::Wide,
+        ProfileWord::Strict => Manner::Strict,
+    }
+}
+
+fn others_of(word: Option<OthersWord>) -> Option<Rights>
+    ensures { result ≡ option_map rights_said word }
+{
+    match word {
+        Some(OthersWord::Read) => Some(Rights::Read),
+        Some(OthersWord::Write) => Some(Rights::Write),
+        None => None,
     }
 }
 

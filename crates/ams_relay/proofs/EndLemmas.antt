@@ -1,6 +1,6 @@
 -- A connection is closing, gone or opened.
 use Rattle.std.proofs.Common.{◌≡◌, ◌≢◌, ℕ, ◌+◌, List, [], ◌∷◌, ◌++◌, Bool, true, false, cond, refl, sym, ap, ◌∙◌, subst, inl, inr, arith}
-use Rattle.std.specs.Prelude.{Option, Some, None, option_map, IfSome, length, map, ◌==◌, ◌&&◌, filter}
+use Rattle.std.specs.Prelude.{Option, Some, None, option_map, is_some, IfSome, length, map, ◌==◌, ◌&&◌, filter}
 use Rattle.std.specs.Map.{keys_of, remove_entry}
 use Rattle.std.proofs.lemmas.Bool.{cases_Bool, cases_eq, true≢false, cond-true, cond-false}
 use Rattle.std.proofs.lemmas.List.{map-append, length-append}
@@ -24,13 +24,14 @@ use Rattle.ams_relay.specs.declared.peer.Peer.{Peer}
 use Rattle.ams_relay.specs.declared.router.Router.{Router}
 use Rattle.ams_relay.specs.Asking.{request_of, requests_of}
 use Rattle.ams_relay.specs.Counts.{counts_in}
-use Rattle.ams_relay.specs.Holds.{net_of, IsPeerOf, HoldsPeers, Owners, HoldsOwners, AreOwn, HoldsAsked, AreNamed, HoldsRequests, Holds}
+use Rattle.ams_relay.specs.Holds.{net_of, IsPeerOf, HoldsPeers, Owners, HoldsOwners, AreOwn, HoldsAsked, AreNamed, HoldsRequests, AreRouted, Holds}
 use Rattle.ams_relay.specs.Peers.{Peers, peer_in, Sets, IsFresh}
 use Rattle.ams_relay.specs.Taking.{DisownsIn, Disowns}
 use Rattle.ams_relay.specs.Touched.{OthersIdle}
-use Rattle.ams_relay.proofs.HoldLemmas.{peer_found, peer_absent, peers_changed, peers_absent, own_changed_list, named_changed, named_at, counts_changed}
+use Rattle.ams_relay.proofs.HoldLemmas.{peer_found, peer_absent, peers_changed, peers_absent}
+use Rattle.ams_relay.proofs.HoldLemmas.{own_changed_list, named_changed, named_at, counts_changed, routed_changed}
 use Rattle.ams_relay.proofs.ListLemmas.{filter-yes, filter-no}
-use Rattle.ams_relay.proofs.OwnerLemmas.{IsUnheard, some_same, owners_unheard, owners_ended, owners_disowned, owners_opened}
+use Rattle.ams_relay.proofs.OwnerLemmas.{IsUnheard, some_same, owners_unheard, owners_ended, owners_disowned, owners_opened, fresh_client}
 use Rattle.ams_relay.proofs.PeerLemmas.{closing_stands, fresh_stands}
 use Rattle.ams_relay.proofs.RequestLemmas.{Hearing, hearing, AreSame, same_narrower, heard_found, heard_none}
 use Rattle.ams_relay.proofs.RequestLemmas.{heard_there, heard_of_parts, deaf_closing, deaf_gone}
@@ -132,6 +133,7 @@ closes n b p old mid new s h was is_open sets routes owners counts d idle =
       named = named_at n with_closing s h.named;
       counts = ap (λ (r : Router). counts_in r.counts) d.same ∙ ap counts_in counts ∙ h.counts ∙ sym (counts_changed n with_closing number (λ k. refl) s);
       idle = subst (λ (r : Router). OthersIdle r.touched r.peers.entries) (sym d.same) idle;
+      routed = routed_changed n with_closing number (λ k. refl) s h.routed;
     }
 
 -- one that was closing, stays so
@@ -161,6 +163,7 @@ closed_absent n b r s h none =
       named = named_at n with_closing s h.named;
       counts = h.counts ∙ sym (counts_changed n with_closing number (λ k. refl) s);
       idle = h.idle;
+      routed = routed_changed n with_closing number (λ k. refl) s h.routed;
     }
 
 -- a connection is gone
@@ -226,6 +229,7 @@ ends n b p old new s h was is none others routes counts open_ closed idle =
       named = named_at n as_gone s h.named;
       counts = ap counts_in counts ∙ h.counts ∙ sym (counts_changed n as_gone number (λ k. refl) s);
       idle = idle;
+      routed = routed_changed n as_gone number (λ k. refl) s h.routed;
     }
 
 -- one that was not closing: what it owned is free
@@ -364,6 +368,19 @@ module _ (n : ℕ) (s : RelayState) (is_new : connection_of n s.connections ≡ 
         | inr t ↦ subst (AreNamed s.connections) (sym (filter-no _ r rs t)) (named_heard rs named.1)
       ]
 
+-- one more owns nothing
+routed_opened : (n : ℕ) (s : RelayState) → AreRouted s → AreRouted (with_fresh n s)
+routed_opened n s h m k net found owned = by (connection_of m s.connections) refl
+  where
+    at : (o : Option RelayConnection) → connection_of m s.connections ≡ o
+        → or_else o (connection_of m (fresh_connection None n ∷ [])) ≡ Some k
+    at o e = sym (connection_of-append m s.connections (fresh_connection None n ∷ [])
+        ∙ ap (λ x. or_else x (connection_of m (fresh_connection None n ∷ []))) e) ∙ found
+
+    by : (o : Option RelayConnection) → connection_of m s.connections ≡ o → is_some (rights_of net s.world.routes) ≡ true
+    by (Some j) e = h m j net e (ap (λ (x : RelayConnection). x.client) (some_same j k (at (Some j) e)) ∙ owned)
+    by None e = absurd (let no : ◌≡◌ {A = Option (List ℕ)} None (Some net) = sym (fresh_client n m k (at None e)) ∙ owned in cc)
+
 pub opens : (n : ℕ) (b : List ℕ) (p : Peer) (old new : Router) (s : RelayState) → Holds old b s
     → connection_of n s.connections ≡ None → IsFresh p → keys_of new.peers.entries ≡ keys_of old.peers.entries ++ n ∷ []
     → peer_in n new.peers.entries ≡ Some p → ((m : ℕ) → m ≢ n → peer_in m new.peers.entries ≡ peer_in m old.peers.entries)
@@ -380,6 +397,7 @@ opens n b p old new s h is_new fresh keys own others routes owners counts idle =
       (λ c e. was_none_append c s.connections (fresh_connection None n ∷ []) e) s.world.requests h.named;
   counts = ap counts_in counts ∙ counted;
   idle = idle;
+  routed = routed_opened n s h.routed;
 }
   where
     frames_more : (ks : List RelayConnection) → frames_in (ks ++ fresh_connection None n ∷ []) ≡ frames_in ks

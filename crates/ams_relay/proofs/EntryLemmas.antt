@@ -36,20 +36,19 @@ value_there (e ∷ es) n (suc i) at =
     cond-false (n == e.0) (Some e.1) (peer_in n es) (test_other n e.0 (λ same. at.first 0 0 (omega arith) (sym same)))
     ∙ value_there es n i (entry_behind e es n i at)
 
-place_at : (es : Peers) (n i : ℕ) → position (λ k. n == k) (keys_of es) ≡ Some i → IsPlace es n i
-place_at es n i e =
-    let at = found_at es n i e in
-    record {
-      within = at.within;
-      number = at.number;
-      first = at.first;
-      value = value_there es n i at;
-      sets = λ q. record { keys = keys_set es i q; others = λ m other. set_other es n i m q at other; own = set_own es n i q at };
-    }
+-- the entry of a number stands at its place
+pub place_of_entry : (es : Peers) (n i : ℕ) → IsEntry es n i → IsPlace es n i
+place_of_entry es n i at = record {
+  within = at.within;
+  number = at.number;
+  first = at.first;
+  value = value_there es n i at;
+  sets = λ q. record { keys = keys_set es i q; others = λ m other. set_other es n i m q at other; own = set_own es n i q at };
+}
 
 pub place_found : (o : Option ℕ) (es : Peers) (n : ℕ) → o ≡ position (λ k. n == k) (keys_of es) → IfSome o (IsPlace es n)
 place_found None es n e = tt
-place_found (Some i) es n e = place_at es n i (sym e)
+place_found (Some i) es n e = place_of_entry es n i (found_at es n i (sym e))
 
 pub none_of : {X : Type 0} (o : Option X) → is_some o ≡ false → o ≡ None
 none_of None e = refl

@@ -27,6 +27,7 @@ settled old new b s same idle h = subst (λ (r : Router). Holds r b s) (sym same
   named = h.named;
   counts = h.counts;
   idle = idle h.idle;
+  routed = h.routed;
 })
 
 pub settled_here : (old new : Router) → new ≡ record old { touched = new.touched } → AreHere old.peers.entries → AreHere new.peers.entries

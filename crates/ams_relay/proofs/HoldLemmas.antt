@@ -1,6 +1,6 @@
 -- What a router keeps stands for the state after a change of one connection.
 use Rattle.std.proofs.Common.{◌≡◌, ◌≢◌, ℕ, List, [], ◌∷◌, Bool, true, false, refl, sym, ap, ◌∙◌, subst, inl, inr}
-use Rattle.std.specs.Prelude.{Option, Some, None, option_map, IfSome, filter}
+use Rattle.std.specs.Prelude.{Option, Some, None, option_map, is_some, IfSome, filter}
 use Rattle.std.proofs.lemmas.Bool.{cases_Bool, cases_eq}
 use Rattle.ads_served.specs.Opened.{AreApart}
 use Rattle.spec_machine.specs.Connection.{connection_of}
@@ -10,17 +10,18 @@ use Rattle.spec_plant.specs.Rights.{rights_of}
 use Rattle.spec_relay.specs.RelayState.{Request, RelayWorld, RelayConnection, RelayState, is_heard, is_heard_among}
 use Rattle.spec_relay.specs.RelaySummary.{relay_summary_of}
 use Rattle.spec_relay.specs.Requests.{requests_heard, is_asked_by, with_requests_heard}
-use Rattle.spec_relay.specs.Routing.{at_connection}
+use Rattle.spec_machine.specs.Piece.{with_client}
+use Rattle.spec_relay.specs.Routing.{at_connection, with_owner}
 use Rattle.spec_relay.proofs.ChangeLemmas.{changed-own, changed-other, world-change}
 use Rattle.ams_relay.specs.declared.asked.Asked.{Asked}
 use Rattle.ams_relay.specs.declared.peer.Peer.{Peer}
 use Rattle.ams_relay.specs.declared.router.Router.{Router}
 use Rattle.ams_relay.specs.Asking.{requests_of}
 use Rattle.ams_relay.specs.Counts.{counts_in}
-use Rattle.ams_relay.specs.Holds.{Stands, IsPeerOf, HoldsPeers, AreOwn, HoldsAsked, AreNamed, HoldsRequests, HoldsOwners, Holds}
+use Rattle.ams_relay.specs.Holds.{Stands, IsPeerOf, HoldsPeers, AreOwn, HoldsAsked, AreNamed, HoldsRequests, HoldsOwners, AreRouted, Holds}
 use Rattle.ams_relay.specs.Peers.{Peers, peer_in, Sets}
 use Rattle.ams_relay.specs.Touched.{OthersIdle}
-use Rattle.ams_relay.proofs.OwnerLemmas.{some_same, before_change, owners_quiet, heard_quiet}
+use Rattle.ams_relay.proofs.OwnerLemmas.{some_same, before_change, before_number, owners_quiet, heard_quiet}
 use Rattle.ams_relay.proofs.RequestLemmas.{hearing, same_heard, same_dropped, heard_changed}
 use Rattle.ams_relay.proofs.ListLemmas.{filter-yes, filter-no}
 use Rattle.ams_relay.proofs.StateLemmas.{Stays, Quiet, numbers_in, changed-numbers, changed-apart, changed-frames, changed-length, changed-none}
@@ -256,6 +257,37 @@ counts_changed n f number taken s = λ i. record {
   unknown = count_of (world-change n f s i).unknown;
 }
 
+-- whoever owns a NetId has a route, after a change that leaves what is owned
+pub routed_changed : (n : ℕ) (f : RelayConnection → RelayConnection) → ((k : RelayConnection) → (f k).number ≡ k.number)
+    → ((k : RelayConnection) → (f k).client ≡ k.client) → (s : RelayState) → AreRouted s → AreRouted (at_connection n f s)
+routed_changed n f number client s h m k net found owned =
+    ap (λ (w : RelayWorld). is_some (rights_of net w.routes)) (world-change n f s) ∙ before
+  where
+    before : is_some (rights_of net s.world.routes) ≡ true
+    before = elim (cases_eq m n) [
+      | inl e ↦
+          let b = before_number n f number s k (ap (λ j. connection_of j (at_connection n f s).connections) (sym e) ∙ found) in
+          h n b.connection net b.found (sym (client b.connection) ∙ ap (λ (x : RelayConnection). x.client) b.is ∙ owned)
+      | inr ne ↦ h m k net (sym (changed-other n m f number (λ e. ne (sym e)) s) ∙ found) owned
+    ]
+
+-- or gives one with a route to a connection
+pub routed_owned : (n : ℕ) (net : List ℕ) (s : RelayState) → is_some (rights_of net s.world.routes) ≡ true → AreRouted s → AreRouted (with_owner n net s)
+routed_owned n net s has h m k other found owned =
+    ap (λ (w : RelayWorld). is_some (rights_of other w.routes)) (world-change n f s) ∙ before
+  where
+    f : RelayConnection → RelayConnection
+    f = with_client (Some net)
+
+    before : is_some (rights_of other s.world.routes) ≡ true
+    before = elim (cases_eq m n) [
+      | inl e ↦
+          let b = before_number n f (λ l. refl) s k (ap (λ j. connection_of j (at_connection n f s).connections) (sym e) ∙ found) in
+          let both : ◌≡◌ {A = Option (List ℕ)} (Some net) (Some other) = ap (λ (x : RelayConnection). x.client) b.is ∙ owned in
+          ap (λ x. is_some (rights_of x s.world.routes)) (sym (some_same net other both)) ∙ has
+      | inr ne ↦ h m k other (sym (changed-other n m f (λ l. refl) (λ e. ne (sym e)) s) ∙ found) owned
+    ]
+
 -- all of it, after a quiet change; whatever it takes is counted
 pub holds_counted : (n : ℕ) (f : RelayConnection → RelayConnection) (b c : List ℕ) (p q : Peer) (old new : Router) (s : RelayState)
     → Quiet f → Holds old b s → peer_in n old.peers.entries ≡ Some p
@@ -271,6 +303,7 @@ holds_counted n f b c p q old new s quiet h was sets routes owners counted follo
   named = named_at n f s h.named;
   counts = counted;
   idle = idle;
+  routed = routed_changed n f quiet.stays.number quiet.client s h.routed;
 }
 
 -- where it takes no frame
@@ -295,6 +328,7 @@ holds_absent n f b r s quiet taken h none = record {
   named = named_at n f s h.named;
   counts = h.counts ∙ sym (counts_changed n f quiet.stays.number taken s);
   idle = h.idle;
+  routed = routed_changed n f quiet.stays.number quiet.client s h.routed;
 }
 
 -- of a state the connections alone are looked at
@@ -321,6 +355,7 @@ holds_swept r b s h = record {
   named = named_filter s.connections _ s.world.requests h.named;
   counts = h.counts;
   idle = h.idle;
+  routed = h.routed;
 }
 
 -- one peer is another that stands for the same connection

@@ -94,6 +94,7 @@ writable_absent n b r s h none = record {
   named = h.named;
   counts = h.counts;
   idle = h.idle;
+  routed = h.routed;
 }
   where
     marks : (m : ℕ) → m ≢ n → (o : Option Peer) → IfSome o (λ q. q.blocked ≡ is_among m b) → IfSome o (λ q. q.blocked ≡ is_among m (writable_list n b))
@@ -255,13 +256,13 @@ given_closing n b packet p r s h was closing =
     cond-false k.gone k (produce (framed packet) k) (ap (λ (x : RelayConnection). x.gone) same ∙ at.there)
     ∙ produce-closing (framed packet) k (ap (λ (x : RelayConnection). x.closing) same ∙ sym at.stands.closing ∙ closing)) ∙ nothing n s)) h
 
-pub given_fitting : (n : ℕ) (b : List ℕ) (packet : List ℕ) (p q : Peer) (old new : Router) (s : RelayState)
+pub given_fitting : (n : ℕ) (b : List ℕ) (packet : List ℕ) (p q : Peer) (near : ℕ) (old new : Router) (s : RelayState)
     → Holds old b s → peer_in n old.peers.entries ≡ Some p → p.closing ≡ false
     → queued p.out + length (frame_bytes packet) ≤ 4194304 → 0 < length (frame_bytes packet)
-    → q ≡ record p { out = p.out ++ frame_bytes packet ∷ [] } → Sets n q old.peers.entries new.peers.entries
+    → q ≡ record p { out = p.out ++ frame_bytes packet ∷ []; near = near } → Sets n q old.peers.entries new.peers.entries
     → new.routes ≡ old.routes → new.owners.entries ≡ old.owners.entries → new.counts ≡ old.counts
     → OthersIdle new.touched new.peers.entries → Holds new b (given_to n packet s)
-given_fitting n b packet p q old new s h was is_open room some is sets routes owners counts idle =
+given_fitting n b packet p q near old new s h was is_open room some is sets routes owners counts idle =
     let at = peer_found old.peers.entries b s n p h.peers was in
     let k = at.connection in
     let produced : delivered (framed packet) k ≡ with_frame (framed packet) k =
@@ -270,7 +271,7 @@ given_fitting n b packet p q old new s h was is_open room some is sets routes ow
     subst (Holds new b) (sym (delivered_as n packet (with_frame (framed packet)) s (λ l e.
     let same = some_same l k (sym e ∙ at.found) in subst (λ x. delivered (framed packet) x ≡ with_frame (framed packet) x) (sym same) produced)))
     (holds_changed n (with_frame (framed packet)) b b p q old new s (frame_quiet packet) (λ l. refl) h was sets routes owners counts
-    (record { stands = λ l st. frame_stands p q (frame_bytes packet) l st is some; marked = λ e. ap (λ (x : Peer). x.blocked) is ∙ e })
+    (record { stands = λ l st. frame_stands p q (frame_bytes packet) near l st is some; marked = λ e. ap (λ (x : Peer). x.blocked) is ∙ e })
     (ap (λ (x : Peer). x.asked.items) is) (λ m ne. refl) idle)
 
 -- it does not fit, so that the connection is closing
@@ -310,6 +311,7 @@ holds_same b old new s routes peers owners counts touched h = record {
   named = h.named;
   counts = ap counts_in counts ∙ h.counts;
   idle = subst (λ es. OthersIdle new.touched es) (sym peers) (subst (λ t. OthersIdle t old.peers.entries) (sym touched) h.idle);
+  routed = h.routed;
 }
 
 -- a frame has bytes

@@ -18,11 +18,11 @@ use Rattle.ams_relay.specs.Counts.{counts_in}
 use Rattle.ams_relay.specs.Holds.{net_of, AreOwn, HoldsAsked, HoldsRequests, Holds, owner_in}
 use Rattle.ams_relay.specs.Peers.{Peers, peer_in, Sets}
 use Rattle.ams_relay.specs.Touched.{OthersIdle}
-use Rattle.ams_relay.specs.Taking.{IsHeardAt, number_of}
+use Rattle.ams_relay.specs.Taking.{IsHeardAt, OwnsAt, number_of}
 use Rattle.ams_relay.proofs.EntryLemmas.{none_of}
-use Rattle.ams_relay.proofs.HoldLemmas.{Kept, peer_kept, peers_changed, named_at, counts_changed, asked_kept}
-use Rattle.ams_relay.proofs.OwnerLemmas.{bytes_same, some_same, owner_is, owners_own}
-use Rattle.ams_relay.proofs.RequestLemmas.{hearing, AreSame, same_heard, heard_changed, heard_parts}
+use Rattle.ams_relay.proofs.HoldLemmas.{Kept, peer_found, peer_kept, peers_changed, named_at, counts_changed, asked_kept, routed_owned}
+use Rattle.ams_relay.proofs.OwnerLemmas.{bytes_same, bytes_refl, some_same, owner_is, owners_own}
+use Rattle.ams_relay.proofs.RequestLemmas.{hearing, AreSame, same_heard, heard_changed, heard_parts, heard_of_parts}
 use Rattle.ams_relay.proofs.StateLemmas.{Stays, changed-none, changed-nothing}
 
 client_stays : (net : List ℕ) → Stays (with_client (Some net))
@@ -44,6 +44,26 @@ pub owned_is : (c : ℕ) (b : List ℕ) (k : RelayConnection) (p : Peer) (r : Ro
 owned_is c b k p r s h heard was =
     let kept = heard_peer c b k r s h heard in
     ap (λ (x : Peer). net_of x.owned) (some_same p kept.peer (sym was ∙ kept.found)) ∙ kept.stands.owned
+
+-- a peer that is not closing and owns a NetId is its owner
+pub owner_there : (n : ℕ) (net : List ℕ) (b : List ℕ) (r : Router) (s : RelayState) → Holds r b s → OwnsAt n net r.peers.entries
+    → owner_in net r.owners.entries ≡ Some n
+owner_there n net b r s h o =
+    let at = peer_found r.peers.entries b s n o.peer h.peers o.found in
+    h.owners.owners net n (record {
+      connection = at.connection;
+      found = at.found;
+      heard = heard_of_parts at.connection (sym at.stands.closing ∙ o.owns.open_) at.there;
+      client = sym at.stands.owned ∙ o.owns.owned;
+    })
+
+-- the source is its own
+pub taken_own : (net : List ℕ) (k : RelayConnection) (ks : List RelayConnection) → k.client ≡ Some net → is_taken_net net k ks ≡ false
+taken_own net k ks e = by k.client e
+  where
+    by : (o : Owned) → o ≡ Some net → is_taken_net net (record k { client = o }) ks ≡ false
+    by None e = absurd (let no : ◌≡◌ {A = Option (List ℕ)} None (Some net) = e in cc)
+    by (Some x) e = ap (λ y. not (bytes_eq y net)) (some_same x net e) ∙ ap not (bytes_refl net)
 
 -- the source is another's
 pub taken_from_owned : (net : List ℕ) (owned : NetId) (k : RelayConnection) (ks : List RelayConnection)
@@ -124,12 +144,13 @@ requests_owned c net k p q old new s found heard nothing h was sets asked m x l 
 
 pub owns_now : (c : ℕ) (b : List ℕ) (net : NetId) (k : RelayConnection) (p : Peer) (old new : Router) (s : RelayState)
     → Holds old b s → IsHeardAt c k s → peer_in c old.peers.entries ≡ Some p → p.owned ≡ None
-    → is_taken_net net.bytes k s.connections ≡ false → Sets c (record p { owned = Some net }) old.peers.entries new.peers.entries
+    → is_taken_net net.bytes k s.connections ≡ false → is_some (rights_of net.bytes s.world.routes) ≡ true
+    → Sets c (record p { owned = Some net }) old.peers.entries new.peers.entries
     → new.routes ≡ old.routes → new.counts ≡ old.counts
     → owner_in net.bytes new.owners.entries ≡ Some c
     → ((other : List ℕ) → other ≢ net.bytes → owner_in other new.owners.entries ≡ owner_in other old.owners.entries)
     → OthersIdle new.touched new.peers.entries → Holds new b (with_owner c net.bytes s)
-owns_now c b net k p old new s h heard was own free sets routes counts now others idle =
+owns_now c b net k p old new s h heard was own free has sets routes counts now others idle =
     let f = with_client (Some net.bytes) in
     let nothing : k.client ≡ None = sym (sym (ap net_of own) ∙ owned_is c b k p old s h heard was) in
     let nobody : owner_of net.bytes s.connections ≡ None =
@@ -150,4 +171,5 @@ owns_now c b net k p old new s h heard was own free sets routes counts now other
       named = named_at c f s h.named;
       counts = ap counts_in counts ∙ h.counts ∙ sym (counts_changed c f (λ l. refl) (λ l. refl) s);
       idle = idle;
+      routed = routed_owned c net.bytes s has h.routed;
     }

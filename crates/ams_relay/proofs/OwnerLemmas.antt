@@ -37,19 +37,24 @@ pub record Before (n : ℕ) (f : RelayConnection → RelayConnection) (k : Relay
   pub found : connection_of n ks ≡ Some connection
   pub is : f connection ≡ k
 
-pub before_change : (n : ℕ) (f : RelayConnection → RelayConnection) → Stays f
+pub before_number : (n : ℕ) (f : RelayConnection → RelayConnection) → ((k : RelayConnection) → (f k).number ≡ k.number)
     → (s : RelayState) (k : RelayConnection) → connection_of n (at_connection n f s).connections ≡ Some k
     → Before n f k s.connections
-before_change n f stays s k e = go (connection_of n s.connections) refl
+before_number n f number s k e = go (connection_of n s.connections) refl
   where
     go : (o : Option RelayConnection) → connection_of n s.connections ≡ o → Before n f k s.connections
-    go None none = absurd (let no : ◌≡◌ {A = Option RelayConnection} None (Some k) = sym (changed-own n f stays.number s ∙ ap (option_map f) none) ∙ e in cc)
+    go None none = absurd (let no : ◌≡◌ {A = Option RelayConnection} None (Some k) = sym (changed-own n f number s ∙ ap (option_map f) none) ∙ e in cc)
     go (Some j) some = record {
       connection = j;
       found = some;
-      is = (let both : ◌≡◌ {A = Option RelayConnection} (Some (f j)) (Some k) = sym (changed-own n f stays.number s ∙ ap (option_map f) some) ∙ e in
+      is = (let both : ◌≡◌ {A = Option RelayConnection} (Some (f j)) (Some k) = sym (changed-own n f number s ∙ ap (option_map f) some) ∙ e in
           some_same (f j) k both);
     }
+
+pub before_change : (n : ℕ) (f : RelayConnection → RelayConnection) → Stays f
+    → (s : RelayState) (k : RelayConnection) → connection_of n (at_connection n f s).connections ≡ Some k
+    → Before n f k s.connections
+before_change n f stays s k e = before_number n f stays.number s k e
 
 -- an owner with another number stays one
 pub owner_forth : (n m : ℕ) (f : RelayConnection → RelayConnection) → Stays f → n ≢ m
@@ -257,6 +262,17 @@ owners_own os ps own n k l ks ls free now same others found then_ heard client n
           same net other ∙ there
     ]
 
+-- a connection that is opened owns nothing
+pub fresh_client : (n m : ℕ) (k : RelayConnection) → connection_of m (fresh_connection None n ∷ []) ≡ Some k → k.client ≡ None
+unfolding connection_of
+fresh_client n m k e = elim (cases_eq n m) [
+  | inl q ↦ let both : ◌≡◌ {A = Option RelayConnection} (Some (fresh_connection None n)) (Some k) =
+      sym (cond-true (n == m) (Some (fresh_connection None n)) None (test_same n m q)) ∙ e in
+      sym (ap (λ (x : RelayConnection). x.client) (some_same (fresh_connection None n) k both))
+  | inr q ↦ absurd (let no : ◌≡◌ {A = Option RelayConnection} None (Some k) = sym
+      (cond-false (n == m) (Some (fresh_connection None n)) None (test_other n m q)) ∙ e in cc)
+]
+
 -- a connection is opened
 pub owners_opened : (os : Owners) (n : ℕ) (ks : List RelayConnection) → connection_of n ks ≡ None
     → HoldsOwners os ks → HoldsOwners os (ks ++ fresh_connection None n ∷ [])
@@ -271,15 +287,6 @@ owners_opened os n ks new h = record {
   owners = λ net m o. back net m o (connection_of m ks) refl;
 }
   where
-    one : (m : ℕ) (k : RelayConnection) → connection_of m (fresh_connection None n ∷ []) ≡ Some k → k.client ≡ None
-    one m k e = elim (cases_eq n m) [
-      | inl q ↦ let both : ◌≡◌ {A = Option RelayConnection} (Some (fresh_connection None n)) (Some k) =
-          sym (cond-true (n == m) (Some (fresh_connection None n)) None (test_same n m q)) ∙ e in
-          sym (ap (λ (x : RelayConnection). x.client) (some_same (fresh_connection None n) k both))
-      | inr q ↦ absurd (let no : ◌≡◌ {A = Option RelayConnection} None (Some k) = sym
-          (cond-false (n == m) (Some (fresh_connection None n)) None (test_other n m q)) ∙ e in cc)
-    ]
-
     back : (net : List ℕ) (m : ℕ) → IsOwner net m (ks ++ fresh_connection None n ∷ [])
         → (x : Option RelayConnection) → connection_of m ks ≡ x → owner_in net os ≡ Some m
     back net m o (Some k) e =
@@ -289,7 +296,7 @@ owners_opened os n ks new h = record {
     back net m o None e =
         let at = sym (connection_of-append m ks (fresh_connection None n ∷ []) ∙ ap (λ x. or_else x (connection_of m (fresh_connection None n ∷ []))) e)
         ∙ o.found in
-        absurd (let no : ◌≡◌ {A = Option (List ℕ)} None (Some net) = sym (one m o.connection at) ∙ o.client in cc)
+        absurd (let no : ◌≡◌ {A = Option (List ℕ)} None (Some net) = sym (fresh_client n m o.connection at) ∙ o.client in cc)
 
 -- the owner that the machine finds
 owns_net : (net : List ℕ) (client : Owned) → owns net client ≡ true → client ≡ Some net

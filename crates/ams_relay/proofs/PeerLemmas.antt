@@ -104,9 +104,9 @@ pub fits_over : (p : Peer) (frame : List ℕ) (k : RelayConnection) → Stands p
 fits_over p frame k s over = let bytes = queued_bytes p k s in lt-leb (queued_of k + length frame) 4194304 (omega (arith, bytes, over))
 
 -- a frame waits behind the others
-pub frame_stands : (p q : Peer) (frame : List ℕ) (k : RelayConnection) → Stands p k
-    → q ≡ record p { out = p.out ++ frame ∷ [] } → 0 < length frame → Stands q (with_frame (Reply frame) k)
-frame_stands p q frame k s is some =
+pub frame_stands : (p q : Peer) (frame : List ℕ) (near : ℕ) (k : RelayConnection) → Stands p k
+    → q ≡ record p { out = p.out ++ frame ∷ []; near = near } → 0 < length frame → Stands q (with_frame (Reply frame) k)
+frame_stands p q frame near k s is some =
     let given : length (joined (map bytes_of k.produced)) ≡ length (bytes_of_all k.produced) = ap (λ (bs : List ℕ). length bs) (joined_bytes k.produced) in
     let all = ap (λ (bs : List ℕ). length bs) (flat_map-append bytes_of k.produced (Reply frame ∷ []))
     ∙ length-append (bytes_of_all k.produced) (bytes_of_all (Reply frame ∷ [])) in

@@ -313,6 +313,7 @@ remembers old mid b s c d k head p q left a h swept heard opened client asks was
       named = named_after s swept c d k heard head opened h.named;
       counts = ap counts_in counts ∙ h.counts;
       idle = idle;
+      routed = h.routed;
     })
   where
     after : RelayState

@@ -224,5 +224,6 @@ module _ (r : Router) (b : List ℕ) (s : RelayState) (h : Holds r b s) (swept :
             named = named_without s.world.requests h.named;
             counts = ap counts_in counts ∙ h.counts;
             idle = idle;
+            routed = h.routed;
           };
         }

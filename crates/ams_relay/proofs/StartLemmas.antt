@@ -25,4 +25,5 @@ starts r d routes peers owners counts = record {
   named = tt;
   counts = ap counts_in counts;
   idle = subst (λ es. OthersIdle r.touched es) (sym peers) (λ n e. refl);
+  routed = λ n k net found owned. absurd (let no : None ≡ Some k = found in cc);
 }

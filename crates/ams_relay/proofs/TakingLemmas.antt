@@ -268,6 +268,7 @@ stream_kept c b p o old new s h was sets routes owners counts touched stream =
       named = h.named;
       counts = ap counts_in counts ∙ h.counts;
       idle = idle_stream c p o old new was sets touched h.idle;
+      routed = h.routed;
     }
 
 -- the stream is lent

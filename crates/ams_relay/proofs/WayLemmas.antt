@@ -39,6 +39,7 @@ passed_counted old new b s same counts h = subst (λ (r : Router). Holds r b (wi
   named = h.named;
   counts = ap counts_in counts ∙ counted;
   idle = h.idle;
+  routed = h.routed;
 })
   where
     more : count_of (old.counts.passed + 1) ≡ count_of (s.world.passed + 1)
@@ -58,6 +59,7 @@ unknown_counted old new b s same counts h = subst (λ (r : Router). Holds r b (w
   named = h.named;
   counts = ap counts_in counts ∙ counted;
   idle = h.idle;
+  routed = h.routed;
 })
   where
     more : count_of (old.counts.unknown + 1) ≡ count_of (s.world.unknown + 1)
@@ -264,6 +266,29 @@ closed_else payload head k s e = by (not (head.len == length payload)) (not (is_
     by true y e = absurd (true≢false e)
     by false true e = absurd (true≢false e)
     by false false e = refl
+
+-- the sender owns its source, so it has a route
+pub closed_owned : (payload : List ℕ) (head : AmsHeader) (k : RelayConnection) (s : RelayState)
+    → is_taken_net head.source.net k s.connections ≡ false → is_some (rights_of head.source.net s.world.routes) ≡ true
+    → not (head.len == length payload) ≡ is_closed_by payload head k s
+closed_owned payload head k s own has =
+    by (not (head.len == length payload)) (is_some (rights_of head.source.net s.world.routes)) (is_taken_net head.source.net k s.connections) has own
+  where
+    by : (x y t : Bool) → y ≡ true → t ≡ false → x ≡ cond x true (cond (not y) true t)
+    by true y t e q = refl
+    by false true false e q = refl
+    by false true true e q = absurd (true≢false q)
+    by false false t e q = absurd (true≢false (sym e))
+
+-- a packet that is closed by none of the checks has a source with a route
+pub has_route : (payload : List ℕ) (head : AmsHeader) (k : RelayConnection) (s : RelayState)
+    → is_closed_by payload head k s ≡ false → is_some (rights_of head.source.net s.world.routes) ≡ true
+has_route payload head k s e = by (not (head.len == length payload)) (is_some (rights_of head.source.net s.world.routes)) e
+  where
+    by : (x y : Bool) → cond x true (cond (not y) true (is_taken_net head.source.net k s.connections)) ≡ false → y ≡ true
+    by true y q = absurd (true≢false q)
+    by false true q = refl
+    by false false q = absurd (true≢false q)
 
 -- a packet that is closed by none of the checks has a source that is no other's
 pub not_taken : (payload : List ℕ) (head : AmsHeader) (k : RelayConnection) (s : RelayState)

@@ -1,7 +1,7 @@
 -- What a router keeps stands for a state of the relay's machine, with the connections that are blocked.
 -- No public clause cites this file but through Relays.
 use Rattle.std.specs.Prelude.{◌≡◌, ℕ, ◌≤◌, List, [], ◌∷◌, length, map, filter, true, false, IfSome, option_map}
-use Rattle.std.specs.Prelude.{Option, Some, None, bytes_eq}
+use Rattle.std.specs.Prelude.{Option, Some, None, is_some, bytes_eq}
 use Rattle.std.specs.Map.{keys_of, lookup}
 use Rattle.std.specs.Global.{Vec}
 use Rattle.ads_base.specs.declared.net_id.NetId.{NetId}
@@ -105,6 +105,11 @@ abbrev pub HoldsRequests : Peers → RelayState → Type 0
 HoldsRequests es s = (n : ℕ) (p : Peer) (k : RelayConnection) → peer_in n es ≡ Some p → connection_of n s.connections ≡ Some k
     → is_heard k ≡ true → HoldsAsked p.asked.items n k s
 
+-- whoever owns a NetId has a route
+abbrev pub AreRouted : RelayState → Type 0
+AreRouted s = (n : ℕ) (k : RelayConnection) (net : List ℕ) → connection_of n s.connections ≡ Some k → k.client ≡ Some net
+    → is_some (rights_of net s.world.routes) ≡ true
+
 pub record Holds (r : Router) (blocked : List ℕ) (s : RelayState) : Type 0 where
   pub routes : (net : List ℕ) → rights_of net r.routes ≡ rights_of net s.world.routes
   pub peers : HoldsPeers r.peers.entries blocked s
@@ -113,3 +118,4 @@ pub record Holds (r : Router) (blocked : List ℕ) (s : RelayState) : Type 0 whe
   pub named : AreNamed s.connections s.world.requests
   pub counts : counts_in r.counts ≡ relay_summary_of s
   pub idle : OthersIdle r.touched r.peers.entries
+  pub routed : AreRouted s

@@ -13,7 +13,7 @@ use Rattle.spec_relay.specs.RelayMoves.{after_frames}
 use Rattle.ams_relay.specs.declared.asked.Asked.{Asked}
 use Rattle.ams_relay.specs.declared.peer.Peer.{Peer}
 use Rattle.ams_relay.specs.declared.router.Router.{Router}
-use Rattle.ams_relay.specs.Holds.{Owners, owner_in, IsStreamOf, Holds}
+use Rattle.ams_relay.specs.Holds.{Owners, owner_in, IsStreamOf, Holds, net_of}
 use Rattle.ams_relay.specs.Peers.{Peers, peer_in, read_in, is_lent_in}
 
 -- a connection is there and not closing
@@ -27,6 +27,17 @@ IsOpenedAt c s = connection_of c s.connections ≡ None → ⊥
 
 abbrev pub number_of : RelayConnection → ℕ
 number_of k = k.number
+
+-- a peer is not closing, and owns a NetId
+pub record OwnsPeer (net : List ℕ) (p : Peer) : Type 0 where
+  pub open_ : p.closing ≡ false
+  pub owned : net_of p.owned ≡ Some net
+
+-- the peer of this number does
+pub record OwnsAt (n : ℕ) (net : List ℕ) (es : Peers) : Type 0 where
+  pub peer : Peer
+  pub found : peer_in n es ≡ Some peer
+  pub owns : OwnsPeer net peer
 
 -- the requests of connections that are closing or gone are dropped
 abbrev pub IsSwept : RelayState → Type 0

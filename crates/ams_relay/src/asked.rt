@@ -38,7 +38,7 @@ impl Asked {
 fn is_same(a: &AmsAddr, b: &AmsAddr) -> bool
     ensures { result ≡ is_same_address (address_of a.now) (address_of b.now) }
 {
-    a.net.bytes.as_slice() == b.net.bytes.as_slice() && a.port == b.port
+    a.net.is(b.net) && a.port == b.port
 }
 
 /// What is remembered of a frame that goes to a connection.

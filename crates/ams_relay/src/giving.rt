@@ -10,23 +10,24 @@ ghost use Rattle.ams_relay.specs.Holds.{Holds};
 ghost use Rattle.ams_relay.specs.Taking.{KeepsStreams};
 
 use crate::router::Router;
-use ads_base::{NoMemory, Octets};
+use ads_base::NoMemory;
 use ams_header::{Header, answer_of, put};
-use ams_tcp::put_frame;
 use out_queue::Pushed;
 use return_codes::Code;
 use std::alloc::Global;
-use std::mem;
 
 // The command of a notification.
 pub(crate) const DEVICE_NOTIFICATION: u16 = 8;
 
 impl Router {
-    /// The frame of a packet is given to a connection; one that has no room for it is closing. Whether it had.
+    /// The frame of a packet is given to a connection; one that has no room for it is closing. Whether it had. It is looked
+    /// for at the place `near` first, and the frame is from a connection that stood at the place `from`.
     pub(crate) fn give(
         &mut self,
         alloc: Global,
         number: u32,
+        near: usize,
+        from: usize,
         packet: &[u8],
     ) -> Result<bool, NoMemory>
         requires { IsAmsPacket packet.now }
@@ -34,34 +35,31 @@ impl Router {
             → (fitted ≡ has_room (framed packet.now) (connection_of number s.connections)) × Holds self.new b (given_to number packet.now s)) }
         ensures streams { KeepsStreams self.old.peers.entries self.new.peers.entries }
     {
-        let Some(i) = self.place_of(number) else {
+        let Some(i) = self.place_near(near, number) else {
             return Ok(false);
         };
         if self.peers[i].closing {
             return Ok(false);
         }
-        let mut frame = mem::replace(&mut self.frame, Octets::new(alloc));
-        frame.cut(0);
-        put_frame(alloc, packet, &mut frame)?;
-        match self.peers[i].out.push(alloc, frame.as_slice())? {
+        match self.peers[i].push(alloc, from, packet)? {
             Pushed::Done => {
-                self.frame = frame;
                 self.touched = self.touched.with(number);
                 Ok(true)
             }
             Pushed::Over => {
-                self.frame = frame;
                 self.close(number);
                 Ok(false)
             }
         }
     }
 
-    /// The target of a frame was not found: its sender is told so, where it has room; a notification is not answered.
+    /// The target of a frame was not found: its sender, which stood at a place, is told so, where it has room; a notification
+    /// is not answered.
     pub(crate) fn tell_unknown(
         &mut self,
         alloc: Global,
         number: u32,
+        at: usize,
         h: &Header,
     ) -> Result<(), NoMemory>
         ensures follows { OnOk result ((b : List ℕ) (s : RelayState) → Holds self.old b s
@@ -73,7 +71,7 @@ impl Router {
             return Ok(());
         }
         let packet = not_found(h);
-        let _ = self.give(alloc, number, packet.as_slice())?;
+        let _ = self.give(alloc, number, at, at, packet.as_slice())?;
         Ok(())
     }
 }

@@ -1,16 +1,18 @@
 //! One connection that is there.
 
-ghost use Rattle.std.specs.Prelude.{◌≡◌, ◌≤◌, length, nat_lt, IfOk, IfSome, option_copied, option_map};
+ghost use Rattle.std.specs.Prelude.{◌≡◌, ◌+◌, ◌<◌, ◌≤◌, ◌↔◌, [], ◌∷◌, ◌++◌, length, nat_lt, Ok, IfOk, IfSome, IsTrue, OnErr, option_copied, option_map};
 ghost use Rattle.std.specs.List.{concat};
-ghost use Rattle.out_queue.specs.Queue.{QUEUE_LIMIT, frames_after};
+ghost use Rattle.spec_frames.specs.Frame.{IsAmsPacket, header_bytes, frame_bytes};
+ghost use Rattle.out_queue.specs.Queue.{QUEUE_LIMIT, queued, frames_after};
 ghost use Rattle.ams_relay.specs.Peers.{IsFresh, is_offered, run_of_peer};
 ghost use Rattle.spec_connections.specs.Offering.{FitsFirst, first_left};
 ghost use Rattle.ams_relay.specs.Touched.{is_due_peer};
+ghost use Rattle.ams_relay.specs.Taking.{OwnsPeer};
 
 use crate::asked::Asked;
 use ads_base::{NetId, NoMemory};
 use ams_tcp::Splitter;
-use out_queue::OutQueue;
+use out_queue::{OutQueue, Pushed};
 use std::alloc::Global;
 use std::collections::VecDeque;
 
@@ -26,6 +28,8 @@ pub(crate) struct Peer {
     pub(crate) closing: bool,
     // Its last offer was not taken whole, and it was not writable since.
     pub(crate) blocked: bool,
+    // Where the connection stood that gave it a frame last; mostly its next frame goes there. No clause speaks of it.
+    pub(crate) near: usize,
 }
 
 impl Peer {
@@ -40,7 +44,33 @@ impl Peer {
             asked: VecDeque::new(alloc),
             closing: false,
             blocked: false,
+            near: 0,
         })
+    }
+
+    /// The frame of a packet waits behind the others, if it has room. It is from a connection that stood at a place.
+    pub(crate) fn push(
+        &mut self,
+        alloc: Global,
+        from: usize,
+        packet: &[u8],
+    ) -> Result<Pushed, NoMemory>
+        requires { IsAmsPacket packet.now }
+        ensures over { IfOk result (λ pushed. (pushed ≡ Pushed.Over)
+            ↔ (QUEUE_LIMIT < queued self.old.out + length (frame_bytes packet.now))) }
+        ensures done { result ≡ Ok Pushed.Done
+            → self.new ≡ record self.old { out = self.old.out ++ frame_bytes packet.now ∷ []; near = from } }
+        ensures unchanged { result ≡ Ok Pushed.Over → self.new ≡ self.old }
+        ensures no_memory { OnErr result (self.new ≡ self.old) }
+    {
+        let header = frame_header(packet);
+        match self.out.push_parts(alloc, &header, packet)? {
+            Pushed::Done => {
+                self.near = from;
+                Ok(Pushed::Done)
+            }
+            Pushed::Over => Ok(Pushed::Over),
+        }
     }
 
     /// Bytes of the first frame that waits were taken.
@@ -67,6 +97,19 @@ impl Peer {
         self.out.run()
     }
 
+    /// Whether it is not closing and owns a NetId.
+    pub(crate) fn is_owner(&self, net: NetId) -> bool
+        ensures { IsTrue result → OwnsPeer net.bytes self.now }
+    {
+        if self.closing {
+            return false;
+        }
+        match self.owned {
+            Some(owned) => owned.is(net),
+            None => false,
+        }
+    }
+
     /// Whether something is offered, or the connection is to be shut.
     pub(crate) fn is_due(&self) -> bool
         ensures { result ≡ is_due_peer self.now }
@@ -80,4 +123,13 @@ impl Peer {
     {
         !self.blocked && self.out.front().is_some()
     }
+}
+
+// What stands before an AMS packet.
+fn frame_header(packet: &[u8]) -> [u8; 6]
+    requires { IsAmsPacket packet.now }
+    ensures { result ≡ header_bytes packet.now }
+{
+    let len = (packet.len() as u32).to_le_bytes();
+    [0, 0, len[0], len[1], len[2], len[3]]
 }

@@ -26,25 +26,26 @@ use std::collections::VecDeque;
 const MAX_REQUESTS: usize = 4096;
 
 impl Router {
-    /// The oldest request that a response of a connection answers waits no more: its asker.
-    pub(crate) fn spend(&mut self, conn: u32, h: &Header) -> Option<u32>
+    /// The oldest request that a response of a connection answers waits no more: its asker, which is looked for at a place
+    /// first.
+    pub(crate) fn spend(&mut self, conn: u32, near: usize, h: &Header) -> Option<u32>
         ensures spends { (b : List ℕ) (s : RelayState) (k : RelayConnection) → Holds self.old b s → IsHeardAt conn k s → IsSwept s
             → Spends result conn (ams_header_of h.now) self.new b s }
         ensures streams { KeepsStreams self.old.peers.entries self.new.peers.entries }
     {
-        let Some(asker) = self.owner_of(h.target.net) else {
+        let Some(asker) = self.owner_near(near, h.target.net) else {
             return None;
         };
-        self.spend_of(asker, conn, h)
+        self.spend_of(asker, near, conn, h)
     }
 
     // The same, of the owner of its target.
-    fn spend_of(&mut self, asker: u32, conn: u32, h: &Header) -> Option<u32>
+    fn spend_of(&mut self, asker: u32, near: usize, conn: u32, h: &Header) -> Option<u32>
         ensures spends { (b : List ℕ) (s : RelayState) (k : RelayConnection) → Holds self.old b s → IsHeardAt conn k s → IsSwept s
             → owner_in h.now.target.net.bytes self.old.owners.entries ≡ Some asker → Spends result conn (ams_header_of h.now) self.new b s }
         ensures streams { KeepsStreams self.old.peers.entries self.new.peers.entries }
     {
-        let Some(i) = self.place_of(asker) else {
+        let Some(i) = self.place_near(near, asker) else {
             return None;
         };
         self.spend_at(i, asker, conn, h)
@@ -64,11 +65,13 @@ impl Router {
         Some(asker)
     }
 
-    /// A request that was passed on waits for its response; a notification for none. Of one asker the last 4,096 wait.
+    /// A request that was passed on waits for its response; a notification for none. Of one asker, which stood at a place,
+    /// the last 4,096 wait.
     pub(crate) fn remember(
         &mut self,
         alloc: Global,
         conn: u32,
+        at: usize,
         target: u32,
         h: &Header,
     ) -> Result<(), NoMemory>
@@ -79,7 +82,7 @@ impl Router {
         if h.command == DEVICE_NOTIFICATION {
             return Ok(());
         }
-        let Some(i) = self.place_of(conn) else {
+        let Some(i) = self.place_near(at, conn) else {
             return Ok(());
         };
         self.remember_at(alloc, i, conn, target, h)

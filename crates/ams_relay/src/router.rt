@@ -1,6 +1,6 @@
 //! The relay, and all that it keeps.
 
-ghost use Rattle.std.specs.Prelude.{◌≡◌, [], IfOk, IfSome, IfNone, None};
+ghost use Rattle.std.specs.Prelude.{◌≡◌, [], IfOk, IfSome, IfNone, IsTrue, None, slice_get, option_map};
 ghost use Rattle.type_layout.specs.Descriptions.{description_of};
 ghost use Rattle.spec_relay.specs.RelayState.{relay_start};
 ghost use Rattle.spec_relay.specs.RelaySummary.{relay_summary_of};
@@ -11,7 +11,7 @@ ghost use Rattle.ams_relay.specs.Relays.{RelayStanding, StandsAt, standing_at_st
 use crate::RelaySummary;
 use crate::peer::Peer;
 use crate::touched::Touched;
-use ads_base::{NoMemory, Octets};
+use ads_base::NoMemory;
 use indexmap::IndexMap;
 use net_routes::Routes;
 use std::alloc::Global;
@@ -28,8 +28,6 @@ pub(crate) struct Router {
     pub(crate) counts: RelaySummary,
     /// Who may have something to be offered, or is to be shut.
     pub(crate) touched: Touched,
-    /// The room of the frame that was given last, for the next one.
-    pub(crate) frame: Octets,
 }
 
 impl Router {
@@ -47,7 +45,6 @@ impl Router {
             owners: IndexMap::new(alloc),
             counts: RelaySummary::nothing(),
             touched: Touched::Nothing,
-            frame: Octets::new(alloc),
         }
     }
 
@@ -56,7 +53,39 @@ impl Router {
         ensures found { IfSome result (IsPlace self.now.peers.entries number) }
         ensures absent { IfNone result (peer_in number self.now.peers.entries ≡ None) }
     {
+        // Numbers count from 1 in the order of opening, so it stands there where none before it is gone.
+        self.place_near(number.saturating_sub(1) as usize, number)
+    }
+
+    /// The same. It is looked for at a place first, where it mostly stands; so its number is not looked up.
+    pub(crate) fn place_near(&self, near: usize, number: u32) -> Option<usize>
+        ensures found { IfSome result (IsPlace self.now.peers.entries number) }
+        ensures absent { IfNone result (peer_in number self.now.peers.entries ≡ None) }
+    {
+        if self.is_at(near, number) {
+            return Some(near);
+        }
         self.peers.get_index_of(&number)
+    }
+
+    // Whether the connection of a number stands at a place.
+    fn is_at(&self, i: usize, number: u32) -> bool
+        ensures { IsTrue result → IsPlace self.now.peers.entries number i }
+    {
+        if i >= self.peers.len() {
+            return false;
+        }
+        match self.number_at(i) {
+            Some(there) => there == number,
+            None => false,
+        }
+    }
+
+    // The number of the connection at a place; None past the last.
+    fn number_at(&self, i: usize) -> Option<u32>
+        ensures { result ≡ option_map (λ e. e.0) (slice_get self.now.peers.entries i) }
+    {
+        Some(*self.peers.get_index(i)?.0)
     }
 }
 

@@ -17,8 +17,14 @@ use ams_header::{Header, read};
 use std::alloc::Global;
 
 impl Router {
-    /// A packet of a connection, which is there and not closing, goes its way.
-    pub(crate) fn pass(&mut self, alloc: Global, conn: u32, packet: &[u8]) -> Result<(), NoMemory>
+    /// A packet of a connection, which is there and not closing, goes its way. The connection stands at a place.
+    pub(crate) fn pass(
+        &mut self,
+        alloc: Global,
+        conn: u32,
+        at: usize,
+        packet: &[u8],
+    ) -> Result<(), NoMemory>
         requires { IsAmsPacket packet.now }
         ensures follows { OnOk result ((b : List ℕ) (s : RelayState) (k : RelayConnection) → Holds self.old b s → IsHeardAt conn k s → IsSwept s
             → Holds self.new b (after_header conn packet.now k s (header_of packet.now))) }
@@ -27,27 +33,31 @@ impl Router {
         let Some((h, payload)) = read(packet) else {
             return Ok(());
         };
-        if self.is_closed_by(conn, &h, payload) {
+        if self.is_closed_by(conn, at, &h, payload) {
             self.close(conn);
             return Ok(());
         }
-        self.own(alloc, conn, h.source.net)?;
+        self.own(alloc, conn, at, h.source.net)?;
         if is_response(&h) {
-            self.pass_response(alloc, conn, &h, packet)
+            self.pass_response(alloc, conn, at, &h, packet)
         } else {
-            self.pass_request(alloc, conn, &h, packet)
+            self.pass_request(alloc, conn, at, &h, packet)
         }
     }
 
     // The first three checks: the data length, the route of the source, and its owner.
-    fn is_closed_by(&self, conn: u32, h: &Header, payload: &[u8]) -> bool
+    fn is_closed_by(&self, conn: u32, at: usize, h: &Header, payload: &[u8]) -> bool
         ensures { (b : List ℕ) (s : RelayState) (k : RelayConnection) → Holds self.now b s → IsHeardAt conn k s
             → result ≡ is_closed_by payload.now (ams_header_of h.now) k s }
     {
+        // Whoever owns a NetId has a route, which a relay never loses; so routes are asked at its first frame alone.
+        if self.owns(conn, at, h.source.net) {
+            return h.len as usize != payload.len();
+        }
         if self.is_refused(h, payload) {
             return true;
         }
-        self.is_taken(conn, h.source.net)
+        self.is_taken(conn, at, h.source.net)
     }
 
     // The first two: the data length and the route of the source.
@@ -62,6 +72,7 @@ impl Router {
         &mut self,
         alloc: Global,
         conn: u32,
+        at: usize,
         h: &Header,
         packet: &[u8],
     ) -> Result<(), NoMemory>
@@ -71,10 +82,11 @@ impl Router {
             (way_of_response (request_answered conn (ams_header_of h.now) s.world.requests)) s)) }
         ensures streams { KeepsStreams self.old.peers.entries self.new.peers.entries }
     {
-        let Some(asker) = self.spend(conn, h) else {
+        let near = self.near_of(at);
+        let Some(asker) = self.spend(conn, near, h) else {
             return Ok(());
         };
-        let fitted = self.give(alloc, asker, packet)?;
+        let fitted = self.give(alloc, asker, near, at, packet)?;
         if fitted {
             self.counts.count_passed();
         }
@@ -86,6 +98,7 @@ impl Router {
         &mut self,
         alloc: Global,
         conn: u32,
+        at: usize,
         h: &Header,
         packet: &[u8],
     ) -> Result<(), NoMemory>
@@ -95,9 +108,9 @@ impl Router {
             → Holds self.new b (after_way conn (ams_header_of h.now) packet.now (way_of_request (owner_of h.now.target.net.bytes s.connections)) s)) }
         ensures streams { KeepsStreams self.old.peers.entries self.new.peers.entries }
     {
-        match self.owner_of(h.target.net) {
-            Some(target) => self.pass_to(alloc, conn, target, h, packet),
-            None => self.tell_unknown(alloc, conn, h),
+        match self.owner_near(self.near_of(at), h.target.net) {
+            Some(target) => self.pass_to(alloc, conn, at, target, h, packet),
+            None => self.tell_unknown(alloc, conn, at, h),
         }
     }
 
@@ -106,6 +119,7 @@ impl Router {
         &mut self,
         alloc: Global,
         conn: u32,
+        at: usize,
         target: u32,
         h: &Header,
         packet: &[u8],
@@ -116,23 +130,39 @@ impl Router {
             → Holds self.new b (after_way conn (ams_header_of h.now) packet.now (way_of_request (owner_of h.now.target.net.bytes s.connections)) s)) }
         ensures streams { KeepsStreams self.old.peers.entries self.new.peers.entries }
     {
-        let fitted = self.give(alloc, target, packet)?;
+        let near = self.near_of(at);
+        let fitted = self.give(alloc, target, near, at, packet)?;
         if fitted {
-            return self.ask(alloc, conn, target, h);
+            return self.ask(alloc, conn, at, target, h);
         }
-        self.tell_unknown(alloc, conn, h)
+        self.tell_unknown(alloc, conn, at, h)
     }
 
     // It was passed on, and its response is waited for.
-    fn ask(&mut self, alloc: Global, conn: u32, target: u32, h: &Header) -> Result<(), NoMemory>
+    fn ask(
+        &mut self,
+        alloc: Global,
+        conn: u32,
+        at: usize,
+        target: u32,
+        h: &Header,
+    ) -> Result<(), NoMemory>
         ensures follows { OnOk result ((b : List ℕ) (s : RelayState) (k : RelayConnection) → Holds self.old b s → IsHeardAt conn k s → IsSwept s
             → k.client ≡ Some h.now.source.net.bytes → IsOpenedAt target s
             → Holds self.new b (with_passed (with_request_of conn target (ams_header_of h.now) s))) }
         ensures streams { KeepsStreams self.old.peers.entries self.new.peers.entries }
     {
-        self.remember(alloc, conn, target, h)?;
+        self.remember(alloc, conn, at, target, h)?;
         self.counts.count_passed();
         Ok(())
+    }
+
+    // Where the connection stood that gave a frame last to the one at a place: it is asked first. No clause speaks of it.
+    fn near_of(&self, at: usize) -> usize {
+        match self.peers.get_index(at) {
+            Some((_, peer)) => peer.near,
+            None => 0,
+        }
     }
 }
 

@@ -32,8 +32,8 @@ impl Router {
         let Some(mut stream) = self.peers[i].stream.take() else {
             return Ok(());
         };
-        let taken = self.take_fed(alloc, number, &mut stream, bytes);
-        self.take_back(number, stream);
+        let taken = self.take_fed(alloc, number, i, &mut stream, bytes);
+        self.take_back(number, i, stream);
         taken
     }
 
@@ -42,6 +42,7 @@ impl Router {
         &mut self,
         alloc: Global,
         number: u32,
+        at: usize,
         stream: &mut Splitter,
         bytes: &[u8],
     ) -> Result<(), NoMemory>
@@ -50,15 +51,16 @@ impl Router {
         ensures streams { OnOk result (KeepsStreams self.old.peers.entries self.new.peers.entries) }
     {
         stream.feed(alloc, bytes)?;
-        while self.take_next(alloc, number, stream)? {}
+        while self.take_next(alloc, number, at, stream)? {}
         Ok(())
     }
 
-    // The next frame is taken; false where no more is to be taken.
+    // The next frame is taken; false where no more is to be taken. The connection is looked for at a place first.
     fn take_next(
         &mut self,
         alloc: Global,
         number: u32,
+        at: usize,
         stream: &mut Splitter,
     ) -> Result<bool, NoMemory>
         ensures takes { IfOk result (λ more. (b : List ℕ) (s : RelayState) → HoldsWith number stream.old self.old b s
@@ -66,7 +68,7 @@ impl Router {
         ensures shorter { IfOk result (λ more. IsTrue more → length stream.new.rest < length stream.old.rest) }
         ensures streams { OnOk result (KeepsStreams self.old.peers.entries self.new.peers.entries) }
     {
-        let Some(i) = self.place_of(number) else {
+        let Some(i) = self.place_near(at, number) else {
             return Ok(false);
         };
         if self.peers[i].closing {
@@ -75,7 +77,7 @@ impl Router {
         match stream.peek() {
             Peeked::Frame(packet) => {
                 self.counts.count_frame();
-                self.pass(alloc, number, packet)?;
+                self.pass(alloc, number, i, packet)?;
                 stream.pass_frame();
                 Ok(true)
             }
@@ -88,12 +90,12 @@ impl Router {
     }
 
     // A stream that was lent is here again.
-    fn take_back(&mut self, number: u32, stream: Splitter)
+    fn take_back(&mut self, number: u32, at: usize, stream: Splitter)
         ensures follows { (b : List ℕ) (s : RelayState) → HoldsWith number stream self.old b s → Holds self.new b s }
         ensures here { is_lent_in number self.new.peers.entries ≡ false }
         ensures others { (n : ℕ) → n ≢ number → is_lent_in n self.new.peers.entries ≡ is_lent_in n self.old.peers.entries }
     {
-        if let Some(i) = self.place_of(number) {
+        if let Some(i) = self.place_near(at, number) {
             self.peers[i].stream = Some(stream);
         }
     }

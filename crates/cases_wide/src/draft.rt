@@ -4,12 +4,15 @@ use crate::fault::Fault;
 use crate::folder::Folder;
 use ads_base::Octets;
 use std::alloc::Global;
+use type_layout::Rights;
 
 /// The script of a run, and the log that must be printed of it.
 #[derive(Drop)]
 pub struct Draft {
     pub script: Octets,
     pub out: Octets,
+    /// The right of each machine without a route.
+    pub others: Option<Rights>,
     /// Lines of text belong to the log.
     is_out: bool,
 }
@@ -20,6 +23,7 @@ impl Draft {
         Draft {
             script: Octets::new(alloc),
             out: Octets::new(alloc),
+            others: None,
             is_out: false,
         }
     }
@@ -37,6 +41,7 @@ impl Draft {
                 self.is_out = true;
                 Ok(())
             }
+            "others" => self.put_others(rest),
             "|" => self.put_line(alloc, rest),
             "from" => {
                 let bytes = folder.read(rest)?;
@@ -44,6 +49,16 @@ impl Draft {
             }
             _ => Err(Fault::Off("no such line")),
         }
+    }
+
+    fn put_others(&mut self, word: &str) -> Result<(), Fault> {
+        let rights = match word {
+            "read" => Rights::Read,
+            "write" => Rights::Write,
+            _ => return Err(Fault::Off("others have no such right")),
+        };
+        self.others = Some(rights);
+        Ok(())
     }
 
     fn put_line(&mut self, alloc: Global, line: &str) -> Result<(), Fault> {

@@ -7,22 +7,23 @@ ghost use Rattle.replay_script.specs.Fresh.{OpenNew};
 
 use crate::fault::Fault;
 use ads_base::{NoMemory, Octets};
-use port_device::Profile;
+use port_device::Manner;
 use replay_script::{Script, log_text, play, read_script};
-use server_core::{Core, Sources};
+use server_core::{Core, Profile, Sources};
 use signals::Signal;
 use std::alloc::Global;
 use std::thread::Threads;
 use symbol_file::read;
-use type_layout::Description;
+use type_layout::{Description, Rights};
 
 // The longest script.
 const LONGEST: usize = 16_777_216;
 
-/// The log of a script's play on the wide server of a description without signals.
+/// The log of a script's play on the wide server of a description without signals, where others have this right.
 pub fn log_of<T: Threads + Sync>(
     rt: &T,
     alloc: Global,
+    others: Option<Rights>,
     description: &[u8],
     script: &[u8],
 ) -> Result<Octets, Fault> {
@@ -36,7 +37,7 @@ pub fn log_of<T: Threads + Sync>(
     let Some(script) = script_of(alloc, script)? else {
         return Err(Fault::Off("a script is off the grammar"));
     };
-    Ok(played(rt, alloc, description, signals, script)?)
+    Ok(played(rt, alloc, others, description, signals, script)?)
 }
 
 // The script of these bytes.
@@ -56,6 +57,7 @@ fn script_of(alloc: Global, bytes: &[u8]) -> Result<Option<Script>, NoMemory>
 fn played<T: Threads + Sync, G: Sources>(
     rt: &T,
     alloc: Global,
+    others: Option<Rights>,
     description: Description,
     signals: G,
     script: Script,
@@ -64,7 +66,11 @@ fn played<T: Threads + Sync, G: Sources>(
     requires few { length (G.waves signals) < 2 ^ 32 }
     requires accepted { IsAccepted (description_of description) (length (G.waves signals)) }
 {
-    let mut core = Core::build_in(alloc, Profile::Wide, description, signals)?;
+    let profile = Profile {
+        manner: Manner::Wide,
+        others,
+    };
+    let mut core = Core::build_in(alloc, profile, description, signals)?;
     let log = play(rt, alloc, &mut core, script)?;
     let mut text = Octets::new(alloc);
     log_text(alloc, &log, core.reload_notes(), &mut text)?;

@@ -78,7 +78,13 @@ fn try_run<T: Threads + Sync>(
     run: &Draft,
     tally: &mut Tally,
 ) -> Result<(), Fault> {
-    let came = log_of(threads, rt.alloc(), plant, run.script.as_slice())?;
+    let came = log_of(
+        threads,
+        rt.alloc(),
+        run.others,
+        plant,
+        run.script.as_slice(),
+    )?;
     if came.as_slice() == run.out.as_slice() {
         tally.good = tally.good.saturating_add(1);
         return Ok(());

@@ -115,6 +115,12 @@ impl<N: Drop, J: Judge + Drop, L: LogOutlet + Drop, B: Beacon + Drop, F: Beacon 
         self.put(Level::Warning, text);
     }
 
+    /// What each machine without a route may do.
+    pub fn lets_others_in(&mut self, right: &str) {
+        let text = format!(in self.alloc; "other_routes {right}");
+        self.put_made(Level::Notice, text);
+    }
+
     /// The store in this file has so many entries, of so many bytes.
     pub fn store_opened(&mut self, name: &str, entries: u64, bytes: u64) {
         let text = plant_lines::store_line(self.alloc, name, entries, bytes);
@@ -277,18 +283,18 @@ impl<N: Drop, J: Judge + Drop, L: LogOutlet + Drop, B: Beacon + Drop, F: Beacon 
         }
     }
 
-    // Who speaks without a route is told, and what lets it in.
+    // Who speaks without rights is told, and what lets it in.
     fn tell_route(&mut self, guest: &Guest) {
         if let Spoken::As(net, _) = guest.spoken {
-            if !self.has_route(guest) {
+            if !self.has_rights(guest) {
                 let text = no_route_line(self.alloc, guest.conn, net);
                 self.put_made(Level::Warning, text);
             }
         }
     }
 
-    fn has_route(&mut self, guest: &Guest) -> bool {
-        self.plant.has_route(self.alloc, &self.judge, guest.spoken)
+    fn has_rights(&mut self, guest: &Guest) -> bool {
+        self.plant.has_rights(self.alloc, &self.judge, guest.spoken)
     }
 
     fn close(&mut self, conn: u32) {
@@ -303,7 +309,7 @@ impl<N: Drop, J: Judge + Drop, L: LogOutlet + Drop, B: Beacon + Drop, F: Beacon 
         if !guest.speaks_ads() {
             return "what came is no AMS/TCP";
         }
-        if !self.has_route(guest) {
+        if !self.has_rights(guest) {
             return "its NetId has no route";
         }
         "a frame that came breaks the protocol, or too much waits for it"

@@ -21,6 +21,11 @@ pub trait Judge {
     /// The NetIds of its routes; None where they can't be told.
     fn routes(&self, alloc: Global, bytes: &[u8]) -> Option<ListOf<NetId>>;
 
+    /// Whether machines without a route may connect too.
+    fn lets_others_in(&self) -> bool {
+        false
+    }
+
     /// The names of the entries in the store that fit no persistent symbol of it, so that the next save leaves them out.
     fn unfit(&self, alloc: Global, _bytes: &[u8]) -> ListOf<Octets> {
         ListOf::new(alloc)

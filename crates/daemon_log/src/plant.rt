@@ -49,11 +49,19 @@ impl Plant {
         self.text.as_slice()
     }
 
-    /// Whether who speaks has a route, as far as that is known.
-    pub(crate) fn has_route<J: Judge>(&mut self, alloc: Global, judge: &J, spoken: Spoken) -> bool {
+    /// Whether who speaks has rights, by a route or since all others have some, as far as that is known.
+    pub(crate) fn has_rights<J: Judge>(
+        &mut self,
+        alloc: Global,
+        judge: &J,
+        spoken: Spoken,
+    ) -> bool {
         let Spoken::As(net, _) = spoken else {
             return true;
         };
+        if judge.lets_others_in() {
+            return true;
+        }
         self.look(alloc, judge);
         !self.known || self.has_net(net)
     }

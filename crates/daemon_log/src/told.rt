@@ -47,12 +47,12 @@ pub(crate) fn speaks_line(alloc: Global, guest: &Guest) -> Result<String, AllocE
     }
 }
 
-/// Who speaks has no route, and what lets it in.
+/// Who speaks has no route, and what lets it in, or all others too.
 pub(crate) fn no_route_line(alloc: Global, conn: u32, net: NetId) -> Result<String, AllocError> {
     let net = net_text(alloc, net)?;
     let net = net.as_str();
     format!(in alloc;
-        "no route for {conn}: to let it in, add three lines to the description: [[route]] and net = \"{net}\" and rights = \"read\""
+        "no route for {conn}: to let it in, add three lines to the description: [[route]] and net = \"{net}\" and rights = \"read\"; to let every NetId in, add other_routes = \"read\" to the configuration"
     )
 }
 

@@ -1,28 +1,19 @@
 -- A service that is done ended with its wire.
-use Rattle.std.proofs.Common.{◌≡◌, ◌<◌, ℕ, List, Option, Some, None, inl, inr, ap, sym, ◌∙◌, length, arith}
-use Rattle.signals.specs.Wave.{Wave}
+use Rattle.std.proofs.Common.{◌≡◌, ◌<◌, ℕ, List, inl, inr, ap, sym, ◌∙◌, arith}
 use Rattle.ads_outside.specs.declared.end.End.{End}
 use Rattle.ads_outside.specs.declared.end.End.TheVariants as end
 use Rattle.ads_outside.specs.declared.moves.Move.{Move}
-use Rattle.ads_outside.specs.declared.named_file.NamedFile.{NamedFile}
-use Rattle.ads_outside.specs.Named.{bytes_of}
 use Rattle.ads_outside.specs.Rose.{raised}
 use Rattle.ads_outside.specs.SinkState.{SinkState}
 use Rattle.ads_outside.specs.WireState.{WireHistory, listened}
 use Rattle.serve_loop.proofs.TurnLemmas.{ends-after}
-use Rattle.spec_plant.specs.Description.{Description}
-use Rattle.spec_rules.specs.TextVerdict.{text_verdict}
 use Rattle.run_tasks.specs.declared.status.Status.{Status}
 use Rattle.run_tasks.specs.declared.status.Status.TheVariants as status
 use Rattle.run_tasks.specs.Ending.{Ending, line_alone}
 use Rattle.run_tasks.specs.Prints.{PrintsEnding}
-use Rattle.run_tasks.specs.Readings.{OverFile}
-use Rattle.run_tasks.specs.Service.{Service, server_with, ending_after}
-use Rattle.run_tasks.specs.Verdict.{Verdict, Ends, Serves, ended, verdict_of_serve}
-use Rattle.run_tasks.proofs.VerdictLemmas.{of_file, of_accepted}
+use Rattle.run_tasks.specs.Service.{Service, ending_after}
+use Rattle.run_tasks.specs.Verdict.{Verdict, Ends, Serves, ended}
 use Rattle.file_run.specs.Serving.{MakesMoves, PrintsAt, EndsService}
-use Rattle.file_run.specs.ServiceEnds.{ServesBy}
-use Rattle.daemon_run.specs.Endless.{endless, verdict_of_plant}
 
 -- an ending with another status does not come to Done
 pub not_done : (e : Ending) (s : Status) (old new : SinkState) → (e.status ≡ status.Done → ⊥) → PrintsEnding e s old new → s ≡ status.Done → ⊥
@@ -68,37 +59,6 @@ ended_not_done t never = λ e same is. never (sym (ap status_in same) ∙ is)
 pub serves_not_done : (x : Service) → IsNotDone (Serves x)
 unfolding status_in
 serves_not_done x = λ e same is. let other : status.Done ≡ status.Usage = sym is ∙ ap status_in same in cc
-
--- the service of a plant
-abbrev served : List Wave → List ℕ → List ℕ → List ℕ → Description → Service
-served waves name listen bytes d =
-    record { start = record { listen = listen; name = name; first = bytes }; machine = server_with waves d; limit = endless }
-
-plant_not_done : (waves : List Wave) (name listen : List ℕ) (file : Option (List ℕ)) → IsNotDone (verdict_of_plant waves name listen file)
-plant_not_done waves name listen file =
-    of_file IsNotDone (verdict_of_serve waves name listen endless) file
-    (ended_not_done status.ReadFault (λ e. (cc))) (ended_not_done status.TooLong (λ e. (cc)))
-    (λ bytes. of_accepted IsNotDone (λ d. Serves (served waves name listen bytes d)) (text_verdict (length waves) bytes)
-    (λ n item. ended_not_done (status.BadDescription n item) (λ e. (cc))) (λ d. serves_not_done (served waves name listen bytes d)))
-
-by_done : (v : Verdict) (failed : Type 0) (s : Status) (out out_new : SinkState) (wire wire_new : WireHistory) → IsNotDone v
-    → ServesBy v failed s out out_new wire wire_new → s ≡ status.Done → wire_new.ends ≡ raised wire.ends
-by_done v failed s out out_new wire wire_new never (inl (inl h)) is =
-    absurd (not_done h.ending s out out_new (never h.ending h.is) h.printed is)
-by_done v failed s out out_new wire wire_new never (inl (inr h)) is = service_done h.made s out out_new wire wire_new h.comes is
-by_done v failed s out out_new wire wire_new never (inr h) is =
-    absurd (not_done h.1.ending s out out_new (ended_not_done status.ReadFault (λ e. (cc)) h.1.ending h.1.is) h.1.printed is)
-
-pub plant_done : (held : Option (List NamedFile)) (waves : List Wave) (name listen : List ℕ) (failed : Type 0) (s : Status) (out out_new : SinkState)
-    (wire wire_new : WireHistory)
-    → OverFile held (λ files. ServesBy (verdict_of_plant waves name listen (bytes_of files name)) failed s out out_new wire wire_new)
-    → s ≡ status.Done → wire_new.ends ≡ raised wire.ends
-plant_done None waves name listen failed s out out_new wire wire_new h =
-    by_done (verdict_of_plant waves name listen (bytes_of h.0 name)) failed s out out_new wire wire_new
-    (plant_not_done waves name listen (bytes_of h.0 name)) h.1
-plant_done (Some files) waves name listen failed s out out_new wire wire_new h =
-    by_done (verdict_of_plant waves name listen (bytes_of files name)) failed s out out_new wire wire_new
-    (plant_not_done waves name listen (bytes_of files name)) h
 
 -- a count that rose is not 0
 pub risen : (n m : ℕ) → n ≡ raised m → 0 < n

@@ -15,6 +15,7 @@ A configuration is a TOML table with the key description; its other keys are tho
   --store FILE        keep the persistent symbols in this file
   --save-each N       save them at most each N seconds, 1 to 86400; else 10
   --allow NET         who may connect, as 192.168.0.0/24 or fd00::1; several times for several; else everybody
+  --other-routes R    what each machine without a route may do: read, or write, which is both; else it may not connect
   --profile NAME      wide: answer as TwinCAT does; strict: as ads serve does; else wide
   --status FILE       write counts to this file each 10 s, as Prometheus reads them
   --log FORM          journal, plain or none; else plain

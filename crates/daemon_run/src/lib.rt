@@ -8,9 +8,7 @@ mod plant_served;
 mod plant_watched;
 mod preparing;
 mod printing;
-mod serving;
 
 pub use plant::run_plant;
 pub use plant_watched::run_watched;
 pub use preparing::{Prepared, prepare};
-pub use serving::{serve_plant, serve_watched};

@@ -3,7 +3,7 @@
 ghost use Rattle.std.specs.Prelude.{◌≡◌, ◌<◌, ◌≤◌, ◌^◌, length, None};
 ghost use Rattle.ads_outside.specs.Named.{bytes_of};
 ghost use Rattle.ads_outside.specs.Rose.{Rose, raised};
-ghost use Rattle.port_device.specs.Profiles.{profile_of};
+ghost use Rattle.server_core.specs.Profiles.{profile_of};
 ghost use Rattle.keep_play.specs.KeptDisk.{disk_used};
 ghost use Rattle.run_tasks.specs.BeforeRun.{IsBeforeRun};
 ghost use Rattle.run_tasks.specs.Readings.{OverFile, ReadsOne};
@@ -18,9 +18,8 @@ use cli_words::Text;
 use daemon_core::Board;
 use keep_loop::SaveNotes;
 use persist_store::Disk;
-use port_device::Profile;
 use run_tasks::{Status, end_without_memory, print_outcome, read_description};
-use server_core::Sources;
+use server_core::{Profile, Sources};
 use std::alloc::Global;
 use std::thread::Threads;
 

@@ -2,7 +2,7 @@
 
 ghost use Rattle.std.specs.Prelude.{◌<◌, ◌^◌, length, None};
 ghost use Rattle.ads_served.specs.Standing.{Standing};
-ghost use Rattle.port_device.specs.Profiles.{profile_of};
+ghost use Rattle.server_core.specs.Profiles.{profile_of};
 ghost use Rattle.spec_plant.specs.Accepted.{IsAccepted};
 ghost use Rattle.type_layout.specs.Descriptions.{description_of};
 ghost use Rattle.server_core.specs.Served.{World, Client, served_step};
@@ -20,9 +20,8 @@ use ads_outside::{Sink, Wire};
 use cli_words::Text;
 use daemon_core::{Board, PostedCore};
 use file_run::start_and_tell;
-use port_device::Profile;
 use run_tasks::{Accepted, Status, end_without_memory};
-use server_core::{Core, Sources};
+use server_core::{Core, Profile, Sources};
 use std::alloc::Global;
 use std::thread::Threads;
 

@@ -1,4 +1,5 @@
 pub mod Asking
+pub mod OthersWords
 pub mod Reading
 pub mod Said
 pub mod Setups

@@ -1,7 +1,7 @@
 -- What the words of a command line say, one behind another. This project's own choice.
 use Rattle.std.specs.Prelude.{◌≡◌, ◌⊎◌, ℕ, List, [], ◌∷◌, ◌++◌, Option, Some, None, codes}
 use Rattle.daemon_words.specs.declared.field.Field.{Field}
-use Rattle.daemon_words.specs.declared.field.Field.TheVariants.{Description, Listen, Store, SaveEach, Allow, Profile, Signal, Status, Log, StopFile}
+use Rattle.daemon_words.specs.declared.field.Field.TheVariants.{Description, Listen, Store, SaveEach, Allow, OtherRoutes, Profile, Signal, Status, Log, StopFile}
 use Rattle.daemon_words.specs.Said.{Said, Puts, nothing_said}
 
 -- the option of a field; the description and the signals have none
@@ -11,6 +11,7 @@ option_of Listen = codes "--listen"
 option_of Store = codes "--store"
 option_of SaveEach = codes "--save-each"
 option_of Allow = codes "--allow"
+option_of OtherRoutes = codes "--other-routes"
 option_of Profile = codes "--profile"
 option_of Signal = []
 option_of Status = codes "--status"

@@ -1,12 +1,14 @@
 -- What words and a configuration say of a daemon, a field at a time. This project's own choice.
 use Rattle.std.specs.Prelude.{◌≡◌, ℕ, List, [], ◌∷◌, ◌++◌, Option, Some, None, IsSome, decimal}
 use Rattle.daemon_words.specs.declared.field.Field.{Field}
-use Rattle.daemon_words.specs.declared.field.Field.TheVariants.{Description, Listen, Store, SaveEach, Allow, Profile, Signal, Status, Log, StopFile}
+use Rattle.daemon_words.specs.declared.field.Field.TheVariants.{Description, Listen, Store, SaveEach, Allow, OtherRoutes, Profile, Signal, Status, Log, StopFile}
 use Rattle.daemon_words.specs.declared.ip_net.IpNet.{IpNet}
 use Rattle.daemon_words.specs.declared.seconds.Seconds.{Seconds}
 use Rattle.daemon_words.specs.declared.log_form.LogForm.{LogForm}
+use Rattle.daemon_words.specs.declared.others_word.OthersWord.{OthersWord}
 use Rattle.daemon_words.specs.declared.profile_word.ProfileWord.{ProfileWord}
 use Rattle.daemon_words.specs.declared.signal_table.SignalTable.{SignalTable}
+use Rattle.daemon_words.specs.OthersWords.{others_in}
 
 -- what was said so far; what was not is nothing, or an empty list
 pub record Said : Type 0 where
@@ -15,6 +17,7 @@ pub record Said : Type 0 where
   pub store : Option (List ℕ)
   pub save_each : Option Seconds
   pub allow : List IpNet
+  pub others : Option OthersWord
   pub profile : Option ProfileWord
   pub signals : List SignalTable
   pub status : Option (List ℕ)
@@ -29,6 +32,7 @@ nothing_said = record {
   store = None;
   save_each = None;
   allow = [];
+  others = None;
   profile = None;
   signals = [];
   status = None;
@@ -48,6 +52,7 @@ Puts Listen text old new = new ≡ record old { listen = old.listen ++ text ∷ 
 Puts Store text old new = (old.store ≡ None) × (new ≡ record old { store = Some text })
 Puts SaveEach text old new = (old.save_each ≡ None) × SaysSeconds text new.save_each × (new ≡ record old { save_each = new.save_each })
 Puts Allow text old new = (net : IpNet) × (new ≡ record old { allow = old.allow ++ net ∷ [] })
+Puts OtherRoutes text old new = (old.others ≡ None) × IsSome new.others × (new ≡ record old { others = others_in text })
 Puts Profile text old new = (old.profile ≡ None) × IsSome new.profile × (new ≡ record old { profile = new.profile })
 Puts Signal text old new = ⊥
 Puts Status text old new = (old.status ≡ None) × (new ≡ record old { status = Some text })

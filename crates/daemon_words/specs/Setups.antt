@@ -41,6 +41,7 @@ pub record SetsUp (said : Said) (file : List ℕ) (setup : Setup) : Type 0 where
   pub store : setup.store ≡ said.store
   pub save_each : setup.save_each ≡ seconds_or said.save_each
   pub allow : setup.allow ≡ said.allow
+  pub others : setup.others ≡ said.others
   pub profile : setup.profile ≡ said_or Wide said.profile
   pub status : setup.status ≡ said.status
   pub log : setup.log ≡ said_or Plain said.log

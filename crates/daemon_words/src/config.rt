@@ -54,6 +54,7 @@ fn put_value(
         Field::Listen | Field::Allow => put_list(alloc, given, field, value),
         Field::Description
         | Field::Store
+        | Field::OtherRoutes
         | Field::Profile
         | Field::Status
         | Field::Log

@@ -8,6 +8,7 @@ pub enum Field {
     Store,
     SaveEach,
     Allow,
+    OtherRoutes,
     Profile,
     Signal,
     Status,
@@ -16,12 +17,13 @@ pub enum Field {
 }
 
 // All of them.
-const FIELDS: [Field; 10] = [
+const FIELDS: [Field; 11] = [
     Field::Description,
     Field::Listen,
     Field::Store,
     Field::SaveEach,
     Field::Allow,
+    Field::OtherRoutes,
     Field::Profile,
     Field::Signal,
     Field::Status,
@@ -30,11 +32,12 @@ const FIELDS: [Field; 10] = [
 ];
 
 // Those that an option sets.
-const OPTIONS: [Field; 8] = [
+const OPTIONS: [Field; 9] = [
     Field::Listen,
     Field::Store,
     Field::SaveEach,
     Field::Allow,
+    Field::OtherRoutes,
     Field::Profile,
     Field::Status,
     Field::Log,
@@ -77,6 +80,7 @@ impl Field {
             Field::Store => "--store",
             Field::SaveEach => "--save-each",
             Field::Allow => "--allow",
+            Field::OtherRoutes => "--other-routes",
             Field::Profile => "--profile",
             Field::Status => "--status",
             Field::Log => "--log",
@@ -92,6 +96,7 @@ impl Field {
             Field::Store => "store",
             Field::SaveEach => "save_each",
             Field::Allow => "allow",
+            Field::OtherRoutes => "other_routes",
             Field::Profile => "profile",
             Field::Signal => "signal",
             Field::Status => "status",
@@ -110,6 +115,7 @@ impl Field {
             Field::SaveEach => "takes a number of seconds from 1 to 86400",
             Field::Allow =>
                 "takes a net, or a list of them: an IP address, or one with a slash and the number of bits that count",
+            Field::OtherRoutes => "takes read or write, what each machine without a route may do",
             Field::Profile => "takes wide or strict",
             Field::Signal => "takes tables [[signal]]",
             Field::Status => "takes the name of the status file",
@@ -127,6 +133,7 @@ impl Field {
             Field::Description
             | Field::Store
             | Field::SaveEach
+            | Field::OtherRoutes
             | Field::Profile
             | Field::Status
             | Field::Log

@@ -7,7 +7,9 @@ ghost use Rattle.daemon_words.specs.Setups.{SetsUp, said_or, listen_or};
 use crate::address::is_address;
 use crate::defaults::{DEFAULT_LISTEN, signals_of_serve};
 use crate::joined_texts::joined;
-use crate::{Field, IpNet, LogForm, ProfileWord, Seconds, Setup, SetupFault, SignalTable};
+use crate::{
+    Field, IpNet, LogForm, OthersWord, ProfileWord, Seconds, Setup, SetupFault, SignalTable,
+};
 use ads_base::{ListOf, NoMemory};
 use cli_words::{Text, TextList};
 use std::alloc::Global;
@@ -21,6 +23,7 @@ pub struct Given {
     store: Option<Text>,
     save_each: Option<Seconds>,
     allow: ListOf<IpNet>,
+    others: Option<OthersWord>,
     profile: Option<ProfileWord>,
     signals: ListOf<SignalTable>,
     status: Option<Text>,
@@ -40,6 +43,7 @@ impl Model for Given {
       store = g.store;
       save_each = g.save_each;
       allow = g.allow;
+      others = g.others;
       profile = g.profile;
       signals = g.signals;
       status = g.status;
@@ -61,6 +65,7 @@ impl Given {
             store: None,
             save_each: None,
             allow: ListOf::new(alloc),
+            others: None,
             profile: None,
             signals: ListOf::new(alloc),
             status: None,
@@ -82,6 +87,7 @@ impl Given {
             Field::Store => put_name(alloc, &mut self.store, field, text),
             Field::SaveEach => self.put_seconds_text(text),
             Field::Allow => self.put_net(alloc, text),
+            Field::OtherRoutes => self.put_others(text),
             Field::Profile => self.put_profile(text),
             Field::Signal => Err(SetupFault::Wrong(field)),
             Field::Status => put_name(alloc, &mut self.status, field, text),
@@ -125,6 +131,7 @@ impl Given {
             Field::Store => self.store.is_some(),
             Field::SaveEach => self.save_each.is_some(),
             Field::Allow => self.allow.len() != 0,
+            Field::OtherRoutes => self.others.is_some(),
             Field::Profile => self.profile.is_some(),
             Field::Signal => self.signals.len() != 0,
             Field::Status => self.status.is_some(),
@@ -155,6 +162,7 @@ impl Given {
             store,
             save_each,
             allow,
+            others,
             profile,
             signals,
             status,
@@ -168,6 +176,7 @@ impl Given {
             store,
             save_each: seconds.count,
             allow,
+            others,
             profile: profile.unwrap_or(ProfileWord::Wide),
             signals: signals_or(alloc, signals)?,
             status,
@@ -203,6 +212,21 @@ impl Given {
                 Ok(())
             }
             None => Err(SetupFault::Wrong(Field::SaveEach)),
+        }
+    }
+
+    fn put_others(&mut self, text: &str) -> Result<(), SetupFault>
+        ensures { OnOk result (Puts Field.OtherRoutes text.now self.old self.new) }
+    {
+        if self.others.is_some() {
+            return Err(SetupFault::Twice(Field::OtherRoutes));
+        }
+        match OthersWord::of_word(text) {
+            Some(others) => {
+                self.others = Some(others);
+                Ok(())
+            }
+            None => Err(SetupFault::Wrong(Field::OtherRoutes)),
         }
     }
 

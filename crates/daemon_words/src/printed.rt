@@ -1,7 +1,7 @@
 //! A setup, printed.
 
 use crate::printed_signal::signal_text;
-use crate::{IpNet, Setup, SignalTable};
+use crate::{IpNet, OthersWord, Setup, SignalTable};
 use ads_base::{NoMemory, Octets};
 use cli_words::Text;
 use std::alloc::Global;
@@ -12,6 +12,12 @@ pub fn setup_text(alloc: Global, setup: &Setup) -> Result<Octets, NoMemory> {
     put_line(alloc, &mut text, "description", setup.description.as_str())?;
     put_line(alloc, &mut text, "listen", setup.listen.as_str())?;
     put_nets(alloc, &mut text, setup.allow.as_slice())?;
+    put_line(
+        alloc,
+        &mut text,
+        "other_routes",
+        others_sentence(setup.others),
+    )?;
     put_line(alloc, &mut text, "profile", setup.profile.word())?;
     put_store(alloc, &mut text, setup)?;
     put_signals(alloc, &mut text, setup.signals.as_slice())?;
@@ -50,6 +56,14 @@ fn put_nets(alloc: Global, text: &mut Octets, nets: &[IpNet]) -> Result<(), NoMe
         text.put(alloc, line.as_bytes())?;
     }
     Ok(())
+}
+
+// What machines without a route may do.
+fn others_sentence(others: Option<OthersWord>) -> &'static str {
+    match others {
+        Some(word) => word.sentence(),
+        None => "none: only machines with a route may connect",
+    }
 }
 
 // Where and how often is saved.

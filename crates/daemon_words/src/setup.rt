@@ -2,7 +2,7 @@
 
 ghost use Rattle.std.specs.Prelude.{◌≡◌, ◌<◌, ◌≤◌, ◌*◌, length};
 
-use crate::{IpNet, LogForm, ProfileWord, SignalTable};
+use crate::{IpNet, LogForm, OthersWord, ProfileWord, SignalTable};
 use ads_base::ListOf;
 use cli_words::Text;
 
@@ -19,6 +19,8 @@ pub struct Setup {
     pub save_each: u32,
     /// Who may connect, at most 256 nets; everybody where there is none.
     pub allow: ListOf<IpNet>,
+    /// What each machine without a route may do; without this it may not connect.
+    pub others: Option<OthersWord>,
     /// Which server it is.
     pub profile: ProfileWord,
     /// The signals 0, 1, 2, .. of the description, one to 1,024.

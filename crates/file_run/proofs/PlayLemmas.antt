@@ -7,7 +7,7 @@ use Rattle.spec_plant.specs.Description.{Description}
 use Rattle.spec_machine.specs.LogText.{log_text_of}
 use Rattle.spec_machine.specs.MachineState.{MachineState}
 use Rattle.spec_machine.specs.Moves.{state_after}
-use Rattle.spec_machine.specs.Profile.{Profile, Strict}
+use Rattle.spec_machine.specs.Profile.{Profile, strict}
 use Rattle.spec_machine.specs.RunText.{notes_of_event, notes_of, text_of_log}
 use Rattle.spec_machine.specs.ScriptLine.{ScriptLine}
 use Rattle.spec_machine.specs.Summary.{summary_of}
@@ -38,7 +38,7 @@ pub text_played : (core new : CoreView) (d : Description) (waves : List Wave) (l
 unfolding served
 text_played core new d waves lines log text serves counted none play told =
     let x = at_start d waves in
-    let played = play x (stands_at_start core Strict d waves serves counted none) (start_unused d waves) in
+    let played = play x (stands_at_start core strict d waves serves counted none) (start_unused d waves) in
     let y = standing_after_all served_step (notes_of_event served) x log in
     let notes : y.notes ≡ notes_of served (server_start d waves) log = notes_played served x log in
     let state : y.running.state ≡ state_after served_step (server_start d waves) log = state_played served_step (notes_of_event served) x log in
@@ -56,7 +56,7 @@ pub counts_played : (core new : CoreView) (d : Description) (waves : List Wave) 
 unfolding served counts_of_play
 counts_played core new d waves lines log text serves counted none play told =
     let x = at_start d waves in
-    let played = play x (stands_at_start core Strict d waves serves counted none) (start_unused d waves) in
+    let played = play x (stands_at_start core strict d waves serves counted none) (start_unused d waves) in
     let y = standing_after_all served_step (notes_of_event served) x log in
     let state : y.running.state ≡ state_after served_step (server_start d waves) log = state_played served_step (notes_of_event served) x log in
     told y played.stands

@@ -8,7 +8,7 @@ use Rattle.spec_machine.specs.MachineState.{MachineState}
 use Rattle.spec_machine.specs.Moves.{state_after_move, state_after}
 use Rattle.spec_machine.specs.World.{World, world_in}
 use Rattle.spec_machine.specs.Client.{Client}
-use Rattle.spec_machine.specs.Profile.{Profile, Strict}
+use Rattle.spec_machine.specs.Profile.{Profile, strict}
 use Rattle.spec_machine.specs.ScriptLine.{ScriptLine}
 use Rattle.spec_machine.specs.Turns.{KeepsTurns}
 use Rattle.spec_machine.specs.Delivery.{AreOffers}
@@ -93,4 +93,4 @@ offers_keep_promises profile d waves log offers = record {
 
 pub play_keeps_promises : (d : Description) (waves : List Wave) (lines : List ScriptLine) → PlayKeepsPromises d waves lines
 play_keeps_promises d waves lines =
-    turns_keep_promises Strict d waves (server_play d waves lines) (server_plays_in_turns d waves lines)
+    turns_keep_promises strict d waves (server_play d waves lines) (server_plays_in_turns d waves lines)

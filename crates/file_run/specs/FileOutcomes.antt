@@ -4,7 +4,7 @@ use Rattle.ads_base.specs.declared.no_memory.NoMemory.{NoMemory}
 use Rattle.ads_outside.specs.SinkState.{SinkState}
 use Rattle.signals.specs.Wave.{Wave}
 use Rattle.spec_plant.specs.Description.{Description}
-use Rattle.spec_machine.specs.Profile.{Profile, Strict}
+use Rattle.spec_machine.specs.Profile.{Profile, strict}
 use Rattle.spec_machine.specs.ScriptLine.{ScriptLine}
 use Rattle.type_layout.specs.Descriptions.{description_of}
 use Rattle.ads_served.specs.Standing.{Standing}
@@ -77,11 +77,6 @@ IsOfService status.Budget = Unit {0}
 IsOfService status.Memory = Unit {0}
 IsOfService s = ⊥
 
--- or its description is refused
-abbrev pub IsOfServe : Status → Type 0
-IsOfServe (status.BadDescription n item) = Unit {0}
-IsOfServe s = IsOfService s
-
 -- how a play over a store ends, whose description and script are read
 abbrev pub IsOfKeeping : Status → Type 0
 IsOfKeeping status.Done = Unit {0}
@@ -104,4 +99,4 @@ at_start_in profile d waves = record { running = started_in profile d waves; not
 
 -- the strict one
 abbrev pub at_start : Description → List Wave → Standing World Client
-at_start d waves = at_start_in Strict d waves
+at_start d waves = at_start_in strict d waves

@@ -11,7 +11,7 @@ use Rattle.spec_plant.specs.Description.{Description}
 use Rattle.spec_plant.specs.Accepted.{IsAccepted}
 use Rattle.spec_plant.specs.World.{ByteName, byte_at}
 use Rattle.spec_machine.specs.Offers.{taken_of}
-use Rattle.spec_machine.specs.Profile.{Profile, Strict}
+use Rattle.spec_machine.specs.Profile.{Profile, strict}
 use Rattle.spec_machine.specs.Turns.{KeepsTurns}
 use Rattle.spec_machine.specs.Projection.{projection_of}
 use Rattle.spec_machine.specs.ScriptLine.{ScriptLine}
@@ -73,7 +73,7 @@ pub record KeepsPromisesIn (profile : Profile) (d : Description) (waves : List W
 
 -- the promises of the strict server
 abbrev pub KeepsPromises : Description → List Wave → List Move → Type 0
-KeepsPromises d waves log = KeepsPromisesIn Strict d waves log
+KeepsPromises d waves log = KeepsPromisesIn strict d waves log
 
 -- the same of what it would be given alone, where the log may be cut off in mid-turn
 pub record BeginsAsAloneIn (profile : Profile) (d : Description) (waves : List Wave) (c : ℕ) (log : List Move) : Type 0 where
@@ -95,18 +95,12 @@ pub record KeepsPromisesSoFarIn (profile : Profile) (d : Description) (waves : L
   pub kept_handles : IsAccepted d (length waves) → (before after : List Move) (bytes : List ℕ)
       → log ≡ before ++ move.Event (event.Reload bytes) ∷ after → KeepsHandlesIn profile d waves before bytes
 
-abbrev pub KeepsPromisesSoFar : Description → List Wave → List Move → Type 0
-KeepsPromisesSoFar d waves log = KeepsPromisesSoFarIn Strict d waves log
-
 -- what a log promises that ended so
 abbrev pub KeepsPromisesAtIn : End → Profile → Description → List Wave → List Move → Type 0
 KeepsPromisesAtIn end.Done profile d waves log = KeepsPromisesIn profile d waves log
 KeepsPromisesAtIn end.Budget profile d waves log = KeepsPromisesIn profile d waves log
 KeepsPromisesAtIn end.LinkFault profile d waves log = KeepsPromisesIn profile d waves log
 KeepsPromisesAtIn end.Memory profile d waves log = KeepsPromisesSoFarIn profile d waves log
-
-abbrev pub KeepsPromisesAt : End → Description → List Wave → List Move → Type 0
-KeepsPromisesAt ended d waves log = KeepsPromisesAtIn ended Strict d waves log
 
 -- the promises of a script's play
 abbrev pub PlayKeepsPromises : Description → List Wave → List ScriptLine → Type 0

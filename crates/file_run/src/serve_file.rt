@@ -3,7 +3,7 @@
 ghost use Rattle.std.specs.Prelude.{◌<◌, ◌^◌, ◌≡◌, length};
 ghost use Rattle.ads_outside.specs.Named.{bytes_of};
 ghost use Rattle.ads_outside.specs.Rose.{Rose};
-ghost use Rattle.port_device.specs.Profiles.{profile_of};
+ghost use Rattle.server_core.specs.Profiles.{profile_of};
 ghost use Rattle.run_tasks.specs.BeforeRun.{IsBeforeRun};
 ghost use Rattle.file_run.specs.ServiceEnds.{ServesBy};
 ghost use Rattle.run_tasks.specs.Readings.{OverFile, ReadsOne};
@@ -13,9 +13,9 @@ use crate::machine_run::start_machine;
 use ads_base::NoMemory;
 use ads_outside::{Files, Sink, Wire};
 use cli_words::Text;
-use port_device::Profile;
+use port_device::Manner;
 use run_tasks::{Accepted, Status, end_without_memory, print_outcome, read_description};
-use server_core::{Core, Sources};
+use server_core::{Core, Profile, Sources};
 use std::alloc::Global;
 use std::thread::Threads;
 
@@ -42,10 +42,14 @@ pub fn serve<T: Threads + Sync, F: Files, W: Wire, S: Sink, G: Sources>(
     ensures read_fault { result ≡ Status.ReadFault → Rose (F.state files.old).faults (F.state files.new).faults }
     ensures before_run { IsBeforeRun result → wire.new ≡ wire.old }
 {
+    let profile = Profile {
+        manner: Manner::Strict,
+        others: None,
+    };
     serve_in(
         rt,
         alloc,
-        Profile::Strict,
+        profile,
         description,
         listen,
         events,

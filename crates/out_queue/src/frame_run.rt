@@ -81,6 +81,21 @@ impl FrameRun {
         Ok(())
     }
 
+    // Puts a frame in two parts behind the others.
+    #[inline(always)]
+    pub(crate) fn push_parts(&mut self, front: &[u8], rest: &[u8]) -> Result<(), NoMemory>
+        requires { length front.now + length rest.now < 2 ^ 32 }
+        ensures ok { OnOk result (self.new ≡ self.old ++ (front.now ++ rest.now) ∷ []) }
+        ensures no_memory { OnErr result (self.new ≡ self.old) }
+    {
+        let len = front.len() + rest.len();
+        self.close_up(len);
+        self.lens.reserve(1)?;
+        append_parts(&mut self.bytes, front, rest)?;
+        self.lens.push_back_reserved(len as u32);
+        Ok(())
+    }
+
     // The first frame.
     pub(crate) fn front(&self) -> Option<&[u8]>
         ensures none { IsNone result ↔ (self.now ≡ []) }
@@ -145,4 +160,19 @@ impl FrameRun {
             self.gone = 0;
         }
     }
+}
+
+// Appends both parts, or neither.
+#[inline(always)]
+fn append_parts(bytes: &mut Vec<u8>, front: &[u8], rest: &[u8]) -> Result<(), NoMemory>
+    ensures ok { OnOk result (bytes.new.items ≡ bytes.old.items ++ (front.now ++ rest.now)) }
+    ensures no_memory { OnErr result (bytes.new.items ≡ bytes.old.items) }
+{
+    let before = bytes.len();
+    bytes.extend_from_slice(front)?;
+    if bytes.extend_from_slice(rest).is_err() {
+        bytes.truncate(before);
+        return Err(NoMemory);
+    }
+    Ok(())
 }

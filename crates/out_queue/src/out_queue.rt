@@ -107,6 +107,29 @@ impl OutQueue {
         Ok(Pushed::Done)
     }
 
+    /// The same for a frame in two parts, which come together where it waits.
+    #[inline(always)]
+    pub fn push_parts(
+        &mut self,
+        _alloc: Global,
+        front: &[u8],
+        rest: &[u8],
+    ) -> Result<Pushed, NoMemory>
+        ensures over { IfOk result (λ pushed. (pushed ≡ Pushed.Over)
+            ↔ (QUEUE_LIMIT < queued self.old + length (front.now ++ rest.now))) }
+        ensures done { result ≡ Ok Pushed.Done → self.new ≡ self.old ++ (front.now ++ rest.now) ∷ [] }
+        ensures unchanged { result ≡ Ok Pushed.Over → self.new ≡ self.old }
+        ensures no_memory { OnErr result (self.new ≡ self.old) }
+    {
+        let len = front.len() + rest.len();
+        if len > MAX_QUEUED - self.bytes {
+            return Ok(Pushed::Over);
+        }
+        self.frames.push_parts(front, rest)?;
+        self.bytes += len;
+        Ok(Pushed::Done)
+    }
+
     /// The same for a frame that the caller gives away.
     pub fn push_owned(&mut self, alloc: Global, frame: Octets) -> Result<Pushed, NoMemory>
         ensures over { IfOk result (λ pushed. (pushed ≡ Pushed.Over)

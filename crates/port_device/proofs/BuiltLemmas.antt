@@ -10,6 +10,7 @@ use Rattle.spec_plant.specs.AcceptedTypes.{AreTypes}
 use Rattle.spec_persistent.specs.Otherwise.{PortBeginsOtherwise}
 use Rattle.spec_persistent.proofs.OtherwiseLemmas.{beside, begun_is_sound, begun_is_numbered_apart}
 use Rattle.spec_persistent.proofs.StoredLemmas.{accepted_may_begin}
+use Rattle.spec_machine.specs.Manner.{Manner}
 use Rattle.spec_machine.specs.Profile.{Profile}
 use Rattle.spec_machine.specs.World.{RUN, first_memory, world_in}
 use Rattle.spec_machine.specs.PortBytes.{PortBytes, Holds}
@@ -56,10 +57,10 @@ each_of_built d types may e k x u =
     there (p ∷ ps) (suc i) h = there ps i (omega (arith, h))
 
 -- the bytes of one of them
-first-bytes : (d : Description) (types : List NamedType) (version : ℕ) (profile : Profile) (port : Port) (m : PortMemory) → IsSoundPlant (plant_of d) → d.types ≡ types
-    → IsSoundPort (plant_of d).ports (plant_port types port) → IsFirstPort types port version profile m
+first-bytes : (d : Description) (types : List NamedType) (version : ℕ) (manner : Manner) (port : Port) (m : PortMemory) → IsSoundPlant (plant_of d) → d.types ≡ types
+    → IsSoundPort (plant_of d).ports (plant_port types port) → IsFirstPort types port version manner m
     → Holds (first_memory (plant_of d)) (plant_port types port) m.bytes
-first-bytes d types version profile port m sound e p first =
+first-bytes d types version manner port m sound e p first =
     let held = begins_with_first_image (plant_of d) (plant_port types port) m.bytes.image sound p.found first.image in
     let same : ◌≡◌ {A = PortBytes} (record { image = m.bytes.image; ads = RUN; device = 0 }) m.bytes
     = ap (λ n. record { image = m.bytes.image; ads = n; device = 0 }) (sym first.ads)
@@ -69,7 +70,7 @@ first-bytes d types version profile port m sound e p first =
 -- each holds its port
 first_each : (profile : Profile) (d : Description) (waves : List Wave) (types : List NamedType) (ps : List Port) (ms : List PortMemory) → IsSoundPlant (plant_of d)
     → d.types ≡ types
-    → Each (IsSoundPort (plant_of d).ports) (map (plant_port types) ps) → AreFirstPorts types 1 profile ps ms
+    → Each (IsSoundPort (plant_of d).ports) (map (plant_port types) ps) → AreFirstPorts types 1 profile.manner ps ms
     → HoldEach (world_in profile d waves) (map (plant_port types) ps) ms
 first_each profile d waves types [] [] sound e ports first = tt
 first_each profile d waves types [] (m ∷ ms) sound e ports first = absurd first
@@ -84,16 +85,16 @@ first_each profile d waves types (p ∷ ps) (m ∷ ms) sound e ports first =
         facts = f.facts;
         types = f.types_are ∙ sym e;
         version = f.version_is;
-        profile = f.profile_is;
+        manner = f.manner_is;
         plant_sound = sound;
         sound = ports.0;
-        holds = first-bytes d types 1 profile p m sound e (ports.0) f;
+        holds = first-bytes d types 1 profile.manner p m sound e (ports.0) f;
       },
       first_each profile d waves types ps ms sound e (ports.1) (first.1),
     )
 
 pub first_ports_hold : (profile : Profile) (d : Description) (waves : List Wave) (types : List NamedType) (ms : List PortMemory) → MayBeBuilt d → d.types ≡ types
-    → AreFirstPorts types 1 profile d.ports ms → HoldsPorts (world_in profile d waves) (record { types = types; version = 1; profile = profile; ports = ms })
+    → AreFirstPorts types 1 profile.manner d.ports ms → HoldsPorts (world_in profile d waves) (record { types = types; version = 1; manner = profile.manner; ports = ms })
 first_ports_hold profile d waves types ms may e first =
     let sound = begun_is_sound d may.signals may.is in
     let P : List NamedType → Type 0 = λ ts. HoldEach (world_in profile d waves) (map (plant_port ts) d.ports) ms in
@@ -101,7 +102,7 @@ first_ports_hold profile d waves types ms may e first =
     record {
       types = sym e;
       version = refl;
-      profile = refl;
+      manner = refl;
       plant_sound = sound;
       apart = begun_is_numbered_apart d may.signals may.is;
       each = subst P (sym e) (first_each profile d waves types d.ports ms sound e (subst Q e sound) first);

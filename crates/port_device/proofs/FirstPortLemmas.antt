@@ -15,7 +15,7 @@ use Rattle.spec_plant.specs.Sound.{Each, IsSoundSymbol, IsSoundPort}
 use Rattle.spec_plant.proofs.SoundLemmas.{each-get, accepted_are_sound}
 use Rattle.spec_plant.proofs.TypeLemmas.{list_all-get}
 use Rattle.spec_persistent.proofs.OtherwiseLemmas.{port-sound}
-use Rattle.spec_machine.specs.Profile.{Profile}
+use Rattle.spec_machine.specs.Manner.{Manner}
 use Rattle.spec_machine.specs.PortLaws.{IsFirstImage}
 use Rattle.symbol_table.specs.Rows.{symbol_of_row, symbols_of_rows}
 use Rattle.symbol_table.specs.Tables.{TableSymbol, SymbolTable, table_symbol, table_of, IsPlaced, IsTableOf}
@@ -128,13 +128,13 @@ of_accepted-image types port a =
     subst (λ bs. IsFirstImage p (with_all_bytes port.sizes (replicate (image_size port.sizes) 0) bs)) (sym same) image
 
 -- one more port
-pub first_ports-more : (types : List NamedType) (version : ℕ) (profile : Profile) (ps : List Port) (ms : List PortMemory) (p : Port) (m : PortMemory)
-    → AreFirstPorts types version profile ps ms
-    → IsFirstPort types p version profile m → AreFirstPorts types version profile (ps ++ p ∷ []) (ms ++ m ∷ [])
-first_ports-more types version profile [] [] p m h first = (first, tt)
-first_ports-more types version profile [] (n ∷ ms) p m h first = absurd h
-first_ports-more types version profile (q ∷ ps) [] p m h first = absurd h
-first_ports-more types version profile (q ∷ ps) (n ∷ ms) p m h first = (h.0, first_ports-more types version profile ps ms p m (h.1) first)
+pub first_ports-more : (types : List NamedType) (version : ℕ) (manner : Manner) (ps : List Port) (ms : List PortMemory) (p : Port) (m : PortMemory)
+    → AreFirstPorts types version manner ps ms
+    → IsFirstPort types p version manner m → AreFirstPorts types version manner (ps ++ p ∷ []) (ms ++ m ∷ [])
+first_ports-more types version manner [] [] p m h first = (first, tt)
+first_ports-more types version manner [] (n ∷ ms) p m h first = absurd h
+first_ports-more types version manner (q ∷ ps) [] p m h first = absurd h
+first_ports-more types version manner (q ∷ ps) (n ∷ ms) p m h first = (h.0, first_ports-more types version manner ps ms p m (h.1) first)
 
 -- the table that was built of a port
 pub of_accepted-table : (types given : List NamedType) (port : Port) (table : SymbolTable) → IsOfAccepted types port → given ≡ types

@@ -61,7 +61,7 @@ lent_at now xs len i (Some x) same there within value = sym (slice_get_read xs l
 
 -- the ports with another at the place of a number
 pub with_place : (m : PortsMemory) (number place : ℕ) (new : PortMemory) → place ≡ place_numbered number m.ports
-    → ◌≡◌ {A = PortsMemory} (record { types = m.types; version = m.version; profile = m.profile; ports = slice_set m.ports place new }) (with_port m number new)
+    → ◌≡◌ {A = PortsMemory} (record { types = m.types; version = m.version; manner = m.manner; ports = slice_set m.ports place new }) (with_port m number new)
 with_place m number place new e =
-    let Q : List PortMemory → PortsMemory = λ xs. record { types = m.types; version = m.version; profile = m.profile; ports = xs } in
+    let Q : List PortMemory → PortsMemory = λ xs. record { types = m.types; version = m.version; manner = m.manner; ports = xs } in
     ap Q (ap (λ i. slice_set m.ports i new) e ∙ set-place_numbered number new m.ports)

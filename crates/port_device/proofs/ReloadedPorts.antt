@@ -9,7 +9,7 @@ use Rattle.spec_plant.specs.Accepted.{image_size}
 use Rattle.spec_plant.specs.Named.{port_numbered}
 use Rattle.spec_plant.specs.Sound.{Each, IsSoundSymbol, IsSoundPort, IsSoundPlant}
 use Rattle.spec_plant.proofs.SoundLemmas.{accepted_are_sound, accepted_are_numbered_apart}
-use Rattle.spec_machine.specs.Profile.{Profile}
+use Rattle.spec_machine.specs.Manner.{Manner}
 use Rattle.spec_machine.specs.World.{World, RUN, first_memory}
 use Rattle.spec_machine.specs.PortBytes.{PortBytes, Holds}
 use Rattle.spec_machine.specs.PortLaws.{IsReloadedImage}
@@ -41,12 +41,12 @@ of_accepted-whole types port table a is_of =
     subst P (sym is_of.same) (all_whole types (plant_port types port) port.symbols sound.symbols)
 
 -- one more port
-pub reloaded-more : (old : List PortMemory) (types : List NamedType) (version : ℕ) (profile : Profile) (ps : List Port) (ms : List PortMemory) (p : Port) (m : PortMemory)
-    → AreReloadedPorts old types version profile ps ms → IsReloadedPort old types p version profile m → AreReloadedPorts old types version profile (ps ++ p ∷ []) (ms ++ m ∷ [])
-reloaded-more old types version profile [] [] p m h new = (new, tt)
-reloaded-more old types version profile [] (n ∷ ms) p m h new = absurd h
-reloaded-more old types version profile (q ∷ ps) [] p m h new = absurd h
-reloaded-more old types version profile (q ∷ ps) (n ∷ ms) p m h new = (h.0, reloaded-more old types version profile ps ms p m (h.1) new)
+pub reloaded-more : (old : List PortMemory) (types : List NamedType) (version : ℕ) (manner : Manner) (ps : List Port) (ms : List PortMemory) (p : Port) (m : PortMemory)
+    → AreReloadedPorts old types version manner ps ms → IsReloadedPort old types p version manner m → AreReloadedPorts old types version manner (ps ++ p ∷ []) (ms ++ m ∷ [])
+reloaded-more old types version manner [] [] p m h new = (new, tt)
+reloaded-more old types version manner [] (n ∷ ms) p m h new = absurd h
+reloaded-more old types version manner (q ∷ ps) [] p m h new = absurd h
+reloaded-more old types version manner (q ∷ ps) (n ∷ ms) p m h new = (h.0, reloaded-more old types version manner ps ms p m (h.1) new)
 
 -- the bytes of one port
 
@@ -54,10 +54,10 @@ abbrev memory_of : World → Description → List Block
 memory_of w d = memory_after_reload (is_kept w.plant (plant_of d)) w.memory (first_memory (plant_of d))
 
 -- a port that was not there
-fresh-bytes : (w : World) (d : Description) (types : List NamedType) (version : ℕ) (profile : Profile) (port : Port) (m : PortMemory) → IsSoundPlant (plant_of d)
-    → IsSoundPort (plant_of d).ports (plant_port types port) → IsFirstPort types port version profile m → port_numbered port.number w.plant.ports ≡ None
+fresh-bytes : (w : World) (d : Description) (types : List NamedType) (version : ℕ) (manner : Manner) (port : Port) (m : PortMemory) → IsSoundPlant (plant_of d)
+    → IsSoundPort (plant_of d).ports (plant_port types port) → IsFirstPort types port version manner m → port_numbered port.number w.plant.ports ≡ None
     → Holds (memory_of w d) (plant_port types port) m.bytes
-fresh-bytes w d types version profile port m sound p first none =
+fresh-bytes w d types version manner port m sound p first none =
     let held = reloads_new_port w.plant (plant_of d) w.memory (plant_port types port) m.bytes.image sound none p.found first.image in
     let same : ◌≡◌ {A = PortBytes} (record { image = m.bytes.image; ads = RUN; device = 0 }) m.bytes
     = ap (λ n. record { image = m.bytes.image; ads = n; device = 0 }) (sym first.ads)
@@ -65,10 +65,10 @@ fresh-bytes w d types version profile port m sound p first none =
     subst (Holds (memory_of w d) (plant_port types port)) same held
 
 -- a port that was
-kept-bytes : (w : World) (d : Description) (types : List NamedType) (version : ℕ) (profile : Profile) (port : Port) (was first : PortMemory) → IsSoundPlant w.plant
-    → IsSoundPlant (plant_of d) → IsSoundPort (plant_of d).ports (plant_port types port) → IsFirstPort types port version profile first
+kept-bytes : (w : World) (d : Description) (types : List NamedType) (version : ℕ) (manner : Manner) (port : Port) (was first : PortMemory) → IsSoundPlant w.plant
+    → IsSoundPlant (plant_of d) → IsSoundPort (plant_of d).ports (plant_port types port) → IsFirstPort types port version manner first
     → IsHeldAs w port.number was → Holds (memory_of w d) (plant_port types port) (with_kept was first).bytes
-kept-bytes w d types version profile port was first old sound p is_first held =
+kept-bytes w d types version manner port was first old sound p is_first held =
     let h = held.holds in
     let Q : PlantPort → Type 0 = λ q. IsSoundPort w.plant.ports q in
     let was_sound : IsSoundPort w.plant.ports (plant_port was.types h.port) = subst Q h.plant h.sound in
@@ -105,14 +105,14 @@ kept_version : (o : Option PortMemory) (m : PortMemory) → (after_reload o m).v
 kept_version None m = refl
 kept_version (Some was) m = refl
 
-kept_profile : (o : Option PortMemory) (m : PortMemory) → (after_reload o m).profile ≡ m.profile
-kept_profile None m = refl
-kept_profile (Some was) m = refl
+kept_manner : (o : Option PortMemory) (m : PortMemory) → (after_reload o m).manner ≡ m.manner
+kept_manner None m = refl
+kept_manner (Some was) m = refl
 
-reloaded-bytes : (w : World) (old : PortsMemory) (d : Description) (types : List NamedType) (version : ℕ) (profile : Profile) (port : Port) (first : PortMemory)
-    → HoldsPorts w old → IsSoundPlant (plant_of d) → IsSoundPort (plant_of d).ports (plant_port types port) → IsFirstPort types port version profile first
+reloaded-bytes : (w : World) (old : PortsMemory) (d : Description) (types : List NamedType) (version : ℕ) (manner : Manner) (port : Port) (first : PortMemory)
+    → HoldsPorts w old → IsSoundPlant (plant_of d) → IsSoundPort (plant_of d).ports (plant_port types port) → IsFirstPort types port version manner first
     → Holds (memory_of w d) (plant_port types port) (after_reload (memory_numbered port.number old.ports) first).bytes
-reloaded-bytes w old d types version profile port first h sound p is_first = by_port (memory_numbered port.number old.ports) refl
+reloaded-bytes w old d types version manner port first h sound p is_first = by_port (memory_numbered port.number old.ports) refl
   where
     none : (o : Option PlantPort) → HoldsFound w o None → o ≡ None
     none None f = refl
@@ -121,15 +121,15 @@ reloaded-bytes w old d types version profile port first h sound p is_first = by_
     by_port : (o : Option PortMemory) → memory_numbered port.number old.ports ≡ o → Holds (memory_of w d) (plant_port types port) (after_reload o first).bytes
     by_port None e =
         let found = subst (HoldsFound w (port_numbered port.number w.plant.ports)) e (found_is_held w old port.number h) in
-        fresh-bytes w d types version profile port first sound p is_first (none (port_numbered port.number w.plant.ports) found)
-    by_port (Some was) e = kept-bytes w d types version profile port was first h.plant_sound sound p is_first (held-as w old port.number was h e)
+        fresh-bytes w d types version manner port first sound p is_first (none (port_numbered port.number w.plant.ports) found)
+    by_port (Some was) e = kept-bytes w d types version manner port was first h.plant_sound sound p is_first (held-as w old port.number was h e)
 
 -- each port holds its port of the plant
-reloaded-holds : (w : World) (old : PortsMemory) (d : Description) (types : List NamedType) (version : ℕ) (profile : Profile) (port : Port) (m : PortMemory) → HoldsPorts w old
-    → IsSoundPlant (plant_of d) → d.types ≡ types → (w.version + 1) % 256 ≡ version → w.profile ≡ profile → IsSoundPort (plant_of d).ports (plant_port types port)
-    → IsReloadedPort old.ports types port version profile m → HoldsPort (world_after_reload w d) (plant_port types port) m
+reloaded-holds : (w : World) (old : PortsMemory) (d : Description) (types : List NamedType) (version : ℕ) (manner : Manner) (port : Port) (m : PortMemory) → HoldsPorts w old
+    → IsSoundPlant (plant_of d) → d.types ≡ types → (w.version + 1) % 256 ≡ version → w.profile.manner ≡ manner → IsSoundPort (plant_of d).ports (plant_port types port)
+    → IsReloadedPort old.ports types port version manner m → HoldsPort (world_after_reload w d) (plant_port types port) m
 unfolding world_after_reload
-reloaded-holds w old d types version profile port m h sound e v same p new =
+reloaded-holds w old d types version manner port m h sound e v same p new =
     let f = new.is_first in
     let o : Option PortMemory = memory_numbered port.number old.ports in
     let types_are : m.types ≡ types = ap (λ (x : PortMemory). x.types) new.is ∙ kept_types o new.first ∙ f.types_are in
@@ -143,38 +143,38 @@ reloaded-holds w old d types version profile port m h sound e v same p new =
       facts = ap (λ (x : PortMemory). x.facts) new.is ∙ kept_facts o new.first ∙ f.facts;
       types = types_are ∙ sym e;
       version = ap (λ (x : PortMemory). x.version) new.is ∙ kept_version o new.first ∙ f.version_is ∙ sym v;
-      profile = ap (λ (x : PortMemory). x.profile) new.is ∙ kept_profile o new.first ∙ f.profile_is ∙ sym same;
+      manner = ap (λ (x : PortMemory). x.manner) new.is ∙ kept_manner o new.first ∙ f.manner_is ∙ sym same;
       plant_sound = sound;
       sound = p;
       holds = subst (λ (x : PortMemory). Holds (memory_of w d) (plant_port types port) x.bytes) (sym new.is)
-          (reloaded-bytes w old d types version profile port new.first h sound p f);
+          (reloaded-bytes w old d types version manner port new.first h sound p f);
     }
 
-reloaded-each : (w : World) (old : PortsMemory) (d : Description) (types : List NamedType) (version : ℕ) (profile : Profile) (ps : List Port) (ms : List PortMemory)
+reloaded-each : (w : World) (old : PortsMemory) (d : Description) (types : List NamedType) (version : ℕ) (manner : Manner) (ps : List Port) (ms : List PortMemory)
     → HoldsPorts w old
-    → IsSoundPlant (plant_of d) → d.types ≡ types → (w.version + 1) % 256 ≡ version → w.profile ≡ profile → Each (IsSoundPort (plant_of d).ports) (map (plant_port types) ps)
-    → AreReloadedPorts old.ports types version profile ps ms → HoldEach (world_after_reload w d) (map (plant_port types) ps) ms
-reloaded-each w old d types version profile [] [] h sound e v same ports new = tt
-reloaded-each w old d types version profile [] (m ∷ ms) h sound e v same ports new = absurd new
-reloaded-each w old d types version profile (p ∷ ps) [] h sound e v same ports new = absurd new
-reloaded-each w old d types version profile (p ∷ ps) (m ∷ ms) h sound e v same ports new = (
-  reloaded-holds w old d types version profile p m h sound e v same (ports.0) (new.0),
-  reloaded-each w old d types version profile ps ms h sound e v same (ports.1) (new.1),
+    → IsSoundPlant (plant_of d) → d.types ≡ types → (w.version + 1) % 256 ≡ version → w.profile.manner ≡ manner → Each (IsSoundPort (plant_of d).ports) (map (plant_port types) ps)
+    → AreReloadedPorts old.ports types version manner ps ms → HoldEach (world_after_reload w d) (map (plant_port types) ps) ms
+reloaded-each w old d types version manner [] [] h sound e v same ports new = tt
+reloaded-each w old d types version manner [] (m ∷ ms) h sound e v same ports new = absurd new
+reloaded-each w old d types version manner (p ∷ ps) [] h sound e v same ports new = absurd new
+reloaded-each w old d types version manner (p ∷ ps) (m ∷ ms) h sound e v same ports new = (
+  reloaded-holds w old d types version manner p m h sound e v same (ports.0) (new.0),
+  reloaded-each w old d types version manner ps ms h sound e v same (ports.1) (new.1),
 )
 
-pub reloaded-ports-hold : (w : World) (old : PortsMemory) (d : Description) (types : List NamedType) (version : ℕ) (profile : Profile) (ms : List PortMemory) → HoldsPorts w old
-    → WasAccepted d → d.types ≡ types → (w.version + 1) % 256 ≡ version → w.profile ≡ profile → AreReloadedPorts old.ports types version profile d.ports ms
-    → HoldsPorts (world_after_reload w d) (record { types = types; version = version; profile = profile; ports = ms })
+pub reloaded-ports-hold : (w : World) (old : PortsMemory) (d : Description) (types : List NamedType) (version : ℕ) (manner : Manner) (ms : List PortMemory) → HoldsPorts w old
+    → WasAccepted d → d.types ≡ types → (w.version + 1) % 256 ≡ version → w.profile.manner ≡ manner → AreReloadedPorts old.ports types version manner d.ports ms
+    → HoldsPorts (world_after_reload w d) (record { types = types; version = version; manner = manner; ports = ms })
 unfolding world_after_reload
-reloaded-ports-hold w old d types version profile ms h was e v same new =
+reloaded-ports-hold w old d types version manner ms h was e v same new =
     let sound = accepted_are_sound d was.signals was.is in
     let P : List NamedType → Type 0 = λ ts. HoldEach (world_after_reload w d) (map (plant_port ts) d.ports) ms in
     let Q : List NamedType → Type 0 = λ ts. Each (IsSoundPort (plant_of d).ports) (map (plant_port ts) d.ports) in
     record {
       types = sym e;
       version = sym v;
-      profile = sym same;
+      manner = sym same;
       plant_sound = sound;
       apart = accepted_are_numbered_apart d was.signals was.is;
-      each = subst P (sym e) (reloaded-each w old d types version profile d.ports ms h sound e v same (subst Q e sound) new);
+      each = subst P (sym e) (reloaded-each w old d types version manner d.ports ms h sound e v same (subst Q e sound) new);
     }

@@ -207,7 +207,7 @@ port_after_tick w i p m apart there h =
       facts = h.facts;
       types = h.types;
       version = h.version;
-      profile = h.profile;
+      manner = h.manner;
       plant_sound = h.plant_sound;
       sound = h.sound;
       holds = stepped;
@@ -235,7 +235,7 @@ unfolding world_after_tick
 ports_after_tick w m h = record {
   types = h.types;
   version = h.version;
-  profile = h.profile;
+  manner = h.manner;
   plant_sound = h.plant_sound;
   apart = h.apart;
   each = each_after_tick w h.apart 0 w.plant.ports m.ports (λ i p g. let e : 0 + i ≡ i = omega arith in ap (slice_get w.plant.ports) e ∙ g) h.each;

@@ -8,7 +8,7 @@ use Rattle.spec_persistent.specs.Otherwise.{PortBeginsOtherwise}
 use Rattle.symbol_table.specs.Rows.{symbol_of_row}
 use Rattle.symbol_table.specs.Tables.{TableSymbol, IsTableOf}
 use Rattle.symbol_table.specs.declared.row.SymbolRow.{SymbolRow}
-use Rattle.spec_machine.specs.Profile.{Profile}
+use Rattle.spec_machine.specs.Manner.{Manner}
 use Rattle.spec_machine.specs.World.{RUN}
 use Rattle.spec_machine.specs.PortLaws.{IsFirstImage}
 use Rattle.port_device.specs.PortMemory.{PortMemory}
@@ -31,20 +31,20 @@ FitsSymbol sizes s = s.offset + length s.initial ≤ size_in sizes s.area
 abbrev pub FitsRow : Sizes → SymbolRow → Type 0
 FitsRow sizes r = FitsSymbol sizes (symbol_of_row r)
 
--- a port as it begins, with this symbol version and profile: it has its first bytes, and runs
-pub record IsFirstPort (types : List NamedType) (port : Port) (version : ℕ) (profile : Profile) (m : PortMemory) : Type 0 where
+-- a port as it begins, with this symbol version and manner: it has its first bytes, and runs
+pub record IsFirstPort (types : List NamedType) (port : Port) (version : ℕ) (manner : Manner) (m : PortMemory) : Type 0 where
   pub types_are : m.types ≡ types
   pub number : m.number ≡ port.number
   pub facts : m.facts ≡ port.facts
   pub version_is : m.version ≡ version
-  pub profile_is : m.profile ≡ profile
+  pub manner_is : m.manner ≡ manner
   pub table : IsTableOf types port m.table
   pub ads : m.bytes.ads ≡ RUN
   pub device : m.bytes.device ≡ 0
   pub image : IsFirstImage (plant_port types port) m.bytes.image
 
 -- each port of a list as it begins, in the same order
-abbrev pub AreFirstPorts : List NamedType → ℕ → Profile → List Port → List PortMemory → Type 0
-AreFirstPorts types version profile [] [] = Unit {0}
-AreFirstPorts types version profile (p ∷ ps) (m ∷ ms) = IsFirstPort types p version profile m × AreFirstPorts types version profile ps ms
-AreFirstPorts types version profile ps ms = ⊥
+abbrev pub AreFirstPorts : List NamedType → ℕ → Manner → List Port → List PortMemory → Type 0
+AreFirstPorts types version manner [] [] = Unit {0}
+AreFirstPorts types version manner (p ∷ ps) (m ∷ ms) = IsFirstPort types p version manner m × AreFirstPorts types version manner ps ms
+AreFirstPorts types version manner ps ms = ⊥

@@ -1,4 +1,4 @@
--- Which ports hold a world: the description, the version and the profile are the world's, and so are the bytes.
+-- Which ports hold a world: the description, the version and the manner are the world's, and so are the bytes.
 use Rattle.std.specs.Prelude.{◌≡◌, ℕ, List, [], ◌∷◌, Option, Some, None}
 use Rattle.spec_plant.specs.Description.{Port, Description}
 use Rattle.spec_plant.specs.Accepted.{IsAccepted}
@@ -20,7 +20,7 @@ pub record HoldsPort (w : World) (p : PlantPort) (m : PortMemory) : Type 0 where
   pub facts : m.facts ≡ port.facts
   pub types : m.types ≡ w.plant.types
   pub version : m.version ≡ w.version
-  pub profile : m.profile ≡ w.profile
+  pub manner : m.manner ≡ w.profile.manner
   pub plant_sound : IsSoundPlant w.plant
   pub sound : IsSoundPort w.plant.ports p
   pub holds : bytes.Holds w.memory p m.bytes
@@ -35,7 +35,7 @@ HoldEach w ps ms = ⊥
 pub record HoldsPorts (w : World) (m : PortsMemory) : Type 0 where
   pub types : m.types ≡ w.plant.types
   pub version : m.version ≡ w.version
-  pub profile : m.profile ≡ w.profile
+  pub manner : m.manner ≡ w.profile.manner
   pub plant_sound : IsSoundPlant w.plant
   pub apart : AreNumberedApart w.plant.ports
   pub each : HoldEach w w.plant.ports m.ports

@@ -1,4 +1,4 @@
-pub mod Profiles
+pub mod Manners
 pub mod PortMemory
 pub mod Holds
 pub mod Answers

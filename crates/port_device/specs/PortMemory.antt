@@ -1,9 +1,9 @@
--- A port as its device holds it: what the description says of it, the symbol version, the profile of
+-- A port as its device holds it: what the description says of it, the symbol version, the manner of
 -- its server, and its bytes; and all ports of a plant.
 use Rattle.std.specs.Prelude.{ℕ, List, [], ◌∷◌, ◌==◌, if◌then◌else◌, find, Option}
 use Rattle.spec_plant.specs.Listed.{NamedType}
 use Rattle.spec_plant.specs.Description.{Facts}
-use Rattle.spec_machine.specs.Profile.{Profile}
+use Rattle.spec_machine.specs.Manner.{Manner}
 use Rattle.spec_machine.specs.PortBytes.{PortBytes}
 use Rattle.symbol_table.specs.Tables.{SymbolTable}
 
@@ -13,14 +13,14 @@ pub record PortMemory : Type 0 where
   pub facts : Facts
   pub table : SymbolTable
   pub version : ℕ
-  pub profile : Profile
+  pub manner : Manner
   pub bytes : PortBytes
 
--- all ports of a plant, in the order of the description, with the types, the symbol version and the profile that they share
+-- all ports of a plant, in the order of the description, with the types, the symbol version and the manner that they share
 pub record PortsMemory : Type 0 where
   pub types : List NamedType
   pub version : ℕ
-  pub profile : Profile
+  pub manner : Manner
   pub ports : List PortMemory
 
 -- the port with a number

@@ -11,7 +11,7 @@ use Rattle.symbol_table.specs.Tables.{IsTableOf}
 use Rattle.port_device.specs.declared.port.Port.TheInside.{Inside}
 use Rattle.port_device.specs.declared.upload.UploadSizes.{UploadSizes}
 use Rattle.port_device.specs.Uploads.{AreUploadSizes, has_short_texts}
-use Rattle.port_device.specs.Profiles.{profile_of}
+use Rattle.port_device.specs.Manners.{manner_of}
 use Rattle.port_device.specs.PortMemory.{PortMemory}
 use Rattle.port_device.specs.Signals.{AreBound}
 use Rattle.port_device.specs.Marks.{AreMarks}
@@ -23,7 +23,7 @@ memory_in p = record {
   facts = facts_of p.facts;
   table = p.table;
   version = p.version;
-  profile = profile_of p.profile;
+  manner = manner_of p.manner;
   bytes = record { image = p.image; ads = p.ads; device = p.device };
 }
 

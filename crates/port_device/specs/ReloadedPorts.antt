@@ -2,7 +2,7 @@
 use Rattle.std.specs.Prelude.{◌≡◌, ℕ, List, [], ◌∷◌, map, length, Option, Some, None}
 use Rattle.spec_plant.specs.Listed.{NamedType}
 use Rattle.spec_plant.specs.Description.{Port}
-use Rattle.spec_machine.specs.Profile.{Profile}
+use Rattle.spec_machine.specs.Manner.{Manner}
 use Rattle.symbol_table.specs.Tables.{TableSymbol}
 use Rattle.port_device.specs.PortMemory.{PortMemory, memory_numbered}
 use Rattle.port_device.specs.PlacedBytes.{placed_symbol, with_all_bytes}
@@ -27,14 +27,14 @@ abbrev pub after_reload : Option PortMemory → PortMemory → PortMemory
 after_reload None m = m
 after_reload (Some was) m = with_kept was m
 
--- a port of a description with this symbol version and profile, where these were the old ports
-pub record IsReloadedPort (old : List PortMemory) (types : List NamedType) (port : Port) (version : ℕ) (profile : Profile) (m : PortMemory) : Type 0 where
+-- a port of a description with this symbol version and manner, where these were the old ports
+pub record IsReloadedPort (old : List PortMemory) (types : List NamedType) (port : Port) (version : ℕ) (manner : Manner) (m : PortMemory) : Type 0 where
   pub first : PortMemory
-  pub is_first : IsFirstPort types port version profile first
+  pub is_first : IsFirstPort types port version manner first
   pub is : m ≡ after_reload (memory_numbered port.number old) first
 
 -- each of a list, in the same order
-abbrev pub AreReloadedPorts : List PortMemory → List NamedType → ℕ → Profile → List Port → List PortMemory → Type 0
-AreReloadedPorts old types version profile [] [] = Unit {0}
-AreReloadedPorts old types version profile (p ∷ ps) (m ∷ ms) = IsReloadedPort old types p version profile m × AreReloadedPorts old types version profile ps ms
-AreReloadedPorts old types version profile ps ms = ⊥
+abbrev pub AreReloadedPorts : List PortMemory → List NamedType → ℕ → Manner → List Port → List PortMemory → Type 0
+AreReloadedPorts old types version manner [] [] = Unit {0}
+AreReloadedPorts old types version manner (p ∷ ps) (m ∷ ms) = IsReloadedPort old types p version manner m × AreReloadedPorts old types version manner ps ms
+AreReloadedPorts old types version manner ps ms = ⊥

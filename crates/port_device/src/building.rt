@@ -6,7 +6,7 @@ ghost use Rattle.type_layout.specs.Descriptions.{port_of, ports_of};
 ghost use Rattle.type_layout.specs.NamedTypes.{types_of};
 ghost use Rattle.type_layout.specs.declared.port.PortDesc.{PortDesc};
 ghost use Rattle.port_device.specs.Uploads.{types_upload};
-ghost use Rattle.port_device.specs.Profiles.{profile_of};
+ghost use Rattle.port_device.specs.Manners.{manner_of};
 ghost use Rattle.port_device.specs.FirstPorts.{IsOfAccepted, IsFirstPort, AreFirstPorts};
 
 use crate::bound::bound_symbols;
@@ -15,7 +15,7 @@ use crate::first_image::first_image;
 use crate::marks::marks_of;
 use crate::upload::UploadSizes;
 use crate::writing::RUN;
-use crate::{Port, Profile};
+use crate::{Manner, Port};
 use ads_base::NoMemory;
 use std::alloc::Global;
 use std::sync::Arc;
@@ -29,15 +29,15 @@ pub(crate) fn first_ports(
     types_len: u32,
     ports: &[PortDesc],
     version: u8,
-    profile: Profile,
+    manner: Manner,
 ) -> Result<Vec<Port>, NoMemory>
     requires each { All (λ (p : PortDesc). IsOfAccepted (types_of (arc_value types.now)) (port_of p)) ports.now }
     requires types_len { types_len ≡ length (types_upload (types_of (arc_value types.now))) }
-    ensures { IfOk result (λ built. AreFirstPorts (types_of (arc_value types.now)) version (profile_of profile) (ports_of ports.now) built.items) }
+    ensures { IfOk result (λ built. AreFirstPorts (types_of (arc_value types.now)) version (manner_of manner) (ports_of ports.now) built.items) }
 {
     let mut built = Vec::new(alloc);
     for d in ports {
-        let port = first_port(alloc, types, types_len, d, version, profile)?;
+        let port = first_port(alloc, types, types_len, d, version, manner)?;
         built.push(port)?;
     }
     Ok(built)
@@ -50,11 +50,11 @@ pub(crate) fn first_port(
     types_len: u32,
     d: &PortDesc,
     version: u8,
-    profile: Profile,
+    manner: Manner,
 ) -> Result<Port, NoMemory>
     requires accepted { IsOfAccepted (types_of (arc_value types.now)) (port_of d.now) }
     requires types_len { types_len ≡ length (types_upload (types_of (arc_value types.now))) }
-    ensures { IfOk result (IsFirstPort (types_of (arc_value types.now)) (port_of d.now) version (profile_of profile)) }
+    ensures { IfOk result (IsFirstPort (types_of (arc_value types.now)) (port_of d.now) version (manner_of manner)) }
 {
     let table = Table::build(alloc, d, types)?;
     let symbols = symbols_size(alloc, types, &table)?;
@@ -70,7 +70,7 @@ pub(crate) fn first_port(
         sizes: d.sizes,
         table,
         version,
-        profile,
+        manner,
         ads: RUN,
         device: 0,
         image,

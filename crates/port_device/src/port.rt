@@ -4,9 +4,9 @@ ghost use Rattle.std.specs.Prelude.{◌≡◌, ℕ};
 ghost use Rattle.ads_commands.specs.Reply.{facts_meant};
 ghost use Rattle.type_layout.specs.Descriptions.{sizes_of};
 ghost use Rattle.port_device.specs.PortMemory.{PortMemory};
-ghost use Rattle.port_device.specs.Profiles.{is_wide};
+ghost use Rattle.port_device.specs.Manners.{is_wide};
 
-use crate::Profile;
+use crate::Manner;
 use crate::upload::UploadSizes;
 use ads_commands::DeviceFacts;
 use process_image::Image;
@@ -16,7 +16,7 @@ use std::sync::Arc;
 use symbol_table::Table;
 use type_layout::{DeviceFacts4, Sizes, Types};
 
-/// A port of a plant. Contracts see what its description says of it, the symbol version, the profile of its server, and its
+/// A port of a plant. Contracts see what its description says of it, the symbol version, the manner of its server, and its
 /// bytes: the areas one behind another, and the two state words.
 #[derive(Drop)]
 pub struct Port {
@@ -26,7 +26,7 @@ pub struct Port {
     pub(crate) sizes: Sizes,
     pub(crate) table: Table,
     pub(crate) version: u8,
-    pub(crate) profile: Profile,
+    pub(crate) manner: Manner,
     pub(crate) ads: u16,
     pub(crate) device: u16,
     pub(crate) image: Image,
@@ -67,11 +67,11 @@ impl Port {
 
     /// Whether the server is the wide one, which no reload changes.
     pub fn is_wide(&self) -> bool
-        ensures { result ≡ is_wide self.now.profile }
+        ensures { result ≡ is_wide self.now.manner }
     {
-        match self.profile {
-            Profile::Strict => false,
-            Profile::Wide => true,
+        match self.manner {
+            Manner::Strict => false,
+            Manner::Wide => true,
         }
     }
 

@@ -1,33 +1,34 @@
 //! All ports of a plant.
 
-ghost use Rattle.std.specs.Prelude.{◌≡◌, ◌==◌, List, option_map, IfOk};
+ghost use Rattle.std.specs.Prelude.{◌≡◌, ◌==◌, List, Option, option_map, IfOk};
 ghost use Rattle.std.specs.Option.{option_copied};
 ghost use Rattle.std.specs.Borrow.{sem};
 ghost use Rattle.signals.specs.Wave.{Wave};
+ghost use Rattle.spec_plant.specs.Description.{Rights};
 ghost use Rattle.type_layout.specs.Descriptions.{description_of};
 ghost use Rattle.spec_machine.specs.World.{world_of, world_in};
 ghost use Rattle.port_device.specs.PortMemory.{memory_numbered};
 ghost use Rattle.port_device.specs.Holds.{HoldsPorts, MayBeBuilt};
 ghost use Rattle.port_device.specs.PlaceOfPort.{place_numbered};
-ghost use Rattle.port_device.specs.Profiles.{profile_of};
+ghost use Rattle.port_device.specs.Manners.{manner_of};
 
 use crate::building::first_ports;
 use crate::copying::shared_types;
 use crate::counting::types_size;
-use crate::{Port, Profile};
+use crate::{Manner, Port};
 use ads_base::NoMemory;
 use std::alloc::Global;
 use std::marker::Model;
 use std::sync::Arc;
 use type_layout::{Description, Types};
 
-/// The ports of a plant, in the order of the description. Contracts see the types, the symbol version and the profile, which
+/// The ports of a plant, in the order of the description. Contracts see the types, the symbol version and the manner, which
 /// they share, and each port.
 #[derive(Drop)]
 pub struct Ports {
     pub(crate) types: Arc<Types, Global>,
     pub(crate) version: u8,
-    pub(crate) profile: Profile,
+    pub(crate) manner: Manner,
     pub(crate) ports: Vec<Port>,
 }
 
@@ -54,23 +55,24 @@ impl Ports {
         requires { MayBeBuilt (description_of d.now) }
         ensures { IfOk result (λ ports. (signals : List Wave) → HoldsPorts (world_of (description_of d.now) signals) ports) }
     {
-        Ports::build_in(alloc, Profile::Strict, d)
+        let ports = Ports::build_in(alloc, Manner::Strict, d)?;
+        Ok(ports)
     }
 
-    /// The ports of an accepted description behind a server of this profile, with their first bytes, in state 5 (RUN) and
-    /// with symbol version 1. Persistent symbols may begin with other bytes than was accepted, as many as they have.
-    pub fn build_in(alloc: Global, profile: Profile, d: &Description) -> Result<Ports, NoMemory>
+    /// The ports of an accepted description behind a server of this manner, whatever right it gives to others, with their
+    /// first bytes, in state 5 (RUN) and with symbol version 1. Persistent symbols may begin with other bytes than was accepted, as many as they have.
+    pub fn build_in(alloc: Global, manner: Manner, d: &Description) -> Result<Ports, NoMemory>
         requires { MayBeBuilt (description_of d.now) }
-        ensures { IfOk result (λ ports. (signals : List Wave)
-            → HoldsPorts (world_in (profile_of profile) (description_of d.now) signals) ports) }
+        ensures { IfOk result (λ ports. (others : Option Rights) (signals : List Wave) → HoldsPorts
+            (world_in (record { manner = manner_of manner; others = others }) (description_of d.now) signals) ports) }
     {
         let types = shared_types(alloc, &d.types)?;
         let types_len = types_size(alloc, &types)?;
-        let ports = first_ports(alloc, &types, types_len, d.ports.as_slice(), 1, profile)?;
+        let ports = first_ports(alloc, &types, types_len, d.ports.as_slice(), 1, manner)?;
         Ok(Ports {
             types,
             version: 1,
-            profile,
+            manner,
             ports,
         })
     }

@@ -8,7 +8,7 @@ ghost use Rattle.spec_machine.specs.Reloads.{world_after_reload};
 ghost use Rattle.type_layout.specs.Descriptions.{description_of, port_of, ports_of};
 ghost use Rattle.type_layout.specs.NamedTypes.{types_of};
 ghost use Rattle.type_layout.specs.declared.port.PortDesc.{PortDesc};
-ghost use Rattle.port_device.specs.Profiles.{profile_of};
+ghost use Rattle.port_device.specs.Manners.{manner_of};
 ghost use Rattle.port_device.specs.FirstPorts.{IsOfAccepted};
 ghost use Rattle.port_device.specs.Holds.{HoldsPorts, WasAccepted};
 ghost use Rattle.port_device.specs.Moved.{HasTypes};
@@ -21,7 +21,7 @@ use crate::building::first_port;
 use crate::copying::shared_types;
 use crate::counting::types_size;
 use crate::kept::put_reloaded;
-use crate::{Port, Ports, Profile};
+use crate::{Manner, Port, Ports};
 use ads_base::NoMemory;
 use std::alloc::Global;
 use std::sync::Arc;
@@ -30,7 +30,7 @@ use type_layout::{Description, PortDesc, SameTypes, Types};
 impl Ports {
     /// The ports of an accepted description after its reload: symbols of the same name and type keep their bytes, ports that
     /// were there their state words, and all else begins anew. The symbol version rises by one, from 255 to 0, and the
-    /// server keeps its profile.
+    /// server keeps its manner.
     pub fn reload(&self, alloc: Global, d: &Description) -> Result<Ports, NoMemory>
         requires { WasAccepted (description_of d.now) }
         ensures { IfOk result (λ new. (w : World) → HoldsPorts w self.now
@@ -48,12 +48,12 @@ impl Ports {
             types_len,
             d.ports.as_slice(),
             version,
-            self.profile,
+            self.manner,
         )?;
         Ok(Ports {
             types,
             version,
-            profile: self.profile,
+            manner: self.manner,
             ports,
         })
     }
@@ -90,17 +90,17 @@ fn reloaded_ports(
     types_len: u32,
     ports: &[PortDesc],
     version: u8,
-    profile: Profile,
+    manner: Manner,
 ) -> Result<Vec<Port>, NoMemory>
     requires each { All (λ (p : PortDesc). IsOfAccepted (types_of (arc_value types.now)) (port_of p)) ports.now }
     requires types_len { types_len ≡ length (types_upload (types_of (arc_value types.now))) }
     ensures { IfOk result (λ built. (before : List NamedType) → AreCompared before (types_of (arc_value types.now)) same.now
         → All (HasTypes before) old.now.ports
-        → AreReloadedPorts old.now.ports (types_of (arc_value types.now)) version (profile_of profile) (ports_of ports.now) built.items) }
+        → AreReloadedPorts old.now.ports (types_of (arc_value types.now)) version (manner_of manner) (ports_of ports.now) built.items) }
 {
     let mut built = Vec::new(alloc);
     for d in ports {
-        let port = reloaded_port(alloc, old, same, types, types_len, d, version, profile)?;
+        let port = reloaded_port(alloc, old, same, types, types_len, d, version, manner)?;
         built.push(port)?;
     }
     Ok(built)
@@ -115,15 +115,15 @@ fn reloaded_port(
     types_len: u32,
     d: &PortDesc,
     version: u8,
-    profile: Profile,
+    manner: Manner,
 ) -> Result<Port, NoMemory>
     requires accepted { IsOfAccepted (types_of (arc_value types.now)) (port_of d.now) }
     requires types_len { types_len ≡ length (types_upload (types_of (arc_value types.now))) }
     ensures { IfOk result (λ m. (before : List NamedType) → AreCompared before (types_of (arc_value types.now)) same.now
         → All (HasTypes before) old.now.ports
-        → IsReloadedPort old.now.ports (types_of (arc_value types.now)) (port_of d.now) version (profile_of profile) m) }
+        → IsReloadedPort old.now.ports (types_of (arc_value types.now)) (port_of d.now) version (manner_of manner) m) }
 {
-    let mut port = first_port(alloc, types, types_len, d, version, profile)?;
+    let mut port = first_port(alloc, types, types_len, d, version, manner)?;
     old.keep_in(alloc, d.port, &mut port, same)?;
     Ok(port)
 }

@@ -44,11 +44,6 @@ ReadsBoth status.StoreLimit old new description script = ReadsAll old new (descr
 ReadsBoth status.Memory old new description script = ReadsSome old new (description ∷ script ∷ [])
 ReadsBoth s old new description script = ReadsOneOrBoth old new description script
 
--- the script, behind a description that was read
-abbrev pub ReadsScript : Status → Names → Names → List ℕ → Type 0
-ReadsScript (status.BadDescription n item) old new script = new ≡ old
-ReadsScript s old new script = ReadsAll old new (script ∷ [])
-
 -- the files that a run of a task has read, which ended so
 abbrev pub ReadsFilesOf : FileTask → Status → Names → Names → Type 0
 ReadsFilesOf (file_task.Selftest script) s old new = ReadsOne s old new script

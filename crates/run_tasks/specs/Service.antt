@@ -8,7 +8,7 @@ use Rattle.ads_outside.specs.declared.moves.Move.{Move}
 use Rattle.spec_plant.specs.Description.{Description}
 use Rattle.spec_machine.specs.Client.{Client}
 use Rattle.spec_machine.specs.MachineState.{MachineState}
-use Rattle.spec_machine.specs.Profile.{Profile, Strict}
+use Rattle.spec_machine.specs.Profile.{Profile, strict}
 use Rattle.spec_machine.specs.Summary.{summary_of}
 use Rattle.spec_machine.specs.SummaryText.{summary_text_of}
 use Rattle.spec_machine.specs.World.{World}
@@ -30,9 +30,9 @@ pub data ServedMachine : Type 0 where
 abbrev pub server_with_in : Profile → List Wave → Description → ServedMachine
 server_with_in profile waves d = OfServer profile d waves
 
--- the strict one
+-- the strict one, without a right for others
 abbrev pub server_with : List Wave → Description → ServedMachine
-server_with waves d = server_with_in Strict waves d
+server_with waves d = server_with_in strict waves d
 
 pub record Service : Type 0 where
   -- what the wire is started with: where it listens, the name of the description's file, and its bytes

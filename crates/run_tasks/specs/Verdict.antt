@@ -6,7 +6,7 @@ use Rattle.ads_outside.specs.Limit.{file_limit}
 use Rattle.ads_outside.specs.Named.{bytes_of}
 use Rattle.signals.specs.Wave.{Wave}
 use Rattle.spec_plant.specs.Description.{Description}
-use Rattle.spec_machine.specs.Profile.{Profile, Strict}
+use Rattle.spec_machine.specs.Profile.{Profile, strict}
 use Rattle.spec_machine.specs.ScriptLine.{ScriptLine}
 use Rattle.spec_rules.specs.TextVerdict.{TextVerdict, Described, Breaks, NoDocument, text_verdict}
 use Rattle.spec_relay.specs.RelayState.{relay_start}
@@ -140,9 +140,9 @@ abbrev pub verdict_of_serve_in : Profile → List Wave → List ℕ → List ℕ
 verdict_of_serve_in profile waves name listen limit bytes =
     verdict_of_service (length waves) (server_with_in profile waves) name listen limit bytes
 
--- the program `ads` serves the strict one
+-- the program `ads` serves the strict one, without a right for others
 abbrev pub verdict_of_serve : List Wave → List ℕ → List ℕ → ℕ → List ℕ → Verdict
-verdict_of_serve waves name listen limit bytes = verdict_of_serve_in Strict waves name listen limit bytes
+verdict_of_serve waves name listen limit bytes = verdict_of_serve_in strict waves name listen limit bytes
 
 -- the verdict on a task that asks its files alone. The files are those at the first reading and those at the second.
 abbrev pub verdict_of_file_task : List Wave → FileTask → List NamedFile → List NamedFile → Verdict

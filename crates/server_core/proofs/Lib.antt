@@ -6,6 +6,7 @@ pub mod ProduceLemmas
 pub mod EntryLemmas
 pub mod StandLemmas
 pub mod ServeLemmas
+mod AddressLemmas
 pub mod TakingLemmas
 pub mod OfferLemmas
 pub mod TouchedLemmas

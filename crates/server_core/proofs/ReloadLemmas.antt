@@ -25,11 +25,11 @@ use Rattle.std.specs.declared.hash.BuildHasherDefault.{BuildHasherDefault}
 use Rattle.std.specs.HashMap.{HashMap}
 use Rattle.spec_plant.specs.Rights.{rights_of}
 use Rattle.spec_plant.specs.World.{Plant, plant_of}
+use Rattle.spec_machine.specs.Profile.{Profile}
 use Rattle.spec_machine.specs.NumberedPlaces.{AreKeptSymbols}
 use Rattle.port_device.specs.Holds.{HoldsPorts}
 use Rattle.port_device.specs.KeptSymbols.{kept_symbols_of}
 use Rattle.port_device.specs.PortMemory.{PortsMemory}
-use Rattle.session.specs.Takes.{HasAddress}
 use Rattle.symbol_table.specs.declared.kept.KeptPlace.{KeptPlace}
 use Rattle.server_core.specs.declared.device.Device.{Device}
 use Rattle.server_core.specs.declared.turned.Turned.{Turned}
@@ -186,10 +186,14 @@ can_tell v ports moves d ts serving reloads kept same =
     (moved_between w z v.device.ports ports moves s.device.world.ports (reloads w s.device.world.ports) kept)
     s.aligned s.connections.each)
 
--- the plant of a description, and the signals as before
+-- the plant of a description, the profile and the signals as before
 reload_plant : (w : World) (d : Description) → (world_after_reload w d).plant ≡ plant_of d
 unfolding world_after_reload
 reload_plant w d = refl
+
+reload_profile : (w : World) (d : Description) → (world_after_reload w d).profile ≡ w.profile
+unfolding world_after_reload
+reload_profile w d = refl
 
 reload_signals : (w : World) (d : Description) → (world_after_reload w d).signals ≡ w.signals
 unfolding world_after_reload
@@ -199,7 +203,8 @@ reload_signals w d = refl
 pub record ReloadsDevice (old new : Device) (d : Description) : Type 0 where
   pub ports : (w : World) → HoldsPorts w old.ports → HoldsPorts (world_after_reload w d) new.ports
   pub net : new.net.bytes ≡ d.net
-  pub routes : (n : List ℕ) → rights_of n new.routes ≡ rights_of n d.routes
+  pub routes : (n : List ℕ) → rights_of n new.admission.routes ≡ rights_of n d.routes
+  pub others : new.admission.others ≡ old.admission.others
   pub signals : new.signals ≡ old.signals
   pub moment : new.moment ≡ old.moment
 
@@ -210,8 +215,11 @@ reloaded_device old new waves d x reloads held =
     record {
       world = record {
         ports = reloads.ports w held.world.ports;
-        address = subst (λ (p : Plant). HasAddress p new.net.bytes new.routes)
-            (sym (reload_plant w d)) (record { net_is = sym reloads.net; routes_are = reloads.routes });
+        address = record {
+          net_is = ap (λ (p : Plant). p.net) (reload_plant w d) ∙ sym reloads.net;
+          routes_are = λ n. reloads.routes n ∙ sym (ap (λ (p : Plant). rights_of n p.routes) (reload_plant w d));
+          others_are = reloads.others ∙ held.world.address.others_are ∙ sym (ap (λ (p : Profile). p.others) (reload_profile w d));
+        };
       };
       signals = reload_signals w d ∙ held.signals;
       count = reloads.signals ∙ held.count;

@@ -5,8 +5,6 @@ use Rattle.std.proofs.lemmas.List.{take-append-le, take_all}
 use Rattle.std.proofs.lemmas.Bool.{cond-true, cond-false, or_left, or_from}
 use Rattle.spec_frames.specs.Frame.{frame_bytes}
 use Rattle.spec_frames.specs.Division.{front_of, frames_of, rest_of, is_broken}
-use Rattle.ads_base.specs.declared.net_id.NetId.{NetId}
-use Rattle.spec_plant.specs.Description.{Route}
 use Rattle.spec_plant.specs.World.{Plant}
 use Rattle.spec_machine.specs.Device.{Answer, Answered, Silent, Closing, Reply}
 use Rattle.spec_machine.specs.Connection.{with_closing, produce, is_deaf}
@@ -21,7 +19,7 @@ use Rattle.ams_tcp.specs.declared.cut.Cut.TheVariants as cut
 use Rattle.port_device.specs.Holds.{HoldsPorts}
 use Rattle.session.specs.SessionState.{SessionState}
 use Rattle.session.specs.StandsFor.{StandsFor}
-use Rattle.session.specs.Takes.{Takes as TakesPacket, outcome_of_packet, HasAddress, IsAnswer}
+use Rattle.session.specs.Takes.{Takes as TakesPacket, outcome_of_packet, IsAnswer}
 use Rattle.session.specs.declared.taken.Taken.{Taken}
 use Rattle.port_device.specs.PortMemory.{PortsMemory}
 use Rattle.session.specs.declared.taken.Taken.TheVariants as taken
@@ -35,6 +33,7 @@ use Rattle.server_core.specs.Counts.{Counts, replies_of, samples_of}
 use Rattle.server_core.specs.ConnStands.{history_of, Stands, Goes}
 use Rattle.server_core.specs.HoldsWorld.{HoldsWorld, IsConnected}
 use Rattle.server_core.specs.Taking.{answered, settled, Takes, TakesSome, Produces}
+use Rattle.server_core.proofs.AddressLemmas.{same_address}
 use Rattle.server_core.proofs.CountLemmas.{same_count, same_counts, then_counts, one_more}
 use Rattle.spec_connections.proofs.StreamLemmas.{packet_is_next, rest_is_open, rest_is_broken, after_frame, own_mark}
 use Rattle.server_core.proofs.ProduceLemmas.{SameStream, produce-stream, counts_closing, stands_with_closing}
@@ -47,11 +46,12 @@ take_is w c packet = refl
 -- a packet changes neither the plant nor a signal
 pub record KeepsPlant (w v : World) : Type 0 where
   pub plant : v.plant ≡ w.plant
+  pub profile : v.profile ≡ w.profile
   pub signals : v.signals ≡ w.signals
 
 pub take_keeps : (w : World) (c : Client) (packet : List ℕ) → KeepsPlant w (served.take w c packet).world
 unfolding served performed
-take_keeps w c packet = record { plant = refl; signals = refl }
+take_keeps w c packet = record { plant = refl; profile = refl; signals = refl }
 
 -- an exchange behind its frame
 abbrev pub with_one : ServedExchange → ServedExchange
@@ -208,14 +208,13 @@ took_packet w c packet answer ports s took = subst (λ o. TakesPacket o answer p
 
 -- the world that the device holds after a packet
 pub held_after : (old new : Device) (w : World) (c : Client) (packet : List ℕ) (held : HoldsWorld old w)
-    → HoldsPorts (served.take w c packet).world new.ports → new.net ≡ old.net → new.routes ≡ old.routes → HoldsWorld new (served.take w c packet).world
-held_after old new w c packet held ports net routes =
+    → HoldsPorts (served.take w c packet).world new.ports → new.net ≡ old.net → new.admission ≡ old.admission → HoldsWorld new (served.take w c packet).world
+held_after old new w c packet held ports net admission =
     let keeps = take_keeps w c packet in
     record {
       ports = ports;
-      address = subst (λ (p : Plant). HasAddress p new.net.bytes new.routes) (sym keeps.plant)
-          (subst (λ (n : NetId). HasAddress w.plant n.bytes new.routes) (sym net)
-          (subst (λ (rs : List Route). HasAddress w.plant old.net.bytes rs) (sym routes) held.address));
+      address = same_address w (served.take w c packet).world old.net new.net old.admission new.admission keeps.plant keeps.profile net admission
+          held.address;
     }
 
 -- the client that the session stands for, over the plant that is as before
@@ -225,13 +224,13 @@ pub stands_after : (w : World) (c : Client) (packet : List ℕ) (s : SessionStat
 stands_after w c packet s stands = subst (λ (p : Plant). StandsFor p (served.take w c packet).client s) (take_keeps w c packet).plant stands
 
 pub connected_after : (old new : Device) (s t : SessionState) (packet : List ℕ) (k : IsConnected old s) (answer : Taken)
-    → TakesPacket (outcome_of_packet k.world k.client packet) answer new.ports t → new.net ≡ old.net → new.routes ≡ old.routes → IsConnected new t
-connected_after old new s t packet k answer took net routes =
+    → TakesPacket (outcome_of_packet k.world k.client packet) answer new.ports t → new.net ≡ old.net → new.admission ≡ old.admission → IsConnected new t
+connected_after old new s t packet k answer took net admission =
     let takes = took_packet k.world k.client packet answer new.ports t took in
     record {
       world = (served.take k.world k.client packet).world;
       client = (served.take k.world k.client packet).client;
-      held = held_after old new k.world k.client packet k.held takes.held net routes;
+      held = held_after old new k.world k.client packet k.held takes.held net admission;
       stands = takes.stands;
     }
 

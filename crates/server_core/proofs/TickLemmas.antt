@@ -5,8 +5,6 @@ use Rattle.std.proofs.lemmas.List.{length-map}
 use Rattle.signals.specs.Wave.{Wave, wave_after_step}
 use Rattle.ads_outside.specs.declared.event.Event.TheVariants as event
 use Rattle.spec_plant.specs.World.{Plant}
-use Rattle.spec_plant.specs.Description.{Route}
-use Rattle.ads_base.specs.declared.net_id.NetId.{NetId}
 use Rattle.spec_machine.specs.Events.{state_after_event, connection_after_tick}
 use Rattle.spec_machine.specs.Moves.{state_after_move}
 use Rattle.spec_machine.specs.Ticks.{world_after_tick, client_after_tick}
@@ -14,7 +12,6 @@ use Rattle.port_device.specs.Holds.{HoldsPorts}
 use Rattle.port_device.specs.PortMemory.{PortsMemory}
 use Rattle.session.specs.Served.{IsServed}
 use Rattle.session.specs.StandsFor.{StandsFor}
-use Rattle.session.specs.Takes.{HasAddress}
 use Rattle.server_core.specs.declared.clients.Clients.{Clients}
 use Rattle.server_core.specs.declared.device.Device.{Device}
 use Rattle.server_core.specs.declared.turned.Turned.{Turned}
@@ -28,6 +25,7 @@ use Rattle.server_core.specs.Served.{served, World, ServedConnection, ServedStat
 use Rattle.server_core.specs.ServerView.{ServerView}
 use Rattle.server_core.specs.Serves.{EachStands, ServesEach, ServesSome, FollowsEach}
 use Rattle.spec_connections.specs.Present.{present}
+use Rattle.server_core.proofs.AddressLemmas.{same_address}
 use Rattle.server_core.proofs.AskedLemmas.{all_follow, counted_all}
 
 -- what holds of the first and of the others
@@ -52,10 +50,14 @@ served_each plant w ports (t ∷ ts) (f ∷ fs) (p ∷ ps) held same e each =
     })
     (served_each plant w ports ts fs ps held same (omega (arith, e)) each.1)
 
--- a tick keeps the plant, and steps each signal
+-- a tick keeps the plant and the profile, and steps each signal
 pub tick_plant : (w : World) → (world_after_tick w).plant ≡ w.plant
 unfolding world_after_tick
 tick_plant w = refl
+
+tick_profile : (w : World) → (world_after_tick w).profile ≡ w.profile
+unfolding world_after_tick
+tick_profile w = refl
 
 pub tick_signals : (w : World) → (world_after_tick w).signals ≡ map wave_after_step w.signals
 unfolding world_after_tick
@@ -76,7 +78,7 @@ tick_is t x = refl
 -- the device after a tick
 pub record TicksDevice (old new : Device) (waves : List Wave) (t : ℕ) : Type 0 where
   pub net : new.net ≡ old.net
-  pub routes : new.routes ≡ old.routes
+  pub admission : new.admission ≡ old.admission
   pub signals : new.signals ≡ old.signals
   pub moment : new.moment ≡ max old.moment t
   pub ports : (w : World) → HoldsPorts w old.ports → w.signals ≡ waves → HoldsPorts (world_after_tick w) new.ports
@@ -93,9 +95,8 @@ ticked_device old new waves ws t x ticks steps held =
     record {
       world = record {
         ports = ticked_ports old new waves t x.state ticks held;
-        address = subst (λ (p : Plant). HasAddress p new.net.bytes new.routes) (sym (tick_plant w))
-            (subst (λ (n : NetId). HasAddress w.plant n.bytes new.routes) (sym ticks.net)
-            (subst (λ (rs : List Route). HasAddress w.plant old.net.bytes rs) (sym ticks.routes) held.world.address));
+        address = same_address w (world_after_tick w) old.net new.net old.admission new.admission (tick_plant w) (tick_profile w) ticks.net
+            ticks.admission held.world.address;
       };
       signals = tick_signals w ∙ ap (map wave_after_step) held.signals ∙ sym steps;
       count = ticks.signals ∙ held.count ∙ sym (ap (λ (vs : List Wave). length vs) steps ∙ length-map waves wave_after_step);

@@ -5,7 +5,7 @@ use Rattle.ads_outside.specs.declared.event.Event.{Event}
 use Rattle.ads_outside.specs.declared.moves.Move.{Move}
 use Rattle.ads_outside.specs.declared.moves.Move.TheVariants as move
 use Rattle.spec_plant.specs.Description.{Description}
-use Rattle.spec_machine.specs.Profile.{Profile, Strict}
+use Rattle.spec_machine.specs.Profile.{Profile, strict}
 use Rattle.spec_machine.specs.Running.{Running, running_after}
 pub use Rattle.spec_machine.specs.Running.{OpensNew, offer_at, is_to_be_shut, is_to_be_shut_at}
 use Rattle.spec_server.specs.Server.{server_start_in}
@@ -19,9 +19,9 @@ CoreState = Running World Client
 abbrev pub started_in : Profile → Description → List Wave → CoreState
 started_in profile description signals = record { state = server_start_in profile description signals; blocked = [] }
 
--- the same of the strict server
+-- the same of the strict server, without a right for others
 abbrev pub started : Description → List Wave → CoreState
-started description signals = started_in Strict description signals
+started description signals = started_in strict description signals
 
 abbrev pub after_move : CoreState → Move → CoreState
 after_move x m = running_after served_step x m

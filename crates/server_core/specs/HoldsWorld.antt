@@ -1,4 +1,5 @@
--- The device of a core holds a world: its ports hold the bytes, and its NetId and routes are those of the plant.
+-- The device of a core holds a world: its ports hold the bytes, its NetId and routes are those of the plant, and its right of
+-- others is that of the profile.
 use Rattle.std.specs.Prelude.{◌≡◌, ◌<◌, ◌^◌, List, length}
 use Rattle.signals.specs.Wave.{Wave}
 use Rattle.port_device.specs.Holds.{HoldsPorts}
@@ -10,7 +11,7 @@ use Rattle.server_core.specs.Served.{World, Client, ServedState}
 
 pub record HoldsWorld (d : Device) (w : World) : Type 0 where
   pub ports : HoldsPorts w d.ports
-  pub address : HasAddress w.plant d.net.bytes d.routes
+  pub address : HasAddress w d.net.bytes d.admission
 
 -- with its signals and the last moment
 pub record HoldsState (d : Device) (waves : List Wave) (s : ServedState) : Type 0 where

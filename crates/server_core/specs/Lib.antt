@@ -3,6 +3,7 @@ pub mod Counts
 pub mod Conns
 pub mod Entries
 pub mod ServerView
+pub mod Profiles
 pub mod HoldsWorld
 pub mod ConnStands
 pub mod Taking

@@ -43,7 +43,7 @@ pub record Produces (plant : Plant) (new : Conn) (old_counts new_counts : Summar
 -- only the ports of the device are others
 pub record KeepsDevice (old new : Device) : Type 0 where
   pub net : new.net ≡ old.net
-  pub routes : new.routes ≡ old.routes
+  pub admission : new.admission ≡ old.admission
   pub signals : new.signals ≡ old.signals
   pub moment : new.moment ≡ old.moment
 

@@ -4,12 +4,13 @@ ghost use Rattle.std.specs.Prelude.{◌≡◌, ◌<◌, ◌^◌, List, length, I
 ghost use Rattle.signals.specs.Wave.{Wave};
 ghost use Rattle.spec_persistent.specs.Otherwise.{MayBegin};
 ghost use Rattle.spec_server.specs.Server.{server_start_in};
-ghost use Rattle.port_device.specs.Profiles.{profile_of};
 ghost use Rattle.type_layout.specs.Descriptions.{description_of};
+ghost use Rattle.server_core.specs.Profiles.{profile_of};
 
+use crate::Profile;
 use ads_base::{NetId, NoMemory};
-use net_routes::Routes;
-use port_device::{Ports, Profile};
+use net_routes::Admission;
+use port_device::Ports;
 use std::alloc::Global;
 use type_layout::Description;
 
@@ -17,7 +18,7 @@ use type_layout::Description;
 #[derive(Drop)]
 pub(crate) struct Device {
     pub(crate) net: NetId,
-    pub(crate) routes: Routes,
+    pub(crate) admission: Admission,
     pub(crate) ports: Ports,
     // How many signals there are.
     pub(crate) signals: u32,
@@ -41,8 +42,8 @@ impl Device {
     {
         Ok(Device {
             net: d.net,
-            routes: Routes::build(alloc, &d.routes)?,
-            ports: Ports::build_in(alloc, profile, d)?,
+            admission: Admission::build(alloc, &d.routes, profile.others)?,
+            ports: Ports::build_in(alloc, profile.manner, d)?,
             signals,
             moment: 0,
         })

@@ -13,11 +13,11 @@ ghost use Rattle.spec_machine.specs.RunText.{notes_of_event};
 ghost use Rattle.spec_machine.specs.Summary.{summary_of};
 ghost use Rattle.out_queue.specs.Queue.{QUEUE_LIMIT};
 ghost use Rattle.port_device.specs.Holds.{HoldsPorts};
-ghost use Rattle.port_device.specs.Profiles.{profile_of};
 ghost use Rattle.ads_served.specs.Due.{is_due, IsRun};
 ghost use Rattle.server_core.specs.Counts.{counts_in};
 ghost use Rattle.server_core.specs.CoreState.{CoreState, started, started_in, after_event, after_move, after_moves, OpensNew};
 ghost use Rattle.server_core.specs.CoreState.{offer_at, is_to_be_shut_at};
+ghost use Rattle.server_core.specs.Profiles.{profile_of};
 ghost use Rattle.server_core.specs.Served.{served};
 ghost use Rattle.server_core.specs.Outcomes.{outcome_of};
 ghost use Rattle.server_core.specs.Serves.{Serves, HasCounts, Follows, HasFailed, offer_in, run_in, offers_in, FitsOffer};
@@ -27,11 +27,10 @@ use crate::device::Device;
 use crate::events::take_event;
 use crate::server::Server;
 use crate::sources::Sources;
-use crate::{Outcome, Summary};
+use crate::{Outcome, Profile, Summary};
 use ads_base::{ListOf, NoMemory};
 use ads_outside::{Event, ReloadNotes};
-use net_routes::Routes;
-use port_device::{Ports, Profile};
+use port_device::{Manner, Ports};
 use std::alloc::Global;
 use std::marker::Model;
 use std::thread::Threads;
@@ -68,7 +67,11 @@ impl<S: Sources> Core<S> {
         ensures counted { IfOk result (λ core. HasCounts core (started (description_of d) (S.waves signals))) }
         ensures notes { IfOk result (λ core. core.server.notes ≡ []) }
     {
-        Core::build_in(alloc, Profile::Strict, d, signals)
+        let profile = Profile {
+            manner: Manner::Strict,
+            others: None,
+        };
+        Core::build_in(alloc, profile, d, signals)
     }
 
     /// The core of an accepted description and its signals behind a server of this profile, without a connection. Persistent

@@ -17,7 +17,7 @@ use crate::telling::tell_all;
 use crate::touched::Touched;
 use ads_base::NoMemory;
 use ads_outside::ReloadNote;
-use net_routes::Routes;
+use net_routes::Admission;
 use std::alloc::Global;
 use symbol_file::{DescFault, read};
 use type_layout::Description;
@@ -53,14 +53,15 @@ impl Server {
     {
         let ports = self.device.ports.reload(alloc, d)?;
         let moves = self.device.ports.moves(alloc, &ports)?;
-        let routes = Routes::build(alloc, &d.routes)?;
+        let others = self.device.admission.others();
+        let admission = Admission::build(alloc, &d.routes, others)?;
         self.clients.touched = Touched::All;
         let sessions = self.clients.sessions.as_mut_slice();
         tell_all(alloc, sessions, &moves, self.device.net, self.device.moment)?;
         let version = ports.version();
         self.device = Device {
             net: d.net,
-            routes,
+            admission,
             ports,
             signals: self.device.signals,
             moment: self.device.moment,

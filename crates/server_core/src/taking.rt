@@ -141,7 +141,7 @@ fn answer(
     match turned.session.take_onto(
         alloc,
         &mut device.ports,
-        &device.routes,
+        &device.admission,
         device.net,
         packet,
         &mut queue.bytes,

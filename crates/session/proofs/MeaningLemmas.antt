@@ -10,55 +10,55 @@ use Rattle.spec_plant.specs.World.{PlantPort}
 use Rattle.spec_plant.specs.Finding.{Found, found_of}
 use Rattle.spec_formats.specs.Groups.{Group, HandleByName, ValueByHandle, ValueByName, InfoByName, ExtendedInfoByName, group_of}
 use Rattle.spec_formats.specs.Request.{Request, Read, ReadWrite}
-use Rattle.spec_machine.specs.Profile.{Profile, Strict, Wide}
+use Rattle.spec_machine.specs.Manner.{Manner, Strict, Wide}
 use Rattle.spec_machine.specs.World.{World}
 use Rattle.spec_machine.specs.Answers.{if_answered, answered_group, READ, READ_WRITE}
 use Rattle.spec_machine.specs.Client as client
 use Rattle.spec_machine.specs.Handles.{HandleStatus, Never, Released, Outdated, Live, kept_status}
 use Rattle.spec_machine.specs.ByName.{place_of}
 use Rattle.spec_machine.specs.Meanings.{len_by_status, len_by_handle, read_len_in, len_found, len_by_name, behind_stop, meant_name, name_by_group}
-use Rattle.spec_machine.specs.Meanings.{without_context, mode_in, meant_by}
+use Rattle.spec_machine.specs.Meanings.{without_context, name_in, mode_in, by_name}
 use Rattle.spec_machine.specs.Requests.{act_of}
 use Rattle.spec_machine.proofs.Meanings.{meant-strict}
 use Rattle.symbol_table.specs.declared.place.Place.{Place}
 use Rattle.sym_handles.specs.Kept.{Kept}
 use Rattle.port_device.specs.Answers.{AnswersAct, FindsPlace}
 use Rattle.port_device.specs.PortMemory.{PortMemory}
-use Rattle.port_device.specs.Profiles.{is_wide}
+use Rattle.port_device.specs.Manners.{is_wide}
 use Rattle.port_device.proofs.PlaceLemmas.{named_len}
 use Rattle.session.specs.Asking.{Asking, act_asked, plain_asked, meant_in, after_act, asking_after}
 use Rattle.session.specs.Asks.{Asks, LooksUp}
 use Rattle.session.specs.HandleGroups.{is_value_by_handle, is_value_by_name, takes_name}
 
--- the profile that a port tells
+-- the manner that a port tells
 
-wide_is : (x : Profile) → is_wide x ≡ true → Wide ≡ x
+wide_is : (x : Manner) → is_wide x ≡ true → Wide ≡ x
 wide_is Strict t = absurd (false≢true t)
 wide_is Wide t = refl
 
-strict_is : (x : Profile) → is_wide x ≡ false → Strict ≡ x
+strict_is : (x : Manner) → is_wide x ≡ false → Strict ≡ x
 strict_is Strict f = refl
 strict_is Wide f = absurd (false≢true (sym f))
 
-wide-world : (a : Asking) (m : PortMemory) (kept : Kept) → Asks a m kept → is_wide m.profile ≡ true → Wide ≡ a.world.profile
-wide-world a m kept asks t = wide_is m.profile t ∙ asks.held.profile
+wide-world : (a : Asking) (m : PortMemory) (kept : Kept) → Asks a m kept → is_wide m.manner ≡ true → Wide ≡ a.world.profile.manner
+wide-world a m kept asks t = wide_is m.manner t ∙ asks.held.manner
 
-strict-world : (a : Asking) (m : PortMemory) (kept : Kept) → Asks a m kept → is_wide m.profile ≡ false → Strict ≡ a.world.profile
-strict-world a m kept asks f = strict_is m.profile f ∙ asks.held.profile
+strict-world : (a : Asking) (m : PortMemory) (kept : Kept) → Asks a m kept → is_wide m.manner ≡ false → Strict ≡ a.world.profile.manner
+strict-world a m kept asks f = strict_is m.manner f ∙ asks.held.manner
 
 -- a length by a handle
 
-pub read-strict : (a : Asking) (m : PortMemory) (kept : Kept) (group offset len : ℕ) → Asks a m kept → is_wide m.profile ≡ false
-    → len ≡ read_len_in a.world.profile a.client a.asker.port (answered_group READ group) offset len
+pub read-strict : (a : Asking) (m : PortMemory) (kept : Kept) (group offset len : ℕ) → Asks a m kept → is_wide m.manner ≡ false
+    → len ≡ read_len_in a.world.profile.manner a.client a.asker.port (answered_group READ group) offset len
 read-strict a m kept group offset len asks f =
-    let P : Profile → Type 0 = λ x. len ≡ read_len_in x a.client a.asker.port (answered_group READ group) offset len in
+    let P : Manner → Type 0 = λ x. len ≡ read_len_in x a.client a.asker.port (answered_group READ group) offset len in
     subst P (strict-world a m kept asks f) refl
 
-pub read-wide : (a : Asking) (m : PortMemory) (kept : Kept) (group offset len n : ℕ) → Asks a m kept → is_wide m.profile ≡ true
+pub read-wide : (a : Asking) (m : PortMemory) (kept : Kept) (group offset len n : ℕ) → Asks a m kept → is_wide m.manner ≡ true
     → n ≡ len_by_handle a.client a.asker.port (answered_group READ group) offset len
-    → n ≡ read_len_in a.world.profile a.client a.asker.port (answered_group READ group) offset len
+    → n ≡ read_len_in a.world.profile.manner a.client a.asker.port (answered_group READ group) offset len
 read-wide a m kept group offset len n asks t is =
-    let P : Profile → Type 0 = λ x. n ≡ read_len_in x a.client a.asker.port (answered_group READ group) offset len in
+    let P : Manner → Type 0 = λ x. n ≡ read_len_in x a.client a.asker.port (answered_group READ group) offset len in
     subst P (wide-world a m kept asks t) is
 
 other-group : (c : client.Client) (p : PlantPort) (g : Option Group) (offset len : ℕ) → is_value_by_handle g ≡ false
@@ -196,33 +196,32 @@ stop_first (c ∷ cs) some first = sym (cond-true (c == 46) cs (c ∷ cs) first)
 
 -- a mode
 
-pub mode-strict : (x : Profile) (mode : ℕ) → is_wide x ≡ false → mode ≡ mode_in x mode
+pub mode-strict : (x : Manner) (mode : ℕ) → is_wide x ≡ false → mode ≡ mode_in x mode
 mode-strict Strict mode f = refl
 mode-strict Wide mode f = absurd (false≢true (sym f))
 
-pub mode-wide : (x : Profile) (mode n : ℕ) → is_wide x ≡ true → n ≡ without_context mode → n ≡ mode_in x mode
+pub mode-wide : (x : Manner) (mode n : ℕ) → is_wide x ≡ true → n ≡ without_context mode → n ≡ mode_in x mode
 mode-wide Strict mode n t is = absurd (false≢true t)
 mode-wide Wide mode n t is = is
 
 -- the request that is meant
 
 pub read-is-meant : (a : Asking) (group offset len n : ℕ)
-    → n ≡ read_len_in a.world.profile a.client a.asker.port (answered_group READ group) offset len
+    → n ≡ read_len_in a.world.profile.manner a.client a.asker.port (answered_group READ group) offset len
     → Read group offset n ≡ meant_in a (Read group offset len)
 read-is-meant a group offset len n is = ap (Read group offset) is
 
-pub is-plain : (a : Asking) (r : Request) (m : PortMemory) (kept : Kept) → Asks a m kept → is_wide m.profile ≡ false → r ≡ meant_in a r
+pub is-plain : (a : Asking) (r : Request) (m : PortMemory) (kept : Kept) → Asks a m kept → is_wide m.manner ≡ false → r ≡ meant_in a r
 is-plain a r m kept asks f =
-    let P : Profile → Type 0 = λ x. r ≡ meant_by x a.client a.asker.port r in
-    subst P (strict-world a m kept asks f) (sym (meant-strict a.client a.asker.port r))
+    sym (meant-strict a.world.profile a.client a.asker.port r (sym (strict-world a m kept asks f)))
 
 pub read_write-is-meant : (a : Asking) (group offset len : ℕ) (bytes : List ℕ) (n : ℕ) (name : List ℕ) (m : PortMemory) (kept : Kept) → Asks a m kept
-    → is_wide m.profile ≡ true → name ≡ name_by_group (answered_group READ_WRITE group) bytes
+    → is_wide m.manner ≡ true → name ≡ name_by_group (answered_group READ_WRITE group) bytes
     → n ≡ len_by_name a.asker.port (answered_group READ_WRITE group) name len
     → ReadWrite group offset n name ≡ meant_in a (ReadWrite group offset len bytes)
 read_write-is-meant a group offset len bytes n name m kept asks t named long =
     let g = answered_group READ_WRITE group in
-    let P : Profile → Type 0 = λ x. ReadWrite group offset n name ≡ meant_by x a.client a.asker.port (ReadWrite group offset len bytes) in
+    let P : Manner → Type 0 = λ x. ReadWrite group offset n name ≡ by_name x a.asker.port group offset len (name_in x g bytes) in
     subst P (wide-world a m kept asks t)
     (ap (λ l. ReadWrite group offset l name) long
     ∙ ap (λ b. ReadWrite group offset (len_by_name a.asker.port g b len) b) named)

@@ -56,7 +56,7 @@ held-still w port q m acts other at_port h = record {
   facts = h.facts;
   types = h.types;
   version = h.version;
-  profile = h.profile;
+  manner = h.manner;
   plant_sound = h.plant_sound;
   sound = h.sound;
   holds = after-acts w.memory port q m.bytes acts other at_port h.holds;
@@ -111,7 +111,7 @@ ports-held w ports number p new acts h found is at_port held =
     record {
       types = h.types;
       version = h.version;
-      profile = h.profile;
+      manner = h.manner;
       plant_sound = h.plant_sound;
       apart = h.apart;
       each = subst W is (each-held w p new w.plant.ports ports.ports acts h.apart (subst F (sym is) found) at_port held h.each);

@@ -28,7 +28,7 @@ use Rattle.spec_machine.specs.Decisions.{Decision, Perform, Single, acts_in}
 use Rattle.spec_machine.specs.Replies.{reply_payload, reply_in_forms, outcome_in_all}
 use Rattle.spec_machine.specs.Requests.{plain_act, act_of}
 use Rattle.spec_machine.specs.Sums.{given_in_turn}
-use Rattle.spec_machine.specs.SumPackets.{acts_of, decide_single, decide_read_write, decide_request}
+use Rattle.spec_machine.specs.SumPackets.{acts_of, decide_single, decide_read_write, decide_more, decide_request}
 use Rattle.spec_machine.specs.Writes.{Asker, may_control, control_act}
 use Rattle.spec_machine.specs.HandleLaws.{AgreeingWatches}
 use Rattle.spec_machine.specs.WatchedRanges.{is_same_range}
@@ -47,6 +47,7 @@ use Rattle.session.specs.Single.{SameNotes}
 use Rattle.session.specs.StandsFor.{StandsFor}
 use Rattle.session.specs.Watching.{AddsAs, DeletesAs, AnswersNothing}
 use Rattle.session.proofs.GrantLemmas.{IsIdle}
+use Rattle.session.proofs.SumGroups.{IsNoSum}
 use Rattle.session.proofs.SingleLemmas.{code-ends, not-zero, read-leaves}
 use Rattle.session.proofs.WriteLemmas.{quiet-ends}
 use Rattle.session.proofs.EffectLemmas.{IsOfHandles, same-notes, read-effect, write-effect, read_write-effect}
@@ -82,9 +83,9 @@ session-idle a (Allowed access) m s idle h =
 -- which decision
 
 -- a request that is no sum
-abbrev pub IsSingleRequest : Request → Type 0
-IsSingleRequest (ReadWrite group offset len bytes) = is_sum (group_of group) ≡ false
-IsSingleRequest r = Unit {0}
+abbrev pub IsSingleRequest : Asking → Request → Type 0
+IsSingleRequest a (ReadWrite group offset len bytes) = IsNoSum a.world.profile.manner group
+IsSingleRequest a r = Unit {0}
 
 no-sum : (d : Setup) (c : Client) (k : Asker) (g : Option Group) (r : Request) (n len : ℕ) (bytes : List ℕ) → is_sum g ≡ false
     → decide_read_write d c k (option_and_then (if_answered READ_WRITE) g) r n len bytes ≡ decide_single d c k r
@@ -97,14 +98,15 @@ one-act : (a : Asking) (r : Request) → decide_single (setup_of a.world) a.clie
 unfolding acts_of given_in_turn
 one-act a r = refl
 
-pub single-decision : (a : Asking) (r : Request) → IsSingleRequest r → decision_of a r ≡ Perform (act_asked a r ∷ []) Single
+pub single-decision : (a : Asking) (r : Request) → IsSingleRequest a r → decision_of a r ≡ Perform (act_asked a r ∷ []) Single
 unfolding decide_request answered_group
 single-decision a (ReadWrite group offset len bytes) h =
-    no-sum (setup_of a.world) a.client a.asker (group_of group) (ReadWrite group offset len bytes) offset len bytes h
+    ap (λ o. decide_more (setup_of a.world) a.client a.asker o group offset len bytes) h.no_more
+    ∙ no-sum (setup_of a.world) a.client a.asker (group_of group) (ReadWrite group offset len bytes) offset len bytes h.no_group
     ∙ one-act a (ReadWrite group offset len bytes)
 single-decision a r h = one-act a r
 
-pub runs-single : (a : Asking) (r : Request) (old new : List ℕ) (m : PortMemory) (s : SessionState) → IsSingleRequest r
+pub runs-single : (a : Asking) (r : Request) (old new : List ℕ) (m : PortMemory) (s : SessionState) → IsSingleRequest a r
     → new ≡ old ++ reply_payload (command_of r) (outcome_asked a r) → AsksSession (asking_after a r) m s → Runs a r old new m s
 unfolding outcomes_of outcome_in_all memory_after_acts client_after_acts
 runs-single a r old new m s single is_reply after =
@@ -299,7 +301,7 @@ read-runs a group offset len m s old new h is_reply =
     (same-notes a.client (effect_of (act_asked a r)) (read-effect a group offset len)) refl refl)
 
 pub read_write-runs : (a : Asking) (group offset len : ℕ) (bytes : List ℕ) (m : PortMemory) (s s' : SessionState) (old new : List ℕ) → AsksSession a m s
-    → is_sum (group_of group) ≡ false → s'.watches ≡ s.watches
+    → IsNoSum a.world.profile.manner group → s'.watches ≡ s.watches
     → new ≡ old ++ reply_payload 9 (outcome_asked a (ReadWrite group offset len bytes))
     → Asks (asking_after a (ReadWrite group offset len bytes)) m s'.handles
     → Runs a (ReadWrite group offset len bytes) old new m s'

@@ -1,6 +1,6 @@
 -- A sum of a packet: its parts in turn are its acts in turn.
 use Rattle.std.proofs.Common.{◌≡◌, ◌+◌, ◌-◌, ◌≤◌, ℕ, List, [], ◌∷◌, ◌++◌, length, take, drop, refl, sym, ◌∙◌, ap, subst, inl, inr, arith, length-append}
-use Rattle.std.specs.Prelude.{Result, Ok, Err, OnOk, OnErr, IfOk}
+use Rattle.std.specs.Prelude.{Option, Some, None, Result, Ok, Err, OnOk, OnErr, IfOk}
 use Rattle.std.specs.Int.{w32, to_le_bytes}
 use Rattle.return_codes.specs.declared.code.Code.{Code}
 use Rattle.return_codes.specs.Code.{number_of}
@@ -14,7 +14,10 @@ use Rattle.spec_machine.specs.Client.{client_after}
 use Rattle.spec_machine.specs.Decisions.{Decision, Perform, Sum, acts_in, refuse}
 use Rattle.spec_machine.specs.Replies.{reply_payload, outcome_in_all}
 use Rattle.spec_machine.specs.Sums.{SumRequest, given_in_turn, left_in_turn, packed}
-use Rattle.spec_machine.specs.SumPackets.{acts_of, decide_parts, decide_request}
+use Rattle.spec_machine.specs.Manner.{Manner}
+use Rattle.spec_machine.specs.MoreSums.{sum_short_read, more_sums}
+use Rattle.spec_machine.proofs.MoreSums.{more_sums-none}
+use Rattle.spec_machine.specs.SumPackets.{acts_of, decide_parts, decide_more, decide_request}
 use Rattle.sum_commands.specs.Parts.{code_in}
 use Rattle.sum_commands.specs.Stops.{StopsAmong, Stops, Wants, Done}
 use Rattle.sum_commands.specs.SumCommand.{sum_of, refusal_in, refused_by, sum_reply, left_by_sum}
@@ -23,7 +26,7 @@ use Rattle.sym_handles.specs.Kept.{Kept}
 use Rattle.port_device.specs.PortMemory.{PortMemory}
 use Rattle.session.specs.Asking.{Asking}
 use Rattle.session.specs.Asks.{Asks, SomeAsks}
-use Rattle.session.specs.Runs.{AsksSession, Runs, IsSumGroup, decision_of, ending_of, after_acts}
+use Rattle.session.specs.Runs.{AsksSession, Runs, IsSumGroup, IsSumOf, decision_of, ending_of, after_acts}
 use Rattle.session.specs.SessionState.{SessionState}
 use Rattle.session.specs.declared.single.Single as declared
 use Rattle.session.specs.Single.{SumState, IsSingle, StillLent, MayLeave, part_outcome, state_after}
@@ -54,26 +57,35 @@ abbrev Decides : Asking → ℕ → ℕ → List ℕ → ℕ → Type 0
 Decides a n len bytes g = decision_of a (ReadWrite g n len bytes)
     ≡ decide_parts (setup_of a.world) a.client a.asker (sum_of g n bytes) (refusal_in (sum_of g n bytes) n (length bytes) len)
 
+decided : (a : Asking) (g n len : ℕ) (bytes : List ℕ) (known : Option (ℕ → List ℕ → SumRequest)) → more_sums a.world.profile g ≡ known
+    → decision_of a (ReadWrite g n len bytes) ≡ decide_more (setup_of a.world) a.client a.asker known g n len bytes
+unfolding decide_request
+decided a g n len bytes known is = ap (λ o. decide_more (setup_of a.world) a.client a.asker o g n len bytes) is
+
 reads-decide : (a : Asking) (n len : ℕ) (bytes : List ℕ) → Decides a n len bytes sum_read
-unfolding decide_request answered_group group_of group_in
-reads-decide a n len bytes = refl
+unfolding answered_group group_of group_in
+reads-decide a n len bytes = decided a sum_read n len bytes None (more_sums-none a.world.profile sum_read refl)
 
 writes-decide : (a : Asking) (n len : ℕ) (bytes : List ℕ) → Decides a n len bytes sum_write
-unfolding decide_request answered_group group_of group_in
-writes-decide a n len bytes = refl
+unfolding answered_group group_of group_in
+writes-decide a n len bytes = decided a sum_write n len bytes None (more_sums-none a.world.profile sum_write refl)
 
 read_writes-decide : (a : Asking) (n len : ℕ) (bytes : List ℕ) → Decides a n len bytes sum_read_write
-unfolding decide_request answered_group group_of group_in
-read_writes-decide a n len bytes = refl
+unfolding answered_group group_of group_in
+read_writes-decide a n len bytes = decided a sum_read_write n len bytes None (more_sums-none a.world.profile sum_read_write refl)
 
-sum-decides : (a : Asking) (group n len : ℕ) (bytes : List ℕ) → IsSumGroup group → Decides a n len bytes group
-sum-decides a group n len bytes (inl e) = subst (Decides a n len bytes) (sym e) (reads-decide a n len bytes)
-sum-decides a group n len bytes (inr (inl e)) = subst (Decides a n len bytes) (sym e) (writes-decide a n len bytes)
-sum-decides a group n len bytes (inr (inr e)) = subst (Decides a n len bytes) (sym e) (read_writes-decide a n len bytes)
+group-decides : (a : Asking) (group n len : ℕ) (bytes : List ℕ) → IsSumGroup group → Decides a n len bytes group
+group-decides a group n len bytes (inl e) = subst (Decides a n len bytes) (sym e) (reads-decide a n len bytes)
+group-decides a group n len bytes (inr (inl e)) = subst (Decides a n len bytes) (sym e) (writes-decide a n len bytes)
+group-decides a group n len bytes (inr (inr e)) = subst (Decides a n len bytes) (sym e) (read_writes-decide a n len bytes)
+
+sum-decides : (a : Asking) (group n len : ℕ) (bytes : List ℕ) → IsSumOf a.world.profile.manner group → Decides a n len bytes group
+sum-decides a group n len bytes (inl is) = group-decides a group n len bytes is
+sum-decides a group n len bytes (inr more) = decided a group n len bytes (Some (sum_of group)) more.own
 
 -- a sum that is refused
 
-refused-decision : (a : Asking) (group n len : ℕ) (bytes : List ℕ) (code : Code) → IsSumGroup group
+refused-decision : (a : Asking) (group n len : ℕ) (bytes : List ℕ) (code : Code) → IsSumOf a.world.profile.manner group
     → refused_by {X = Unit {0}} (Err code) ≡ refusal_in (sum_of group n bytes) n (length bytes) len
     → decision_of a (ReadWrite group n len bytes) ≡ refuse (number_of code)
 refused-decision a group n len bytes code is said =
@@ -82,7 +94,7 @@ refused-decision a group n len bytes code is said =
 
 pub refused-runs : (a : Asking) (group n len : ℕ) (bytes : List ℕ) (code : Code)
     (m m' : PortMemory) (s s' : SessionState) (old mid whole new : List ℕ) (start number : ℕ)
-    → IsSumGroup group → AsksSession a m s → m' ≡ m → s' ≡ s
+    → IsSumOf a.world.profile.manner group → AsksSession a m s → m' ≡ m → s' ≡ s
     → refused_by {X = Unit {0}} (Err code) ≡ refusal_in (sum_of group n bytes) n (length bytes) len
     → whole ≡ mid → number ≡ number_of code → start ≡ length old → length mid ≡ length old + 8 → take (length old) mid ≡ old
     → new ≡ take start whole ++ (to_le_bytes w32 number ++ (to_le_bytes w32 (length whole - (start + 8)) ++ drop (start + 8) whole))
@@ -105,7 +117,7 @@ refused-runs a group n len bytes code m m' s s' old mid whole new start number i
 
 -- a sum that runs
 
-ran-decision : (a : Asking) (group n len : ℕ) (bytes : List ℕ) → IsSumGroup group
+ran-decision : (a : Asking) (group n len : ℕ) (bytes : List ℕ) → IsSumOf a.world.profile.manner group
     → refused_by {X = Unit {0}} (Ok tt) ≡ refusal_in (sum_of group n bytes) n (length bytes) len
     → decision_of a (ReadWrite group n len bytes) ≡ Perform (acts_asked a (sum_of group n bytes).parts) (Sum (sum_of group n bytes).form)
 ran-decision a group n len bytes is said =
@@ -119,7 +131,7 @@ packed-payload bytes =
 
 pub ran-runs : (a : Asking) (group n len : ℕ) (bytes : List ℕ) (m m' : PortMemory)
     (s s' : SessionState) (before single : declared.Single) (old mid whole new : List ℕ) (start : ℕ)
-    → IsSumGroup group → AsksSession a m s → single.port.now ≡ m' → s'.handles ≡ single.handles.now → s'.watches ≡ s.watches
+    → IsSumOf a.world.profile.manner group → AsksSession a m s → single.port.now ≡ m' → s'.handles ≡ single.handles.now → s'.watches ≡ s.watches
     → refused_by {X = Unit {0}} (Ok tt) ≡ refusal_in (sum_of group n bytes) n (length bytes) len
     → whole ≡ mid ++ sum_reply part_outcome state_after (record { asking = a; begun = before; first = a.client }) (sum_of group n bytes)
     → IsSingle single (left_by_sum state_after (record { asking = a; begun = before; first = a.client }) (sum_of group n bytes))
@@ -163,7 +175,7 @@ pub sum-runs : (a : Asking) (group n len : ℕ) (bytes : List ℕ) (m m' : PortM
     → OnErr answer ((after ≡ before) × (whole ≡ mid))
     → OnOk answer ((x : SumState) → IsSingle before x → whole ≡ mid ++ sum_reply part_outcome state_after x (sum_of group n bytes))
     → OnOk answer ((x : SumState) → IsSingle before x → IsSingle after (left_by_sum state_after x (sum_of group n bytes)))
-    → IsSumGroup group → AsksSession a m s → IsSingle before (record { asking = a; begun = before; first = a.client })
+    → IsSumOf a.world.profile.manner group → AsksSession a m s → IsSingle before (record { asking = a; begun = before; first = a.client })
     → before.port.now ≡ m → before.handles.now ≡ s.handles → after.port.now ≡ m'
     → ◌≡◌ {A = SessionState} s' (record { stream = s.stream; handles = after.handles.now; watches = s.watches })
     → number ≡ code_in answer → start ≡ length old → length mid ≡ length old + 8 → take (length old) mid ≡ old
@@ -237,7 +249,11 @@ sum-lent before after x s out out' (Ok (Err code)) single err leaves wants =
     let K : declared.Single → Type 0 = λ v. StillLent x.begun v in subst K (sym err.0) single.lent
 sum-lent before after x s out out' (Err no_memory) single err leaves wants = stopped-lent s.parts x after (wants x single)
 
-pub in-range : (group : ℕ) → IsSumGroup group → (sum_read ≤ group) × (group ≤ sum_read_write)
-in-range group (inl e) = (omega (arith, e), omega (arith, e))
-in-range group (inr (inl e)) = (omega (arith, e), omega (arith, e))
-in-range group (inr (inr e)) = (omega (arith, e), omega (arith, e))
+group-range : (group : ℕ) → IsSumGroup group → (sum_read ≤ group) × (group ≤ sum_short_read)
+group-range group (inl e) = (omega (arith, e), omega (arith, e))
+group-range group (inr (inl e)) = (omega (arith, e), omega (arith, e))
+group-range group (inr (inr e)) = (omega (arith, e), omega (arith, e))
+
+pub in-range : (x : Manner) (group : ℕ) → IsSumOf x group → (sum_read ≤ group) × (group ≤ sum_short_read)
+in-range x group (inl is) = group-range group is
+in-range x group (inr more) = (omega (arith, more.from), more.to)

@@ -33,7 +33,8 @@ use Rattle.spec_formats.specs.Groups.{Group, SumRead, SumWrite, SumReadWrite}
 use Rattle.spec_machine.specs.Packets.{decide}
 use Rattle.spec_machine.specs.Replies.{response_packet, reply_payload, answer_to, answer_of, performed, outcome_in_all}
 use Rattle.spec_machine.specs.Sums.{SumRequest, sum_of_reads, sum_of_writes, sum_of_read_writes}
-use Rattle.spec_machine.specs.SumPackets.{decide_parts, decide_read_write, decide_request}
+use Rattle.spec_machine.specs.MoreSums.{more_sums}
+use Rattle.spec_machine.specs.SumPackets.{decide_parts, decide_read_write, decide_more, decide_request}
 use Rattle.spec_machine.specs.Writes.{Asker}
 use Rattle.port_device.specs.PortMemory.{PortMemory, PortsMemory, memory_numbered, with_port}
 use Rattle.port_device.specs.Holds.{HoldsPort, HoldsPorts, HoldsFound}
@@ -145,9 +146,14 @@ group-performs d c k (Some SumWrite) r n len bytes = parts-perform d c k (sum_of
 group-performs d c k (Some SumReadWrite) r n len bytes = parts-perform d c k (sum_of_read_writes n bytes) _
 group-performs d c k g r n len bytes = tt
 
+more-performs : (d : Setup) (c : Client) (k : Asker) (o : Option (ℕ → List ℕ → SumRequest)) (group n len : ℕ) (bytes : List ℕ)
+    → IsPerform (decide_more d c k o group n len bytes)
+more-performs d c k (Some sum) group n len bytes = parts-perform d c k (sum n bytes) _
+more-performs d c k None group n len bytes = group-performs d c k (answered_group READ_WRITE group) (ReadWrite group n len bytes) n len bytes
+
 performs : (d : Setup) (c : Client) (k : Asker) (r : Request) → IsPerform (decide_request d c k r)
 unfolding decide_request
-performs d c k (ReadWrite group offset len bytes) = group-performs d c k (answered_group READ_WRITE group) (ReadWrite group offset len bytes) offset len bytes
+performs d c k (ReadWrite group offset len bytes) = more-performs d c k (more_sums d.profile group) group offset len bytes
 performs d c k r = tt
 
 performed-answer : (h : AmsHeader) (d : Decision) (memory : List Block) → IsPerform d

@@ -39,28 +39,28 @@ module _ (a : Asking) (group offset len mode delay cycle : ℕ) where
   abbrev reached : Result (List Addressed) ℕ
   reached = reach_of a.client a.asker.port (answered_group ADD_DEVICE_NOTIFICATION group) offset len
 
-  asked-is : asked ≡ add_act a.client a.asker (answered_group ADD_DEVICE_NOTIFICATION group) offset len cycle (mode_of (mode_in a.world.profile mode))
+  asked-is : asked ≡ add_act a.client a.asker (answered_group ADD_DEVICE_NOTIFICATION group) offset len cycle (mode_of (mode_in a.world.profile.manner mode))
   unfolding act_of plain_act
   asked-is = refl
 
   -- no mode
-  pub asked_no_mode : mode_of (mode_in a.world.profile mode) ≡ None → IsSpecAsked a asked (Err C713)
+  pub asked_no_mode : mode_of (mode_in a.world.profile.manner mode) ≡ None → IsSpecAsked a asked (Err C713)
   asked_no_mode none =
       asked-is ∙ ap (add_act a.client a.asker (answered_group ADD_DEVICE_NOTIFICATION group) offset len cycle) none
 
   -- too much
-  pub asked_too_much : (m : machine.Mode) → Some m ≡ mode_of (mode_in a.world.profile mode) → 2048 < len → IsSpecAsked a asked (Err C717)
+  pub asked_too_much : (m : machine.Mode) → Some m ≡ mode_of (mode_in a.world.profile.manner mode) → 2048 < len → IsSpecAsked a asked (Err C717)
   asked_too_much m is big =
       asked-is ∙ (ap (add_act a.client a.asker (answered_group ADD_DEVICE_NOTIFICATION group) offset len cycle) (sym is)
       ∙ rw (lt-ltb 2048 len big) refl)
 
-  reached-is : (m : machine.Mode) → Some m ≡ mode_of (mode_in a.world.profile mode) → len ≤ 2048 → asked ≡ add_reached a.client a.asker m len cycle reached
+  reached-is : (m : machine.Mode) → Some m ≡ mode_of (mode_in a.world.profile.manner mode) → len ≤ 2048 → asked ≡ add_reached a.client a.asker m len cycle reached
   reached-is m is few =
       asked-is ∙ (ap (add_act a.client a.asker (answered_group ADD_DEVICE_NOTIFICATION group) offset len cycle) (sym is)
       ∙ rw (le-ltb 2048 len few) refl)
 
   -- nothing that can be watched
-  pub asked_off : (m : machine.Mode) (code : Code) → Some m ≡ mode_of (mode_in a.world.profile mode) → len ≤ 2048
+  pub asked_off : (m : machine.Mode) (code : Code) → Some m ≡ mode_of (mode_in a.world.profile.manner mode) → len ≤ 2048
       → IsWatched a.world.plant.ports a.asker.port.number len reached (Err code) → IsSpecAsked a asked (Err code)
   asked_off m code is few off = reached-is m is few ∙ by_reach reached off
     where
@@ -70,7 +70,7 @@ module _ (a : Asking) (group offset len mode delay cycle : ℕ) where
       by_reach (Ok watched) same = absurd same
 
   -- no byte
-  pub asked_nothing : (m : machine.Mode) (reach : Reach) → Some m ≡ mode_of (mode_in a.world.profile mode) → len ≡ 0
+  pub asked_nothing : (m : machine.Mode) (reach : Reach) → Some m ≡ mode_of (mode_in a.world.profile.manner mode) → len ≡ 0
       → IsWatched a.world.plant.ports a.asker.port.number len reached (Ok reach) → IsSpecAsked a asked (Err C705)
   asked_nothing m reach is none named = reached-is m is (omega arith) ∙ by_reach reached named
     where
@@ -80,7 +80,7 @@ module _ (a : Asking) (group offset len mode delay cycle : ℕ) where
       by_reach (Ok watched) same = rw (eq-eqb len 0 none) refl
 
   -- a notification
-  pub asked_for : (spec : Spec) → Some (mode_meant spec.mode) ≡ mode_of (mode_in a.world.profile mode) → len ≤ 2048 → 0 < len
+  pub asked_for : (spec : Spec) → Some (mode_meant spec.mode) ≡ mode_of (mode_in a.world.profile.manner mode) → len ≤ 2048 → 0 < len
       → IsWatched a.world.plant.ports a.asker.port.number len reached (Ok spec.reach)
       → spec.port ≡ a.asker.port.number → a.asker.address ≡ address_of spec.to → spec.cycle ≡ cycle → AsksFor a asked spec
   asked_for spec is few some named port address cycle_is = by_reach reached refl named

@@ -1,7 +1,9 @@
 -- The groups of handles and of sums, which a session answers and no port does. No public clause cites this file.
-use Rattle.std.specs.Prelude.{Bool, true, false, Option, Some}
+use Rattle.std.specs.Prelude.{ℕ, Bool, true, false, ◌||◌, Option, Some, is_some}
 use Rattle.spec_formats.specs.Groups.{Group, HandleByName, ValueByHandle, ValueByName, InfoByName, ExtendedInfoByName}
-use Rattle.spec_formats.specs.Groups.{ReleaseHandle, SumRead, SumWrite, SumReadWrite}
+use Rattle.spec_formats.specs.Groups.{ReleaseHandle, SumRead, SumWrite, SumReadWrite, group_of}
+use Rattle.spec_machine.specs.Manner.{Manner}
+use Rattle.spec_machine.specs.MoreSums.{sums_in_manner}
 
 abbrev pub is_handle_by_name : Option Group → Bool
 is_handle_by_name (Some HandleByName) = true
@@ -32,3 +34,7 @@ is_sum (Some SumRead) = true
 is_sum (Some SumWrite) = true
 is_sum (Some SumReadWrite) = true
 is_sum group = false
+
+-- whether a ReadWrite of the group of a number has parts, to a server of this manner
+abbrev pub takes_parts : Manner → ℕ → Bool
+takes_parts manner number = is_sum (group_of number) || is_some (sums_in_manner manner number)

@@ -9,14 +9,13 @@ use Rattle.spec_formats.specs.Request as format
 use Rattle.spec_machine.specs.Answers.{is_answered, DEVICE_NOTIFICATION}
 use Rattle.spec_machine.specs.Client.{Client}
 use Rattle.spec_machine.specs.Decisions.{Decision, NoAnswer, EndConnection, AmsError, refuse}
-use Rattle.spec_machine.specs.Packets.{Check, stop_if, decide, decide_passed}
+use Rattle.spec_machine.specs.Packets.{Check, stop_if, source_rights, decide, decide_passed}
 use Rattle.spec_machine.specs.SumPackets.{decide_request}
 use Rattle.spec_machine.specs.World.{World, setup_of, port_numbered}
 use Rattle.spec_machine.specs.Writes.{Asker}
 use Rattle.type_layout.specs.Descriptions.{rights_of}
 use Rattle.ads_commands.specs.Request.{request_meant}
 use Rattle.ams_header.specs.Header.{address_of, ams_header_of}
-use Rattle.spec_plant.specs.Rights as routed
 use Rattle.type_layout.specs.declared.description.Rights.{Rights}
 use Rattle.ads_commands.specs.declared.request.Request.{Request}
 use Rattle.session.specs.declared.examined.Stop.{Stop}
@@ -80,12 +79,12 @@ Examines w c ams (examined.Asked h rights request) =
 pub record HasPassed (w : World) (c : Client) (ams : List ℕ) (h : AmsHeader) : Type 0 where
   pub header : header_of ams ≡ Some h
   pub decision : decide (setup_of w) c ams
-      ≡ decide_passed (setup_of w) c h.source (routed.rights_of h.source.net w.plant.routes)
+      ≡ decide_passed (setup_of w) c h.source (source_rights (setup_of w) h)
       (port_numbered h.target.port w.plant.ports) (format.request_of h.command (payload_of ams))
 
 -- these are the rights of its source, whether its port is there, and its request
 pub record HasParts (w : World) (ams : List ℕ) (h : AmsHeader) (rights : Option Rights) (there : Bool) (request : Option Request) : Type 0 where
-  pub rights_are : option_map rights_of rights ≡ routed.rights_of h.source.net w.plant.routes
+  pub rights_are : option_map rights_of rights ≡ source_rights (setup_of w) h
   pub there_is : there ≡ is_some (port_numbered h.target.port w.plant.ports)
   pub request_is : option_map request_meant request ≡ format.request_of h.command (payload_of ams)
   pub command_is : IfSome request (λ r. format.command_of (request_meant r) ≡ h.command)

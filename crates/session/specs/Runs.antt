@@ -1,5 +1,5 @@
 -- What a request comes to once its packet has passed the checks. No public clause cites this file.
-use Rattle.std.specs.Prelude.{◌≡◌, ◌⊎◌, ℕ, List, [], ◌++◌}
+use Rattle.std.specs.Prelude.{◌≡◌, ◌≤◌, ◌⊎◌, ℕ, List, [], ◌++◌, Option, Some}
 use Rattle.spec_plant.specs.World.{Block}
 use Rattle.spec_formats.specs.Groups.{sum_read, sum_write, sum_read_write}
 use Rattle.spec_formats.specs.Request.{Request, command_of}
@@ -7,7 +7,11 @@ use Rattle.spec_machine.specs.World.{setup_of}
 use Rattle.spec_machine.specs.Acts.{Act, Outcome, outcomes_of, memory_after_acts, client_after_acts}
 use Rattle.spec_machine.specs.Decisions.{Decision, NoAnswer, EndConnection, AmsError, Perform, acts_in}
 use Rattle.spec_machine.specs.Replies.{outcome_in_all, reply_payload}
+use Rattle.spec_machine.specs.Manner.{Manner}
+use Rattle.spec_machine.specs.Sums.{SumRequest}
+use Rattle.spec_machine.specs.MoreSums.{sum_told_read, sum_short_read, sums_in_manner}
 use Rattle.spec_machine.specs.SumPackets.{decide_request}
+use Rattle.sum_commands.specs.SumCommand.{sum_of}
 use Rattle.ads_base.specs.declared.ams_addr.AmsAddr.{AmsAddr}
 use Rattle.ams_header.specs.Header.{address_of}
 use Rattle.type_layout.specs.declared.description.Rights.{Rights}
@@ -60,3 +64,13 @@ pub record Runs (a : Asking) (r : Request) (old new : List ℕ) (port : PortMemo
 -- 0xF080, 0xF081 or 0xF082
 abbrev pub IsSumGroup : ℕ → Type 0
 IsSumGroup group = (group ≡ sum_read) ⊎ ((group ≡ sum_write) ⊎ (group ≡ sum_read_write))
+
+-- 0xF083 or 0xF084, where it is known to be that sum
+pub record IsKnownSum (known : Option (ℕ → List ℕ → SumRequest)) (group : ℕ) : Type 0 where
+  pub from : sum_told_read ≤ group
+  pub to : group ≤ sum_short_read
+  pub own : known ≡ Some (sum_of group)
+
+-- a group of sums to a server of this manner
+abbrev pub IsSumOf : Manner → ℕ → Type 0
+IsSumOf manner group = IsSumGroup group ⊎ IsKnownSum (sums_in_manner manner group) group

@@ -1,9 +1,7 @@
 -- What a session makes of an AMS packet, against the machine.
 use Rattle.std.specs.Prelude.{◌≡◌, ℕ, ◌<◌, ◌≤◌, ◌^◌, List, ◌++◌, length, drop}
 use Rattle.spec_frames.specs.Frame.{frame_bytes}
-use Rattle.spec_plant.specs.Description.{Route}
 use Rattle.spec_plant.specs.Rights.{rights_of}
-use Rattle.spec_plant.specs.World.{Plant}
 use Rattle.spec_machine.specs.Client.{Client}
 use Rattle.spec_machine.specs.Device.{Answer, Answered, Silent, Closing, FrameOutcome}
 use Rattle.spec_machine.specs.Packets.{decide}
@@ -11,6 +9,7 @@ use Rattle.spec_machine.specs.Replies.{performed}
 use Rattle.spec_machine.specs.World.{World, setup_of}
 use Rattle.port_device.specs.PortMemory.{PortsMemory}
 use Rattle.port_device.specs.Holds.{HoldsPorts}
+use Rattle.net_routes.specs.Admitted.{Admitted}
 use Rattle.session.specs.declared.taken.Taken.{Taken}
 use Rattle.session.specs.declared.taken.Taken.TheVariants as taken
 use Rattle.session.specs.declared.told.Told.{Told}
@@ -22,10 +21,11 @@ use Rattle.session.specs.StandsFor.{StandsFor}
 abbrev pub outcome_of_packet : World → Client → List ℕ → FrameOutcome World Client
 outcome_of_packet w c ams = performed (decide (setup_of w) c ams) ams w c
 
--- this is the plant's NetId, and these are its routes
-pub record HasAddress (plant : Plant) (net : List ℕ) (routes : List Route) : Type 0 where
-  pub net_is : plant.net ≡ net
-  pub routes_are : (n : List ℕ) → rights_of n routes ≡ rights_of n plant.routes
+-- this is the plant's NetId, these are its routes, and this is the right that its server gives to all others
+pub record HasAddress (w : World) (net : List ℕ) (admitted : Admitted) : Type 0 where
+  pub net_is : w.plant.net ≡ net
+  pub routes_are : (n : List ℕ) → rights_of n admitted.routes ≡ rights_of n w.plant.routes
+  pub others_are : admitted.others ≡ w.profile.others
 
 -- the answer of the machine, as a whole frame
 abbrev pub IsAnswer : Answer → Taken → Type 0

@@ -8,7 +8,7 @@ ghost use Rattle.session.specs.Asking.{Asking};
 ghost use Rattle.session.specs.Asks.{SomeAsks};
 
 use crate::asker::Asker;
-use crate::groups::is_sum;
+use crate::groups::takes_parts;
 use crate::replies::{number_in, read_reply, read_write_reply};
 use crate::requests::{ReadRequest, ReadWriteRequest, WriteRequest};
 use crate::{Session, writing};
@@ -75,7 +75,7 @@ impl Session {
         ensures stream { self.new.stream ≡ self.old.stream }
         ensures no_memory { OnErr result (Extends out.old out.new) }
     {
-        if is_sum(asked.group) {
+        if takes_parts(port, asked.group) {
             return self.sum(alloc, port, asker, asked, out);
         }
         read_write_reply(alloc, &mut self.handles, port, asker.ams_port, *asked, out)

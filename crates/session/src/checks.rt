@@ -18,7 +18,7 @@ use crate::examined::{Examined, Stop};
 use ads_base::NetId;
 use ads_commands::{ReadFault, Request, read_request};
 use ams_header::{Header, read};
-use net_routes::Routes;
+use net_routes::Admission;
 use port_device::Ports;
 use return_codes::Code;
 use type_layout::Rights;
@@ -36,14 +36,14 @@ const LAST_COMMAND: u16 = 9;
 pub(crate) fn examined<'a>(
     ams: &'a [u8],
     ports: &Ports,
-    routes: &Routes,
+    admission: &Admission,
     net: NetId,
 ) -> Examined<'a>
-    ensures { (w : World) (c : Client) → HoldsPorts w ports.now → HasAddress w.plant net.bytes routes.now
+    ensures { (w : World) (c : Client) → HoldsPorts w ports.now → HasAddress w net.bytes admission.now
         → Examines w c ams.now result }
 {
     match read(ams) {
-        Some((h, payload)) => examined_header(h, payload, ports, routes, net),
+        Some((h, payload)) => examined_header(h, payload, ports, admission, net),
         None => Examined::Silent,
     }
 }
@@ -53,13 +53,13 @@ fn examined_header<'a>(
     h: Header,
     payload: &'a [u8],
     ports: &Ports,
-    routes: &Routes,
+    admission: &Admission,
     net: NetId,
 ) -> Examined<'a>
-    ensures { (w : World) (c : Client) (ams : List ℕ) → HoldsPorts w ports.now → HasAddress w.plant net.bytes routes.now
+    ensures { (w : World) (c : Client) (ams : List ℕ) → HoldsPorts w ports.now → HasAddress w net.bytes admission.now
         → header_of ams ≡ Some (ams_header_of h) → payload.entry.now ≡ payload_of ams → Examines w c ams result }
 {
-    let rights = routes.rights(h.source.net);
+    let rights = admission.rights(h.source.net);
     let there = ports.find(h.target.port).is_some();
     let request = read_request(h.command, payload).ok();
     match stop_of(

@@ -1,11 +1,13 @@
 //! The groups of handles and of sums.
 
-ghost use Rattle.std.specs.Prelude.{◌≡◌};
+ghost use Rattle.std.specs.Prelude.{◌≡◌, is_some};
 ghost use Rattle.spec_formats.specs.Groups.{group_of};
+ghost use Rattle.spec_machine.specs.MoreSums.{wide_sums, sums_in_manner};
 ghost use Rattle.session.specs.HandleGroups as groups;
 
 use index_groups::{HANDLE_BY_NAME, RELEASE_HANDLE, VALUE_BY_HANDLE, VALUE_BY_NAME};
-use port_device::{Group, group_named};
+use port_device::{Group, Port, group_named};
+use sum_commands::{SUM_SHORT_READ, SUM_TOLD_READ};
 
 /// Whether the group of a number gives a handle by a name.
 pub(crate) fn is_handle_by_name(number: u32) -> bool
@@ -54,4 +56,29 @@ pub(crate) fn is_sum(number: u32) -> bool
         Some(Group::SumRead) | Some(Group::SumWrite) | Some(Group::SumReadWrite) => true,
         _ => false,
     }
+}
+
+/// Whether a ReadWrite of the group of a number has parts: a wide port knows more sums than a strict one.
+#[inline(always)]
+pub(crate) fn takes_parts(port: &Port, number: u32) -> bool
+    ensures { result ≡ groups.takes_parts port.now.manner number }
+{
+    is_sum(number) || is_more_sum(port, number)
+}
+
+// Whether the group of a number is that of a sum which only a wide port knows.
+#[inline(always)]
+fn is_more_sum(port: &Port, number: u32) -> bool
+    ensures { result ≡ is_some (sums_in_manner port.now.manner number) }
+{
+    if !port.is_wide() {
+        return false;
+    }
+    is_wide_sum(number)
+}
+
+fn is_wide_sum(number: u32) -> bool
+    ensures { result ≡ is_some (wide_sums number) }
+{
+    number == SUM_TOLD_READ || number == SUM_SHORT_READ
 }

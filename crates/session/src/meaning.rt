@@ -20,7 +20,7 @@ use sym_handles::Handles;
 pub(crate) fn read_len(handles: &Handles, port: &Port, ams_port: u16, asked: &ReadRequest) -> u32
     requires number { ams_port ≡ port.now.number }
     ensures { (a : Asking) → Asks a port.now handles.now
-        → result ≡ machine.read_len_in a.world.profile a.client a.asker.port (answered_group READ asked.now.group) asked.now.offset asked.now.len }
+        → result ≡ machine.read_len_in a.world.profile.manner a.client a.asker.port (answered_group READ asked.now.group) asked.now.offset asked.now.len }
 {
     if !port.is_wide() {
         return asked.len;
@@ -98,7 +98,7 @@ fn behind_stop(name: &[u8]) -> &[u8]
 /// The number of a mode: a wide port takes those in the context of a task for those without.
 #[inline(always)]
 pub(crate) fn meant_mode(port: &Port, mode: u32) -> u32
-    ensures { result ≡ machine.mode_in port.now.profile mode }
+    ensures { result ≡ machine.mode_in port.now.manner mode }
 {
     if !port.is_wide() {
         return mode;

@@ -8,7 +8,7 @@ ghost use Rattle.sum_commands.specs.SumCommand.{sum_of, refusal_in, refused_by, 
 ghost use Rattle.port_device.specs.Endings.{KeepsDescription};
 ghost use Rattle.session.specs.Asking.{Asking};
 ghost use Rattle.session.specs.Asks.{SomeAsks};
-ghost use Rattle.session.specs.Runs.{IsSumGroup};
+ghost use Rattle.session.specs.Runs.{IsSumOf};
 ghost use Rattle.session.specs.Single.{SumState, IsSingle, part_outcome, state_after};
 
 use crate::Session;
@@ -37,7 +37,7 @@ impl Session {
     ) -> Result<(), NoMemory>
         requires some { SomeAsks port.old self.old.handles }
         requires number { asker.ams_port ≡ port.old.number }
-        requires sum { IsSumGroup asked.now.group }
+        requires sum { IsSumOf port.old.manner asked.now.group }
         ensures runs { OnOk result ((a : Asking) → AsksSession a port.old self.old → IsFrom a asker.source asker.rights
             → Runs a (format.ReadWrite asked.now.group asked.now.offset asked.now.len asked.now.bytes.now) out.old out.new port.new self.new) }
         ensures keeps { KeepsDescription port.old port.new }
@@ -66,7 +66,7 @@ fn run_parts(
 ) -> Result<Result<(), Code>, NoMemory>
     requires some { SomeAsks single.old.port.now single.old.handles.now }
     requires number { single.old.asker.ams_port ≡ single.old.port.now.number }
-    requires sum { IsSumGroup asked.now.group }
+    requires sum { IsSumOf single.old.port.now.manner asked.now.group }
     ensures handles { single.new.handles.ghost_name ≡ single.old.handles.ghost_name }
     ensures port { single.new.port.ghost_name ≡ single.old.port.ghost_name }
     ensures keeps { KeepsDescription single.old.port.now single.new.port.now }

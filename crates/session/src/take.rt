@@ -22,7 +22,7 @@ use crate::{Session, Taken, Told};
 use ads_base::{NetId, NoMemory, Octets};
 use ads_commands::{Request, put_reply};
 use ams_header::Header;
-use net_routes::Routes;
+use net_routes::Admission;
 use port_device::Ports;
 use return_codes::Code;
 use std::alloc::Global;
@@ -36,7 +36,7 @@ impl Session {
     ghost use Rattle.session.specs.Takes.{AppendsAnswer, HasAddress, Takes, FitsFrame, outcome_of_packet, taken_of};
 
     /// Answers an AMS packet, and leaves the ports as its request makes them. Check after check: one whose data length is
-    /// wrong, that is a response or no request, whose source has no route, or that is for another machine, another port, a
+    /// wrong, that is a response or no request, whose source has no rights, or that is for another machine, another port, a
     /// notification or of no command, is refused or passed over; then its request is run, or the parts of its sum one after
     /// another.
     ///
@@ -46,21 +46,21 @@ impl Session {
         &mut self,
         alloc: Global,
         ports: &mut Ports,
-        routes: &Routes,
+        admission: &Admission,
         net: NetId,
         ams: &[u8],
     ) -> Result<Taken, NoMemory>
         requires packet { IsAmsPacket ams.now }
         requires served { IsServed ports.old self.old }
         ensures takes { IfOk result (λ taken. (w : World) (c : Client) → HoldsPorts w ports.old → StandsFor w.plant c self.old
-            → HasAddress w.plant net.bytes routes.now
+            → HasAddress w net.bytes admission.now
             → Takes (outcome_of_packet w c ams.now) taken ports.new self.new) }
         ensures fits { IfOk result FitsFrame }
         ensures stream { self.new.stream ≡ self.old.stream }
         ensures keeps { KeepDescriptions ports.old ports.new }
     {
         let mut frame = Octets::new(alloc);
-        match self.take_onto(alloc, ports, routes, net, ams, &mut frame)? {
+        match self.take_onto(alloc, ports, admission, net, ams, &mut frame)? {
             Told::Answer => Ok(Taken::Answer(frame)),
             Told::Silent => Ok(Taken::Silent),
             Told::Close => Ok(Taken::Close),
@@ -72,7 +72,7 @@ impl Session {
         &mut self,
         alloc: Global,
         ports: &mut Ports,
-        routes: &Routes,
+        admission: &Admission,
         net: NetId,
         ams: &[u8],
         out: &mut Octets,
@@ -80,7 +80,7 @@ impl Session {
         requires packet { IsAmsPacket ams.now }
         requires served { IsServed ports.old self.old }
         ensures takes { IfOk result (λ told. (w : World) (c : Client) → HoldsPorts w ports.old → StandsFor w.plant c self.old
-            → HasAddress w.plant net.bytes routes.now
+            → HasAddress w net.bytes admission.now
             → Takes (outcome_of_packet w c ams.now) (taken_of told (drop (length out.old) out.new)) ports.new self.new) }
         ensures appends { IfOk result (λ told. AppendsAnswer told out.old out.new) }
         ensures fits { IfOk result (λ told. FitsFrame (taken_of told (drop (length out.old) out.new))) }
@@ -88,7 +88,7 @@ impl Session {
         ensures stream { self.new.stream ≡ self.old.stream }
         ensures keeps { KeepDescriptions ports.old ports.new }
     {
-        match examined(ams, ports, routes, net) {
+        match examined(ams, ports, admission, net) {
             Examined::Silent => Ok(Told::Silent),
             Examined::Close => Ok(Told::Close),
             Examined::Error(h, code) => {

@@ -103,7 +103,7 @@ impl Session {
     ) -> Result<Spec, Code>
         requires some { SomeAsks port.now self.now.handles }
         requires number { asker.ams_port ≡ port.now.number }
-        requires mode { Some (mode_meant mode) ≡ mode_of (mode_in port.now.profile asked.now.mode) }
+        requires mode { Some (mode_meant mode) ≡ mode_of (mode_in port.now.manner asked.now.mode) }
         ensures asked { (a : Asking) (delay : ℕ) → Asks a port.now self.now.handles → a.asker.address ≡ address_of asker.source
             → IsSpecAsked a (act_asked a (AddDeviceNotification asked.now.group asked.now.offset asked.now.len asked.now.mode delay asked.now.cycle))
             result }

@@ -111,5 +111,6 @@ decide-fine d c packet sound f =
       reads = λ k number e n len bytes. parts-fine d c k (asked_there d k number sound e) f (sum_of_reads n bytes) _;
       writes = λ k number e n len bytes. parts-fine d c k (asked_there d k number sound e) f (sum_of_writes n bytes) _;
       read_writes = λ k number e n len bytes. parts-fine d c k (asked_there d k number sound e) f (sum_of_read_writes n bytes) _;
+      more = λ k number e group sum is n len bytes. parts-fine d c k (asked_there d k number sound e) f (sum n bytes) _;
     })
     packet

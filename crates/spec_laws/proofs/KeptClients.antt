@@ -69,6 +69,7 @@ decide-leaves I h d c i packet =
       reads = λ k number e n len bytes. parts-leave I h d c k i (sum_of_reads n bytes) _;
       writes = λ k number e n len bytes. parts-leave I h d c k i (sum_of_writes n bytes) _;
       read_writes = λ k number e n len bytes. parts-leave I h d c k i (sum_of_read_writes n bytes) _;
+      more = λ k number e group sum is n len bytes. parts-leave I h d c k i (sum n bytes) _;
     })
     packet
 

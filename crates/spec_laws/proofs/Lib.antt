@@ -26,3 +26,6 @@ pub mod BitWrites
 pub mod HandleWrites
 pub mod Histories
 pub mod Profiles
+pub mod RightsLaws
+mod LogExamples
+mod OrderExamples

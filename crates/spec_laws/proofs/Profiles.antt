@@ -8,6 +8,7 @@ use Rattle.ads_outside.specs.declared.event.Event.{Event}
 use Rattle.ads_outside.specs.declared.event.Event.TheVariants as event
 use Rattle.ads_outside.specs.declared.moves.Move.{Move}
 use Rattle.ads_outside.specs.declared.moves.Move.TheVariants as move
+use Rattle.spec_formats.specs.Request.{ReadWrite}
 use Rattle.spec_formats.specs.Groups.{Group, ValueByHandle, ValueByName, group_in, group_of, value_by_handle, value_by_name}
 use Rattle.spec_machine.specs.Device.{DescriptionFault}
 use Rattle.spec_machine.specs.Connection.{Connection, connection_of}
@@ -15,22 +16,26 @@ use Rattle.spec_machine.specs.MachineState.{MachineState, Exchange, exchange_of,
 use Rattle.spec_machine.specs.Piece.{after_piece}
 use Rattle.spec_machine.specs.Moves.{with_gone, with_took, state_after_move, state_after}
 use Rattle.spec_machine.specs.Events.{after_reload, state_after_event}
-use Rattle.spec_machine.specs.Profile.{Profile, Strict, Wide}
-use Rattle.spec_machine.specs.World.{World}
+use Rattle.spec_machine.specs.Manner.{Manner, Strict, Wide}
+use Rattle.spec_machine.specs.Profile.{Profile}
+use Rattle.spec_machine.specs.World.{World, Setup}
 use Rattle.spec_machine.specs.Handles.{HandleStatus, Live, kept_status}
 use Rattle.spec_machine.specs.Client.{Place, Client}
-use Rattle.spec_machine.specs.Answers.{answered_group}
+use Rattle.spec_machine.specs.Answers.{answered_group, READ_WRITE}
+use Rattle.spec_machine.specs.Writes.{Asker}
 use Rattle.spec_machine.specs.Reach.{reach_of}
 use Rattle.spec_machine.specs.Reads.{read_group}
 use Rattle.spec_machine.specs.ByName.{read_write_group}
 use Rattle.spec_machine.specs.Meanings.{meant_by}
 use Rattle.spec_machine.specs.Requests.{plain_act, act_of}
+use Rattle.spec_machine.specs.MoreSums.{sum_told_read, sum_short_read, wide_sums, sums_in_manner}
+use Rattle.spec_machine.specs.SumPackets.{decide_read_write, decide_more, decide_request}
 use Rattle.spec_machine.specs.Ticks.{world_after_tick}
 use Rattle.spec_machine.specs.Reloads.{world_after_reload}
 use Rattle.spec_machine.specs.AdsDevice.{DescriptionReading, reloading, ads_device, server_step}
 use Rattle.spec_machine.proofs.Meanings.{meant-strict}
 use Rattle.spec_laws.specs.Isolation.{start_in}
-use Rattle.spec_laws.specs.Profiles.{KeepsProfile, StrictIsPlain, WritesArePlain, WideReadsByHandle, WideReadsByName, WideModes}
+use Rattle.spec_laws.specs.Profiles.{KeepsProfile, StrictIsPlain, WritesArePlain, WideReadsByHandle, WideReadsByName, WideModes, StrictSums, WideSums}
 use Rattle.spec_laws.proofs.EveryState.{Goes, piece-goes, took-goes, gone-goes}
 
 -- the profile of every state
@@ -81,7 +86,7 @@ keeps_profile reading profile d signals log = log-profile reading log (start_in 
 pub strict_is_plain : StrictIsPlain
 unfolding act_of
 strict_is_plain d c k r strict =
-    ap (λ (x : Profile). plain_act d c k (meant_by x c k.port r)) strict ∙ ap (plain_act d c k) (meant-strict c k.port r)
+    ap (plain_act d c k) (meant-strict d.profile c k.port r strict)
 
 pub writes_are_plain : WritesArePlain
 unfolding act_of plain_act
@@ -108,3 +113,21 @@ wide_reads_by_name d c k offset len name f wide found =
 pub wide_modes : WideModes
 unfolding act_of plain_act
 wide_modes d c k group offset len delay cycle wide = (rw wide refl, rw wide refl)
+
+more-strict : (d : Setup) (c : Client) (k : Asker) (group offset len : ℕ) (bytes : List ℕ) (x : Manner) → x ≡ Strict
+    → decide_more d c k (sums_in_manner x group) group offset len bytes
+    ≡ decide_read_write d c k (answered_group READ_WRITE group) (ReadWrite group offset len bytes) offset len bytes
+more-strict d c k group offset len bytes x strict = ap (λ (y : Manner). decide_more d c k (sums_in_manner y group) group offset len bytes) strict
+
+pub strict_sums : StrictSums
+unfolding decide_request
+strict_sums d c k group offset len bytes strict = more-strict d c k group offset len bytes d.profile.manner strict
+
+more-wide : (d : Setup) (c : Client) (k : Asker) (group offset len : ℕ) (bytes : List ℕ) (x : Manner) → x ≡ Wide
+    → decide_more d c k (sums_in_manner x group) group offset len bytes ≡ decide_more d c k (wide_sums group) group offset len bytes
+more-wide d c k group offset len bytes x wide = ap (λ (y : Manner). decide_more d c k (sums_in_manner y group) group offset len bytes) wide
+
+pub wide_sums_are : WideSums
+unfolding decide_request
+wide_sums_are d c k n len bytes wide =
+    (more-wide d c k sum_told_read n len bytes d.profile.manner wide, more-wide d c k sum_short_read n len bytes d.profile.manner wide)

@@ -87,6 +87,7 @@ decide-refuses d c packet =
       reads = λ k number e n len bytes. parts-refuse d c k (sum_of_reads n bytes) _;
       writes = λ k number e n len bytes. parts-refuse d c k (sum_of_writes n bytes) _;
       read_writes = λ k number e n len bytes. parts-refuse d c k (sum_of_read_writes n bytes) _;
+      more = λ k number e group sum is n len bytes. parts-refuse d c k (sum n bytes) _;
     })
     packet
 
@@ -166,7 +167,7 @@ bad-addition c k g offset len cycle (Some mode) bad =
 pub bad_additions_are_refused : BadAdditionsAreRefused
 unfolding act_of plain_act
 bad_additions_are_refused d c k group offset len number delay cycle bad =
-    bad-addition c k (answered_group ADD_DEVICE_NOTIFICATION group) offset len cycle (mode_of (mode_in d.profile number)) bad
+    bad-addition c k (answered_group ADD_DEVICE_NOTIFICATION group) offset len cycle (mode_of (mode_in d.profile.manner number)) bad
 
 read_write-refused : (c : Client) (p : PlantPort) (g : Option Group) (len : ℕ) (bytes : List ℕ)
     → (g ≡ Some ValueByHandle) ⊎ (g ≡ None) → IsRefused (read_write_group c p g len bytes)
@@ -179,7 +180,7 @@ any_form : (d : Setup) (c : Client) (k : Asker) (handle code : ℕ)
 unfolding act_of plain_act read_group write_group reach_of
 any_form d c k handle code dead = record {
   read = λ len. elim (by_handle READ) [
-    | inl g ↦ (code, rw g (let r = reach (read_len_in d.profile c k.port (Some ValueByHandle) handle len) in rw r refl))
+    | inl g ↦ (code, rw g (let r = reach (read_len_in d.profile.manner c k.port (Some ValueByHandle) handle len) in rw r refl))
     | inr g ↦ (invalid_group, rw g refl)
   ];
   write = λ bytes. elim (by_handle WRITE) [
@@ -191,11 +192,11 @@ any_form d c k handle code dead = record {
   ];
   add = λ len mode delay cycle. elim (by_handle ADD_DEVICE_NOTIFICATION) [
     | inl g ↦
-        let P : Option Group → Type 0 = λ o. IsRefused (add_act c k o handle len cycle (mode_of (mode_in d.profile mode))) in
-        subst P (sym g) (add-refused c k (Some ValueByHandle) handle len cycle code (mode_of (mode_in d.profile mode)) (reach len))
+        let P : Option Group → Type 0 = λ o. IsRefused (add_act c k o handle len cycle (mode_of (mode_in d.profile.manner mode))) in
+        subst P (sym g) (add-refused c k (Some ValueByHandle) handle len cycle code (mode_of (mode_in d.profile.manner mode)) (reach len))
     | inr g ↦
-        let P : Option Group → Type 0 = λ o. IsRefused (add_act c k o handle len cycle (mode_of (mode_in d.profile mode))) in
-        subst P (sym g) (add-refused c k None handle len cycle invalid_group (mode_of (mode_in d.profile mode)) refl)
+        let P : Option Group → Type 0 = λ o. IsRefused (add_act c k o handle len cycle (mode_of (mode_in d.profile.manner mode))) in
+        subst P (sym g) (add-refused c k None handle len cycle invalid_group (mode_of (mode_in d.profile.manner mode)) refl)
   ];
   read_write = λ len bytes. read_write-refused c k.port (answered_group READ_WRITE value_by_handle) _ _ (by_handle READ_WRITE);
 }
@@ -210,11 +211,11 @@ refuses_handle d c k handle code dead =
     let reach : (len : ℕ) → addressed_by_status k.port.number (kept_status c.handles handle k.port.number) len ≡ Err code =
     λ len. dead-reach k.port.number (kept_status c.handles handle k.port.number) code len dead in
     record {
-      read = λ len g. rw g (let r = reach (read_len_in d.profile c k.port (Some ValueByHandle) handle len) in rw r refl);
+      read = λ len g. rw g (let r = reach (read_len_in d.profile.manner c k.port (Some ValueByHandle) handle len) in rw r refl);
       write = λ bytes g may. rw g (let r = reach (length bytes) in rw (may, r) refl);
       write_without_right = λ bytes g may. rw g (rw may refl);
       add = λ len number delay cycle mode g known few.
-          let m = mode-kept d.profile number mode known in
+          let m = mode-kept d.profile.manner number mode known in
           let r = reach len in
           let t = le-ltb MAX_WATCHED len few in
           rw (g, m, t, r) refl;

@@ -53,7 +53,7 @@ use Rattle.spec_laws.proofs.Modest.{IsModestPort, IsModestPlant, accepted_are_mo
 use Rattle.spec_laws.proofs.ShortActs.{IsShort, short_if, short_refusal, short_fixed, short_reading}
 use Rattle.spec_laws.proofs.ShortActs.{short_writing, short_changing, fixed-within, reach-short, read-short}
 use Rattle.spec_laws.proofs.ShortActs.{value-short, if_found-short, grant-short, least-short, given-short}
-use Rattle.spec_laws.proofs.ShortSums.{IsPackedShort, reads-packed, writes-packed, read_writes-packed, unrefused-short}
+use Rattle.spec_laws.proofs.ShortSums.{IsPackedShort, reads-packed, writes-packed, read_writes-packed, more-packed, unrefused-short}
 use Rattle.spec_laws.proofs.ShortReplies.{payload-short, IsShortHeader, MaybeShort, header-short, response-short}
 
 -- what is known of a port that is asked: the plant is sound and modest, and handles are placed
@@ -214,6 +214,7 @@ decide-limit d c s packet =
       reads = λ k number e n len bytes. parts-limit d c k (sum_of_reads n bytes) (reads-packed d k c n bytes) _ (unrefused-short n _ _ _ len);
       writes = λ k number e n len bytes. parts-limit d c k (sum_of_writes n bytes) (writes-packed d k c n bytes) _ (unrefused-short n _ _ _ len);
       read_writes = λ k number e n len bytes. parts-limit d c k (sum_of_read_writes n bytes) (read_writes-packed d k c n bytes) _ (unrefused-short n _ _ _ len);
+      more = λ k number e group sum is n len bytes. parts-limit d c k (sum n bytes) (more-packed d k c group sum is n bytes) _ (unrefused-short n _ _ _ len);
     })
     packet
 

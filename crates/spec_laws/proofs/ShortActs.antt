@@ -213,17 +213,17 @@ short_more few most a less h = record { short = let s = h.short in omega (arith,
 pub read-act-asked : (d : Setup) (c : Client) (k : Asker) (group offset len : ℕ) → IsShort len (act_of d c k (Read group offset len))
 unfolding act_of plain_act
 read-act-asked d c k group offset len =
-    let meant = read_len_in d.profile c k.port (answered_group READ group) offset len in
-    short_more meant len _ (read_len-less d.profile c k.port (answered_group READ group) offset len)
+    let meant = read_len_in d.profile.manner c k.port (answered_group READ group) offset len in
+    short_more meant len _ (read_len-less d.profile.manner c k.port (answered_group READ group) offset len)
     (read-asked d c k.port (answered_group READ group) offset meant)
 
 pub read_write-act-asked : (d : Setup) (c : Client) (k : Asker) (group offset len : ℕ) (bytes : List ℕ)
     → IsShort len (act_of d c k (ReadWrite group offset len bytes))
 unfolding act_of plain_act
 read_write-act-asked d c k group offset len bytes =
-    let name = name_in d.profile (answered_group READ_WRITE group) bytes in
-    let meant = value_len_in d.profile k.port (answered_group READ_WRITE group) name len in
-    short_more meant len _ (value_len-less d.profile k.port (answered_group READ_WRITE group) name len)
+    let name = name_in d.profile.manner (answered_group READ_WRITE group) bytes in
+    let meant = value_len_in d.profile.manner k.port (answered_group READ_WRITE group) name len in
+    short_more meant len _ (value_len-less d.profile.manner k.port (answered_group READ_WRITE group) name len)
     (read_write-asked c k.port (answered_group READ_WRITE group) meant name)
 
 pub no_more_than_asked : NoMoreThanAsked

@@ -1,6 +1,6 @@
 -- What a sum gives has the length that its refusal is decided by.
-use Rattle.std.proofs.Common.{◌≡◌, ℕ, zero, suc, ◌-◌, ◌*◌, ◌≤◌, List, [], ◌∷◌, ◌++◌, length, Bool, true, false, refl, ap, arith, inl, inr}
-use Rattle.std.specs.Prelude.{None, drop, take, sum, flat_map, replicate, nat_lt, not, ◌==◌, ◌||◌}
+use Rattle.std.proofs.Common.{◌≡◌, ℕ, zero, suc, ◌-◌, ◌*◌, ◌≤◌, List, [], ◌∷◌, ◌++◌, length, Bool, true, false, refl, ap, subst, arith, inl, inr}
+use Rattle.std.specs.Prelude.{Option, Some, None, IfSome, drop, take, sum, flat_map, replicate, nat_lt, not, ◌==◌, ◌||◌}
 use Rattle.std.specs.Int.{w32, to_le_bytes}
 use Rattle.std.proofs.lemmas.Bool.{cases_Bool, ltb-false}
 use Rattle.std.proofs.lemmas.List.{length-append, length-replicate}
@@ -16,7 +16,9 @@ use Rattle.spec_machine.specs.Writes.{Asker}
 use Rattle.spec_machine.specs.Requests.{act_of}
 use Rattle.spec_machine.specs.Sums.{SumRequest, numbers_of_heads, read_parts, write_parts, read_write_parts}
 use Rattle.spec_machine.specs.Sums.{sum_of_reads, sum_of_writes, sum_of_read_writes, sum_refusal, MAX_PARTS}
-use Rattle.spec_machine.specs.Sums.{codes_of, filled, filled_data, packed, given_in_turn}
+use Rattle.spec_machine.specs.Sums.{sum_of_told_reads, sum_of_short_reads, codes_of, told, filled, filled_data, packed, given_in_turn}
+use Rattle.spec_machine.specs.MoreSums.{more_sums}
+use Rattle.spec_machine.proofs.MoreSums.{EachSum, more_sums-cases}
 use Rattle.spec_machine.specs.SumPackets.{client_after_request, acts_of}
 use Rattle.spec_laws.proofs.ShortActs.{given-short, read-act-asked, read_write-act-asked}
 
@@ -36,14 +38,11 @@ codes-len (o ∷ os) =
     let ih = codes-len os in
     omega (arith, e, ih)
 
-abbrev heads_of : List Outcome → List ℕ
-heads_of os = flat_map (λ (o : Outcome). to_le_bytes w32 o.code ++ to_le_bytes w32 (length o.bytes)) os
-
-heads-len : (os : List Outcome) → length (heads_of os) ≡ 8 * length os
-heads-len [] = refl
-heads-len (o ∷ os) =
-    let e = length-append (to_le_bytes w32 o.code ++ to_le_bytes w32 (length o.bytes)) (heads_of os) in
-    let ih = heads-len os in
+told-len : (os : List Outcome) → length (told os) ≡ 8 * length os
+told-len [] = refl
+told-len (o ∷ os) =
+    let e = length-append (to_le_bytes w32 o.code ++ to_le_bytes w32 (length o.bytes)) (told os) in
+    let ih = told-len os in
     omega (arith, e, ih)
 
 read_parts-len : (n : ℕ) (heads : List ℕ) → length (read_parts n heads) ≡ n
@@ -135,13 +134,69 @@ read_writes-packed d k c n bytes = record {
   short = λ memory.
       let rs = read_write_parts n bytes (drop (16 * n) bytes) in
       let os = ends_of d k c memory rs in
-      let all = length-append (heads_of os) (data_of os) in
-      let heads = heads-len os in
+      let all = length-append (told os) (data_of os) in
+      let heads = told-len os in
       let ends = ends-len d k rs c memory in
       let parts = read_write_parts-len n bytes (drop (16 * n) bytes) in
       let gave = read_writes-given d k n bytes (drop (16 * n) bytes) c memory in
       omega (arith, all, heads, ends, parts, gave);
 }
+
+-- as long as it is, each read gives at most what it asks
+reads-given : (d : Setup) (k : Asker) (n : ℕ) (heads : List ℕ) (c : Client) (memory : List Block)
+    → length (data_of (ends_of d k c memory (read_parts n heads))) ≤ sum (numbers_of_heads n 12 8 heads)
+unfolding acts_of given_in_turn outcomes_of
+reads-given d k zero heads c memory = omega arith
+reads-given d k (suc n) heads c memory =
+    let len = number32 8 heads in
+    let r : Request = Read (number32 0 heads) (number32 4 heads) len in
+    let a = act_of d c k r in
+    let gave = (outcome_of memory a).bytes in
+    let one = given-short len memory a (read-act-asked d c k (number32 0 heads) (number32 4 heads) len) in
+    let rest = reads-given d k n (drop 12 heads) (client_after_request d k c r) (memory_after memory a) in
+    let all = length-append gave
+    (data_of (ends_of d k (client_after_request d k c r) (memory_after memory a) (read_parts n (drop 12 heads)))) in
+    let total = sum_by-cons (λ x. x) len (numbers_of_heads n 12 8 (drop 12 heads)) in
+    omega (arith, one, rest, all, total)
+
+told_reads-packed : (d : Setup) (k : Asker) (c : Client) (n : ℕ) (bytes : List ℕ) → IsPackedShort d k c (sum_of_told_reads n bytes)
+unfolding packed
+told_reads-packed d k c n bytes = record {
+  short = λ memory.
+      let os = ends_of d k c memory (read_parts n bytes) in
+      let all = length-append (told os) (filled_data (numbers_of_heads n 12 8 bytes) os) in
+      let heads = told-len os in
+      let ends = ends-len d k (read_parts n bytes) c memory in
+      let parts = read_parts-len n bytes in
+      let gave = reads-filled d k n bytes c memory in
+      omega (arith, all, heads, ends, parts, gave);
+}
+
+short_reads-packed : (d : Setup) (k : Asker) (c : Client) (n : ℕ) (bytes : List ℕ) → IsPackedShort d k c (sum_of_short_reads n bytes)
+unfolding packed
+short_reads-packed d k c n bytes = record {
+  short = λ memory.
+      let os = ends_of d k c memory (read_parts n bytes) in
+      let all = length-append (told os) (data_of os) in
+      let heads = told-len os in
+      let ends = ends-len d k (read_parts n bytes) c memory in
+      let parts = read_parts-len n bytes in
+      let gave = reads-given d k n bytes c memory in
+      omega (arith, all, heads, ends, parts, gave);
+}
+
+-- so is each sum that a server of a profile knows besides
+pub more-packed : (d : Setup) (k : Asker) (c : Client) (group : ℕ) (sum : ℕ → List ℕ → SumRequest) → more_sums d.profile group ≡ Some sum
+    → (n : ℕ) (bytes : List ℕ) → IsPackedShort d k c (sum n bytes)
+more-packed d k c group sum is n bytes =
+    let P : (ℕ → List ℕ → SumRequest) → Type 0 = λ s. IsPackedShort d k c (s n bytes) in
+    let Q : Option (ℕ → List ℕ → SumRequest) → Type 0 = λ o. IfSome o P in
+    let each : EachSum group Q = record {
+      no_more = tt;
+      told_reads = λ own. told_reads-packed d k c n bytes;
+      short_reads = λ own. short_reads-packed d k c n bytes;
+    } in
+    subst Q is (more_sums-cases d.profile group Q each)
 
 -- a sum that is not refused has a reply that fits
 pub unrefused-short : (n data_len len reply_len read_len : ℕ) → sum_refusal n data_len len reply_len read_len ≡ None → reply_len ≤ greatest_len

@@ -9,7 +9,7 @@ use Rattle.spec_machine.specs.Moves.{state_after}
 use Rattle.spec_machine.specs.Offers.{taken_of}
 use Rattle.spec_machine.specs.Turns.{KeepsTurns}
 use Rattle.spec_machine.specs.Delivery.{IsPrefix, AreOffers, is_short, is_cut_off}
-use Rattle.spec_machine.specs.Profile.{Profile, Strict}
+use Rattle.spec_machine.specs.Profile.{Profile, strict}
 use Rattle.spec_machine.specs.World.{World, world_in}
 use Rattle.spec_machine.specs.Client.{Client}
 use Rattle.spec_machine.specs.AdsDevice.{DescriptionReading, server_step}
@@ -29,7 +29,7 @@ start_in profile d signals = start_of (world_in profile d signals)
 
 -- that of the strict server
 abbrev pub start : Description → List Wave → MachineState World Client
-start d signals = start_in Strict d signals
+start d signals = start_in strict d signals
 
 -- what a connection was given by the end of a log
 abbrev pub output : DescriptionReading → Profile → Description → List Wave → ℕ → List Move
@@ -46,7 +46,7 @@ IsUntouchedIn reading profile d signals c log =
 
 abbrev pub IsUntouched : DescriptionReading → Description → List Wave → ℕ
     → List Move → Type 0
-IsUntouched reading d signals c log = IsUntouchedIn reading Strict d signals c log
+IsUntouched reading d signals c log = IsUntouchedIn reading strict d signals c log
 
 -- Then its output is what it would be if it were alone, whatever the others do.
 abbrev pub IsIsolated : Type 0

@@ -7,3 +7,4 @@ pub mod Rising
 pub mod RepliesFit
 pub mod Histories
 pub mod Profiles
+pub mod RightsLaws

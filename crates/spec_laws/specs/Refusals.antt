@@ -102,7 +102,7 @@ IsRefused a = (code : ℕ) × (a ≡ Refusal code)
 -- have
 abbrev pub IsBadAddition : Profile → ℕ → ℕ → ℕ → Type 0
 IsBadAddition profile group len number =
-    (mode_of (mode_in profile number) ≡ None) ⊎ ((MAX_WATCHED < len) ⊎ ((len ≡ 0)
+    (mode_of (mode_in profile.manner number) ≡ None) ⊎ ((MAX_WATCHED < len) ⊎ ((len ≡ 0)
     ⊎ (answered_group ADD_DEVICE_NOTIFICATION group ≡ None)))
 
 -- Such an addition is refused, and so touches no name.

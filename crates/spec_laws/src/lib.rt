@@ -12,7 +12,8 @@ ghost use Rattle.spec_laws.specs.Reachable.{EveryStateFits};
 ghost use Rattle.spec_laws.specs.Rising.{HandlesRise};
 ghost use Rattle.spec_laws.specs.RepliesFit.{NoMoreThanAsked, RepliesFit};
 ghost use Rattle.spec_laws.specs.Profiles.{KeepsProfile, StrictIsPlain, WritesArePlain};
-ghost use Rattle.spec_laws.specs.Profiles.{WideReadsByHandle, WideReadsByName, WideModes};
+ghost use Rattle.spec_laws.specs.Profiles.{WideReadsByHandle, WideReadsByName, WideModes, StrictSums, WideSums};
+ghost use Rattle.spec_laws.specs.RightsLaws.{RoutesCountFirst, OthersShareOne, StrictKnowsRoutes};
 
 /// A client none of whose read or notified bytes another client writes is given, byte for byte, what it
 /// would be given if it were alone: for every table of what is answered, every description, every reading
@@ -99,4 +100,19 @@ pub fn profiles_differ_in_meanings()
     ensures by_handle { WideReadsByHandle }
     ensures by_name { WideReadsByName }
     ensures modes { WideModes }
+{}
+
+/// The strict server knows no sum besides those of every server; to the wide one the sums of reads that tell their
+/// lengths are sums too.
+pub fn profiles_differ_in_sums()
+    ensures strict { StrictSums }
+    ensures wide { WideSums }
+{}
+
+/// A machine with a route has the rights of its route, whatever a server gives to all others; a machine without one has
+/// theirs. The strict profile gives others nothing, so that rights are those of routes alone.
+pub fn routes_count_first()
+    ensures routes { RoutesCountFirst }
+    ensures others { OthersShareOne }
+    ensures strict { StrictKnowsRoutes }
 {}

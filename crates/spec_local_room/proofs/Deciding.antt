@@ -8,7 +8,6 @@ use Rattle.std.proofs.lemmas.Nat.{from_le_bytes-to_le_bytes_4}
 use Rattle.std.proofs.lemmas.Slice.Eq.{bytes_eq-Decides}
 use Rattle.spec_plant.specs.Description.{Rights, Area, size_in}
 use Rattle.spec_plant.specs.Finding.{Found, found_of}
-use Rattle.spec_plant.specs.Rights.{rights_of}
 use Rattle.spec_plant.specs.World.{Plant, PlantPort, ByteName, SymbolPart}
 use Rattle.spec_formats.specs.Codes.{invalid_ams_length, unknown_ams_command, target_machine_not_found, target_port_not_found, unknown_command_id}
 use Rattle.spec_formats.specs.Codes.{invalid_size, invalid_offset, invalid_group, symbol_not_found, symbol_version_invalid}
@@ -29,12 +28,14 @@ use Rattle.spec_machine.specs.Reach.{addressed_by_range, addressed_in_place, add
 use Rattle.spec_machine.specs.Client.{Place, names_of_place, Client, client_after, Adds, NoEffect}
 use Rattle.spec_machine.specs.Decisions.{Decision, NoAnswer, EndConnection, AmsError, Perform, Single, refuse, acts_in}
 use Rattle.spec_machine.specs.Entries.{entry_of_part}
-use Rattle.spec_machine.specs.Packets.{Check, checks_of, checked, decide_passed, decide_header}
+use Rattle.spec_machine.specs.Packets.{Check, source_rights, checks_of, checked, decide_passed, decide_header}
 use Rattle.spec_machine.specs.Reads.{fixed_reply}
 use Rattle.spec_machine.specs.Meanings.{mode_in, name_in, value_len_in}
 use Rattle.spec_machine.specs.Requests.{mode_of, MAX_WATCHES, next_watch, add_watch, add_reached, add_act, plain_act, act_of}
 use Rattle.spec_machine.specs.Sums.{SumRequest, sum_refusal, sum_of_reads, sum_of_writes, sum_of_read_writes, given_in_turn}
-use Rattle.spec_machine.specs.SumPackets.{acts_of, decide_parts, decide_read_write, decide_request}
+use Rattle.spec_machine.specs.MoreSums.{more_sums}
+use Rattle.spec_machine.proofs.MoreSums.{more_sums-none}
+use Rattle.spec_machine.specs.SumPackets.{acts_of, decide_parts, decide_read_write, decide_more, decide_request}
 use Rattle.spec_machine.specs.Watches.{Watch, Mode}
 use Rattle.spec_machine.specs.World.{Setup, port_numbered, numbers_from, name_at, names_at}
 use Rattle.spec_machine.specs.Writes.{Asker}
@@ -78,10 +79,17 @@ replied_read_write d c k (Some SumReadWrite) r n len bytes =
     let s = sum_of_read_writes n bytes in replied_parts d c k s (sum_refusal n s.data_len (length bytes) s.reply_len len)
 replied_read_write d c k g r n len bytes = tt
 
+replied_more : (d : Setup) (c : Client) (k : Asker) (o : Option (ℕ → List ℕ → SumRequest)) (group n len : ℕ) (bytes : List ℕ)
+    → IsReplied (decide_more d c k o group n len bytes)
+replied_more d c k (Some sum) group n len bytes =
+    let s = sum n bytes in replied_parts d c k s (sum_refusal n s.data_len (length bytes) s.reply_len len)
+replied_more d c k None group n len bytes =
+    replied_read_write d c k (answered_group READ_WRITE group) (request.ReadWrite group n len bytes) n len bytes
+
 replied_request : (d : Setup) (c : Client) (k : Asker) (r : Request) → IsReplied (decide_request d c k r)
 unfolding decide_request
 replied_request d c k (request.ReadWrite group offset len bytes) =
-    replied_read_write d c k (answered_group READ_WRITE group) (request.ReadWrite group offset len bytes) offset len bytes
+    replied_more d c k (more_sums d.profile group) group offset len bytes
 replied_request d c k r = tt
 
 -- who is answered: none where a check fails
@@ -122,9 +130,9 @@ decided : (P : Decision → Type 0) (d : Setup) (c : Client) (h : AmsHeader) (pa
 decided P d c h payload error ends refused flags other by =
     let port = port_numbered h.target.port d.plant.ports in
     let r = request_of h.command payload in
-    let rights = rights_of h.source.net d.plant.routes in
+    let rights = source_rights d h in
     let response : (h.flags % 2 == 1) ≡ false = rw flags refl in
-    checked_holds P (checks_of d.plant h payload) (decide_passed d c h.source rights port r) (
+    checked_holds P (checks_of d h payload) (decide_passed d c h.source rights port r) (
       (λ e. error invalid_ams_length (omega arith)),
       (
         (λ e. absurd (true_false (sym e ∙ response))),
@@ -190,8 +198,8 @@ entry_act : (d : Setup) (c : Client) (k : Asker) (offset len : ℕ) (name : List
 unfolding act_of plain_act read_write_group
 entry_act d c k offset len name =
     let g = answered_group READ_WRITE 0xF009 in
-    let meant = name_in d.profile g name in
-    let room = value_len_in d.profile k.port g meant len in
+    let meant = name_in d.profile.manner g name in
+    let room = value_len_in d.profile.manner k.port g meant len in
     ap (λ (x : Option Group). effect_of (read_write_group c k.port x room meant)) entry_group ∙ found_keeps room (found_of k.port.symbols meant)
 
 entry_decided : (d : Setup) (c : Client) (k : Asker) (offset len : ℕ) (name : List ℕ)
@@ -199,7 +207,8 @@ entry_decided : (d : Setup) (c : Client) (k : Asker) (offset len : ℕ) (name : 
 unfolding decide_request
 entry_decided d c k offset len name =
     let r = request.ReadWrite 0xF009 offset len name in
-    ap (λ g. client_after_acts c (acts_in (decide_read_write d c k g r offset len name))) entry_group
+    ap (λ o. client_after_acts c (acts_in (decide_more d c k o 0xF009 offset len name))) (more_sums-none d.profile 0xF009 refl)
+    ∙ ap (λ g. client_after_acts c (acts_in (decide_read_write d c k g r offset len name))) entry_group
     ∙ ap (client_after_acts c) (one_acts d c k r)
     ∙ one_act c (act_of d c k r) (entry_act d c k offset len name)
 
@@ -377,7 +386,7 @@ unfolding decide_request act_of plain_act
 addition_decided d c h k g o l m y z address port net =
     let r = request.AddDeviceNotification g o l m y z in
     subst (λ acts. AddsOrKeeps c h d.plant (Perform acts Single)) (sym (one_acts d c k r))
-    (single_case h d.plant c (act_of d c k r) (add_case h d.plant c k _ o l z (mode_of (mode_in d.profile m)) address port net))
+    (single_case h d.plant c (act_of d c k r) (add_case h d.plant c k _ o l z (mode_of (mode_in d.profile.manner m)) address port net))
 
 pub addition_adds : (d : Setup) (c : Client) (h : AmsHeader) (payload : List ℕ) → h.flags ≡ request_flags → h.command ≡ ADD_DEVICE_NOTIFICATION
     → AddsOrKeeps c h d.plant (decide_header d c payload (Some h))

@@ -2,7 +2,6 @@
 use Rattle.std.proofs.Common.{◌≡◌, ℕ, List, [], ◌∷◌, length, Bool, true, false, cond, refl}
 use Rattle.std.specs.Prelude.{Option, Some, None}
 use Rattle.spec_plant.specs.Description.{Rights}
-use Rattle.spec_plant.specs.Rights.{rights_of}
 use Rattle.spec_plant.specs.World.{PlantPort}
 use Rattle.spec_formats.specs.Codes.{target_port_not_found, target_machine_not_found, unknown_command_id, unknown_ams_command, invalid_ams_length, invalid_size}
 use Rattle.spec_formats.specs.Groups.{Group, SumRead, SumWrite, SumReadWrite}
@@ -14,10 +13,11 @@ use Rattle.spec_machine.specs.World.{Setup, port_numbered}
 use Rattle.spec_machine.specs.Client.{Client}
 use Rattle.spec_machine.specs.Answers.{answered_group, READ_WRITE}
 use Rattle.spec_machine.specs.Writes.{Asker}
-use Rattle.spec_machine.specs.Sums.{sum_of_reads, sum_of_writes, sum_of_read_writes}
+use Rattle.spec_machine.specs.Sums.{SumRequest, sum_of_reads, sum_of_writes, sum_of_read_writes}
+use Rattle.spec_machine.specs.MoreSums.{more_sums}
 use Rattle.spec_machine.specs.Decisions.{Decision, NoAnswer, EndConnection, AmsError, refuse}
-use Rattle.spec_machine.specs.SumPackets.{decide_single, decide_sum, decide_read_write, decide_request}
-use Rattle.spec_machine.specs.Packets.{Check, checks_of, checked, decide_passed, decide_header, decide}
+use Rattle.spec_machine.specs.SumPackets.{decide_single, decide_sum, decide_read_write, decide_more, decide_request}
+use Rattle.spec_machine.specs.Packets.{Check, source_rights, checks_of, checked, decide_passed, decide_header, decide}
 
 -- it holds of each; requests are asked of a port that is there
 pub record EachCase (d : Setup) (c : Client) (P : Decision → Type 0) : Type 0 where
@@ -32,6 +32,9 @@ pub record EachCase (d : Setup) (c : Client) (P : Decision → Type 0) : Type 0 
       → (n len : ℕ) (bytes : List ℕ) → P (decide_sum d c k n (length bytes) len (sum_of_writes n bytes))
   pub read_writes : (k : Asker) (number : ℕ) → port_numbered number d.plant.ports ≡ Some k.port
       → (n len : ℕ) (bytes : List ℕ) → P (decide_sum d c k n (length bytes) len (sum_of_read_writes n bytes))
+  pub more : (k : Asker) (number : ℕ) → port_numbered number d.plant.ports ≡ Some k.port
+      → (group : ℕ) (sum : ℕ → List ℕ → SumRequest) → more_sums d.profile group ≡ Some sum
+      → (n len : ℕ) (bytes : List ℕ) → P (decide_sum d c k n (length bytes) len (sum n bytes))
 
 read_write-case : (d : Setup) (c : Client) (P : Decision → Type 0) → EachCase d c P
     → (k : Asker) (number : ℕ) → port_numbered number d.plant.ports ≡ Some k.port
@@ -41,11 +44,19 @@ read_write-case d c P law k number e (Some SumWrite) r n len bytes = law.writes 
 read_write-case d c P law k number e (Some SumReadWrite) r n len bytes = law.read_writes k number e n len bytes
 read_write-case d c P law k number e g r n len bytes = law.single k number e r
 
+more-case : (d : Setup) (c : Client) (P : Decision → Type 0) → EachCase d c P
+    → (k : Asker) (number : ℕ) → port_numbered number d.plant.ports ≡ Some k.port
+    → (group n len : ℕ) (bytes : List ℕ) (o : Option (ℕ → List ℕ → SumRequest)) → more_sums d.profile group ≡ o
+    → P (decide_more d c k o group n len bytes)
+more-case d c P law k number e group n len bytes (Some sum) is = law.more k number e group sum is n len bytes
+more-case d c P law k number e group n len bytes None is =
+    read_write-case d c P law k number e (answered_group READ_WRITE group) (ReadWrite group n len bytes) n len bytes
+
 request-case : (d : Setup) (c : Client) (P : Decision → Type 0) → EachCase d c P → (k : Asker) (number : ℕ) → port_numbered number d.plant.ports ≡ Some k.port
     → (r : Request) → P (decide_request d c k r)
 unfolding decide_request
 request-case d c P law k number e (ReadWrite group offset len bytes) =
-    read_write-case d c P law k number e (answered_group READ_WRITE group) (ReadWrite group offset len bytes) offset len bytes
+    more-case d c P law k number e group offset len bytes (more_sums d.profile group) refl
 request-case d c P law k number e ReadDeviceInfo = law.single k number e ReadDeviceInfo
 request-case d c P law k number e (Read g o l) = law.single k number e (Read g o l)
 request-case d c P law k number e (Write g o b) = law.single k number e (Write g o b)
@@ -83,7 +94,7 @@ unfolding EachStop
 header-case d c P law payload None = law.silent
 header-case d c P law payload (Some h) =
     let E = law.error in
-    let stops : EachStop P (checks_of d.plant h payload) = (
+    let stops : EachStop P (checks_of d h payload) = (
       E invalid_ams_length,
       (
         law.silent,
@@ -93,8 +104,8 @@ header-case d c P law payload (Some h) =
         ),
       ),
     ) in
-    checked-case P (checks_of d.plant h payload) _ stops
-    (passed-case d c P law h.source h.target.port (rights_of h.source.net d.plant.routes)
+    checked-case P (checks_of d h payload) _ stops
+    (passed-case d c P law h.source h.target.port (source_rights d h)
     (port_numbered h.target.port d.plant.ports) refl (request_of h.command payload))
 
 pub decide-cases : (d : Setup) (c : Client) (P : Decision → Type 0) → EachCase d c P → (packet : List ℕ) → P (decide d c packet)

@@ -14,7 +14,7 @@ pub mod AllTaken
 pub mod Carried
 pub mod ServerDelivers
 mod OpenedAgain
-mod Plant
+pub mod Plant
 mod WriteExamples
 mod HandleExamples
 mod NotificationExamples
@@ -25,10 +25,12 @@ mod PacketExamples
 mod EnumerationExamples
 mod BesideExamples
 mod WideExamples
+mod OthersExamples
 pub mod Meanings
 pub mod HandleStatuses
 pub mod TablesAgreed
 mod SumsInTurn
+pub mod MoreSums
 pub mod DecisionCases
 mod RunExamples
 pub mod AreaNames

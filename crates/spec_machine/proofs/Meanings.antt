@@ -10,7 +10,8 @@ use Rattle.spec_plant.specs.Finding.{Found, found_of}
 use Rattle.spec_formats.specs.Request.{Request, ReadDeviceInfo, Read, Write, ReadState, WriteControl}
 use Rattle.spec_formats.specs.Request.{AddDeviceNotification, DeleteDeviceNotification, DeviceNotification, ReadWrite}
 use Rattle.spec_formats.specs.Groups.{Group, ValueByHandle, ValueByName}
-use Rattle.spec_machine.specs.Profile.{Profile, Strict, Wide}
+use Rattle.spec_machine.specs.Manner.{Manner, Strict, Wide}
+use Rattle.spec_machine.specs.Profile.{Profile}
 use Rattle.spec_machine.specs.Handles.{HandleStatus, Never, Released, Outdated, Live, kept_status}
 use Rattle.spec_machine.specs.Watches.{Mode}
 use Rattle.spec_machine.specs.Client.{Place, Client}
@@ -30,7 +31,7 @@ handle_less : (c : Client) (p : PlantPort) (g : Option Group) (offset len : ℕ)
 handle_less c p (Some ValueByHandle) offset len = status_less (kept_status c.handles offset p.number) len
 handle_less c p g offset len = omega arith
 
-pub read_len-less : (x : Profile) (c : Client) (p : PlantPort) (g : Option Group) (offset len : ℕ) → read_len_in x c p g offset len ≤ len
+pub read_len-less : (x : Manner) (c : Client) (p : PlantPort) (g : Option Group) (offset len : ℕ) → read_len_in x c p g offset len ≤ len
 read_len-less Strict c p g offset len = omega arith
 read_len-less Wide c p g offset len = handle_less c p g offset len
 
@@ -42,12 +43,12 @@ name_less : (p : PlantPort) (g : Option Group) (name : List ℕ) (len : ℕ) →
 name_less p (Some ValueByName) name len = found_less (found_of p.symbols name) len
 name_less p g name len = omega arith
 
-pub value_len-less : (x : Profile) (p : PlantPort) (g : Option Group) (name : List ℕ) (len : ℕ) → value_len_in x p g name len ≤ len
+pub value_len-less : (x : Manner) (p : PlantPort) (g : Option Group) (name : List ℕ) (len : ℕ) → value_len_in x p g name len ≤ len
 value_len-less Strict p g name len = omega arith
 value_len-less Wide p g name len = name_less p g name len
 
 -- the strict server's modes are the wide server's
-pub mode-kept : (x : Profile) (number : ℕ) (mode : Mode) → mode_of number ≡ Some mode → mode_of (mode_in x number) ≡ Some mode
+pub mode-kept : (x : Manner) (number : ℕ) (mode : Mode) → mode_of number ≡ Some mode → mode_of (mode_in x number) ≡ Some mode
 mode-kept Strict number mode known = known
 mode-kept Wide number mode known =
     elim (cases_Bool (number == 5)) [
@@ -58,13 +59,13 @@ mode-kept Wide number mode known =
       ]
     ]
 
-pub meant-strict : (c : Client) (p : PlantPort) (r : Request) → meant_by Strict c p r ≡ r
-meant-strict c p ReadDeviceInfo = refl
-meant-strict c p (Read group offset len) = refl
-meant-strict c p (Write group offset bytes) = refl
-meant-strict c p ReadState = refl
-meant-strict c p (WriteControl ads device bytes) = refl
-meant-strict c p (AddDeviceNotification group offset len mode delay cycle) = refl
-meant-strict c p (DeleteDeviceNotification handle) = refl
-meant-strict c p (DeviceNotification bytes) = refl
-meant-strict c p (ReadWrite group offset len bytes) = refl
+pub meant-strict : (x : Profile) (c : Client) (p : PlantPort) (r : Request) → x.manner ≡ Strict → meant_by x c p r ≡ r
+meant-strict x c p ReadDeviceInfo strict = refl
+meant-strict x c p (Read group offset len) strict = rw strict refl
+meant-strict x c p (Write group offset bytes) strict = refl
+meant-strict x c p ReadState strict = refl
+meant-strict x c p (WriteControl ads device bytes) strict = refl
+meant-strict x c p (AddDeviceNotification group offset len mode delay cycle) strict = rw strict refl
+meant-strict x c p (DeleteDeviceNotification handle) strict = refl
+meant-strict x c p (DeviceNotification bytes) strict = refl
+meant-strict x c p (ReadWrite group offset len bytes) strict = rw strict refl

@@ -60,6 +60,11 @@ record SumRows : Type 0 where
   -- a sum inside a sum is no group
   sum_in_a_sum : given (piece 1 (q 9 2 (codes "82f00000 01000000 08000000 10000000  80f00000 00000000 00000000 00000000")) ∷ [])
       ≡ a 9 2 (codes "00000000 08000000 02070000 00000000")
+  -- to the strict server the sums of the wide one are no groups
+  wide_sums : given (
+      piece 1 (q 9 1 (codes "83f00000 01000000 0c000000 0c000000  40400000 00000000 04000000"))
+      ∷ piece 1 (q 9 2 (codes "84f00000 01000000 0c000000 0c000000  40400000 00000000 04000000")) ∷ [])
+      ≡ a 9 1 (codes "02070000 00000000") ++ a 9 2 (codes "02070000 00000000")
   -- a sum write goes on after a refused part
   goes_on : given (
       piece 1 (q 9 1 (codes
@@ -82,4 +87,4 @@ unfolding ams_length_of is_header front_of packet_of behind_frame frames_from fr
     acts_of_log acts_by_others reply_in_forms outcome_in_all response_packet performed grouped frames_of_samples samples_at watches_after_tick
     reach_of outcomes_of memory_after_acts client_after_acts is_kept memory_after_reload world_after_reload client_reloaded answered_group
     after_packet after_packets after_piece read_group acts_of decide_request decide digits
-sum_rows = record { failing_part = refl; limits = refl; sum_in_a_sum = refl; goes_on = refl; two_handles = refl }
+sum_rows = record { failing_part = refl; limits = refl; sum_in_a_sum = refl; wide_sums = refl; goes_on = refl; two_handles = refl }

@@ -18,7 +18,7 @@ use Rattle.spec_machine.specs.Entries.{entry_of_part}
 use Rattle.spec_machine.specs.HandleLaws.{handles_after_all}
 use Rattle.spec_machine.specs.Handles.{grant_in, handle_in, handles_after, is_released_in, place_after, with_released}
 use Rattle.spec_machine.specs.MachineState.{start_of, output_of}
-use Rattle.spec_machine.specs.Profile.{Wide}
+use Rattle.spec_machine.specs.Profile.{wide}
 use Rattle.spec_machine.specs.Moves.{state_after, state_after_move}
 use Rattle.spec_machine.specs.Events.{connection_after_reload, connection_after_tick, state_after_event}
 use Rattle.spec_machine.specs.SumPackets.{acts_of, decide_request}
@@ -49,7 +49,7 @@ use Rattle.spec_machine.proofs.Plant.{q, a, added, named, stamp, tick, opened, p
 
 -- all that connection 1 of the wide server is given, where it is opened first
 abbrev given_wide : List Move → List ℕ
-given_wide log = output_of 1 (state_after step (start_of (world_in Wide plant waves)) (opened 1 ∷ log))
+given_wide log = output_of 1 (state_after step (start_of (world_in wide plant waves)) (opened 1 ∷ log))
 
 record WideRows : Type 0 where
   -- by handle and by name, more bytes than there are: those that are there, of a part too; a part of a sum is filled to the asked length
@@ -92,6 +92,20 @@ record WideRows : Type 0 where
       ≡ a 6 1 (codes "00000000 01000000") ++ a 6 2 (codes "00000000 02000000")
       ++ stamp 1000 2 (codes "01000000 04000000 2a000000 02000000 04000000 2a000000") ++ stamp 2000 1 (codes "02000000 04000000 2a000000")
       ++ a 6 3 (codes "13070000 00000000") ++ a 6 4 (codes "13070000 00000000")
+  -- sums of reads whose results tell their lengths: the data of each filled to the asked length, or as long as it is; a refused part
+  -- has none; the limits are those of all sums, and a sum inside a sum is no group
+  told_reads : given_wide (
+      piece 1 (named 1 0xF003 4 (codes "Main.title"))
+      ∷ piece 1 (q 9 2 (codes "84f00000 02000000 24000000 18000000  05f00000 01000000 10000000  05f00000 63000000 04000000"))
+      ∷ piece 1 (q 9 3 (codes "83f00000 02000000 24000000 18000000  05f00000 01000000 10000000  05f00000 63000000 04000000"))
+      ∷ piece 1 (q 9 4 (codes "83f00000 02000000 23000000 18000000  05f00000 01000000 10000000  05f00000 63000000 04000000"))
+      ∷ piece 1 (q 9 5 (codes "84f00000 01000000 ffffffff 0b000000  40400000 00000000 040000"))
+      ∷ piece 1 (q 9 6 (codes "82f00000 02000000 18000000 20000000  83f00000 00000000 04000000 00000000  84f00000 00000000 04000000 00000000")) ∷ [])
+      ≡ a 9 1 (codes "00000000 04000000 01000000")
+      ++ a 9 2 (codes "00000000 18000000  00000000 08000000  10070000 00000000  4d69780000000000")
+      ++ a 9 3 (codes "00000000 24000000  00000000 08000000  10070000 00000000  4d69780000000000 0000000000000000 00000000")
+      ++ a 9 4 (codes "05070000 00000000") ++ a 9 5 (codes "05070000 00000000")
+      ++ a 9 6 (codes "00000000 10000000  02070000 00000000  02070000 00000000")
 
 wide_rows : WideRows
 unfolding ams_length_of is_header front_of packet_of behind_frame frames_from frames_of left_behind rest_of has_same_parts has_same_members
@@ -104,4 +118,4 @@ unfolding ams_length_of is_header front_of packet_of behind_frame frames_from fr
     acts_of_log acts_by_others reply_in_forms outcome_in_all response_packet performed grouped frames_of_samples samples_at watches_after_tick
     reach_of outcomes_of memory_after_acts client_after_acts is_kept memory_after_reload world_after_reload client_reloaded answered_group
     after_packet after_packets after_piece read_group acts_of decide_request decide digits
-wide_rows = record { longer_reads = refl; as_ever = refl; over_a_reload = refl; names = refl; modes = refl }
+wide_rows = record { longer_reads = refl; as_ever = refl; over_a_reload = refl; names = refl; modes = refl; told_reads = refl }

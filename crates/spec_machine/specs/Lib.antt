@@ -20,7 +20,9 @@ pub mod SummaryText
 pub mod Delivery
 pub mod Output
 pub mod Running
+pub mod Manner
 pub mod Profile
+pub mod GivenRights
 pub mod World
 pub mod Access
 pub mod Handles
@@ -36,6 +38,7 @@ pub mod ByName
 pub mod Meanings
 pub mod Requests
 pub mod Sums
+pub mod MoreSums
 pub mod Decisions
 pub mod SumPackets
 pub mod Packets

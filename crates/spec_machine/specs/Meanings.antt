@@ -10,7 +10,8 @@ use Rattle.spec_plant.specs.World.{PlantPort}
 use Rattle.spec_plant.specs.Finding.{Found, found_of}
 use Rattle.spec_formats.specs.Request.{Request, Read, AddDeviceNotification, ReadWrite}
 use Rattle.spec_formats.specs.Groups.{Group, HandleByName, ValueByHandle, ValueByName, InfoByName, ExtendedInfoByName}
-use Rattle.spec_machine.specs.Profile.{Profile, Strict, Wide}
+use Rattle.spec_machine.specs.Manner.{Manner, Strict, Wide}
+use Rattle.spec_machine.specs.Profile.{Profile}
 use Rattle.spec_machine.specs.Handles.{HandleStatus, Live, kept_status}
 use Rattle.spec_machine.specs.Client.{Place, Client}
 use Rattle.spec_machine.specs.Answers.{answered_group, READ, READ_WRITE}
@@ -25,7 +26,7 @@ len_by_handle c p (Some ValueByHandle) handle len = len_by_status (kept_status c
 len_by_handle c p group offset len = len
 
 -- how many bytes a Read asks for
-abbrev pub read_len_in : Profile → Client → PlantPort → Option Group → ℕ → ℕ → ℕ
+abbrev pub read_len_in : Manner → Client → PlantPort → Option Group → ℕ → ℕ → ℕ
 read_len_in Strict c p group offset len = len
 read_len_in Wide c p group offset len = len_by_handle c p group offset len
 
@@ -39,7 +40,7 @@ len_by_name p (Some ValueByName) name len = len_found (found_of p.symbols name) 
 len_by_name p group name len = len
 
 -- how many bytes a ReadWrite with this name asks for
-abbrev pub value_len_in : Profile → PlantPort → Option Group → List ℕ → ℕ → ℕ
+abbrev pub value_len_in : Manner → PlantPort → Option Group → List ℕ → ℕ → ℕ
 value_len_in Strict p group name len = len
 value_len_in Wide p group name len = len_by_name p group name len
 
@@ -63,7 +64,7 @@ name_by_group (Some InfoByName) bytes = meant_name bytes
 name_by_group (Some ExtendedInfoByName) bytes = meant_name bytes
 name_by_group group bytes = bytes
 
-abbrev pub name_in : Profile → Option Group → List ℕ → List ℕ
+abbrev pub name_in : Manner → Option Group → List ℕ → List ℕ
 name_in Strict group bytes = bytes
 name_in Wide group bytes = name_by_group group bytes
 
@@ -72,20 +73,20 @@ abbrev pub without_context : ℕ → ℕ
 without_context number = if number == 5 then 3 else if number == 6 then 4 else number
 
 -- the number of a mode
-abbrev pub mode_in : Profile → ℕ → ℕ
+abbrev pub mode_in : Manner → ℕ → ℕ
 mode_in Strict number = number
 mode_in Wide number = without_context number
 
-abbrev pub by_name : Profile → PlantPort → ℕ → ℕ → ℕ → List ℕ → Request
-by_name profile p group offset len name =
-    ReadWrite group offset (value_len_in profile p (answered_group READ_WRITE group) name len) name
+abbrev pub by_name : Manner → PlantPort → ℕ → ℕ → ℕ → List ℕ → Request
+by_name manner p group offset len name =
+    ReadWrite group offset (value_len_in manner p (answered_group READ_WRITE group) name len) name
 
 -- what a request means to a server of this profile
 abbrev pub meant_by : Profile → Client → PlantPort → Request → Request
 meant_by profile c p (Read group offset len) =
-    Read group offset (read_len_in profile c p (answered_group READ group) offset len)
+    Read group offset (read_len_in profile.manner c p (answered_group READ group) offset len)
 meant_by profile c p (AddDeviceNotification group offset len mode delay cycle) =
-    AddDeviceNotification group offset len (mode_in profile mode) delay cycle
+    AddDeviceNotification group offset len (mode_in profile.manner mode) delay cycle
 meant_by profile c p (ReadWrite group offset len bytes) =
-    by_name profile p group offset len (name_in profile (answered_group READ_WRITE group) bytes)
+    by_name profile.manner p group offset len (name_in profile.manner (answered_group READ_WRITE group) bytes)
 meant_by profile c p r = r

@@ -1,16 +1,16 @@
 -- The nine checks of a frame, in their order, and what its AMS packet leads to.
--- Beckhoff Information System, "AMS Header", "ADS Commands". That an unknown route closes is this
+-- Beckhoff Information System, "AMS Header", "ADS Commands". That a machine without rights ends its connection is this
 -- project's own choice.
 use Rattle.std.specs.Prelude.{ℕ, ◌%◌, List, [], ◌∷◌, length, Bool, not, ◌==◌, if◌then◌else◌}
 use Rattle.std.specs.Prelude.{Option, Some, None, is_none, bytes_eq}
 use Rattle.spec_plant.specs.Description.{Rights}
-use Rattle.spec_plant.specs.Rights.{rights_of}
-use Rattle.spec_plant.specs.World.{Plant, PlantPort}
+use Rattle.spec_plant.specs.World.{PlantPort}
 use Rattle.spec_formats.specs.Codes.{target_port_not_found, target_machine_not_found}
 use Rattle.spec_formats.specs.Codes.{unknown_command_id}
 use Rattle.spec_formats.specs.Codes.{unknown_ams_command, invalid_ams_length, invalid_size}
 use Rattle.spec_formats.specs.Header.{AmsAddress, AmsHeader, header_of, payload_of, request_flags}
 use Rattle.spec_formats.specs.Request.{Request, request_of}
+use Rattle.spec_machine.specs.GivenRights.{given_rights}
 use Rattle.spec_machine.specs.World.{Setup, port_numbered}
 use Rattle.spec_machine.specs.Client.{Client}
 use Rattle.spec_machine.specs.Answers.{is_answered, DEVICE_NOTIFICATION}
@@ -25,17 +25,21 @@ pub record Check : Type 0 where
 abbrev pub stop_if : Bool → Decision → Check
 stop_if stops decision = record { stops = stops; leads_to = decision }
 
+-- the rights of the machine that a packet is from
+abbrev pub source_rights : Setup → AmsHeader → Option Rights
+source_rights d h = given_rights d.profile.others h.source.net d.plant.routes
+
 -- The data length is the AMS length less 32; it is no response; its flags are those of a request; its source has
--- a route; its target is this NetId, and a port that is there; it is no notification; its command is answered;
+-- rights; its target is this NetId, and a port that is there; it is no notification; its command is answered;
 -- and its payload is a text of its command.
-abbrev pub checks_of : Plant → AmsHeader → List ℕ → List Check
-checks_of plant h payload =
+abbrev pub checks_of : Setup → AmsHeader → List ℕ → List Check
+checks_of d h payload =
     stop_if (not (h.len == length payload)) (AmsError invalid_ams_length)
     ∷ stop_if (h.flags % 2 == 1) NoAnswer
     ∷ stop_if (not (h.flags == request_flags)) (AmsError unknown_ams_command)
-    ∷ stop_if (is_none (rights_of h.source.net plant.routes)) EndConnection
-    ∷ stop_if (not (bytes_eq h.target.net plant.net)) (AmsError target_machine_not_found)
-    ∷ stop_if (is_none (port_numbered h.target.port plant.ports)) (AmsError target_port_not_found)
+    ∷ stop_if (is_none (source_rights d h)) EndConnection
+    ∷ stop_if (not (bytes_eq h.target.net d.plant.net)) (AmsError target_machine_not_found)
+    ∷ stop_if (is_none (port_numbered h.target.port d.plant.ports)) (AmsError target_port_not_found)
     ∷ stop_if (h.command == DEVICE_NOTIFICATION) NoAnswer
     ∷ stop_if (not (is_answered h.command)) (AmsError unknown_command_id)
     ∷ stop_if (is_none (request_of h.command payload)) (refuse invalid_size)
@@ -57,8 +61,8 @@ decide_passed d c source rights port request = NoAnswer
 abbrev pub decide_header : Setup → Client → List ℕ → Option AmsHeader → Decision
 decide_header d c payload None = NoAnswer
 decide_header d c payload (Some h) =
-    checked (checks_of d.plant h payload)
-    (decide_passed d c h.source (rights_of h.source.net d.plant.routes)
+    checked (checks_of d h payload)
+    (decide_passed d c h.source (source_rights d h)
     (port_numbered h.target.port d.plant.ports) (request_of h.command payload))
 
 unfoldable pub decide : Setup → Client → List ℕ → Decision

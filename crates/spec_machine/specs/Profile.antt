@@ -1,6 +1,17 @@
--- Two servers over one machine: the strict one answers each request as it is written; the wide one takes requests of
--- TwinCAT's clients for what they mean. This project's own choice.
+-- What a server is told beside its description: how it takes requests, and the rights of each NetId that no route names.
+-- This project's own choice.
+use Rattle.std.specs.Prelude.{Option, None}
+use Rattle.spec_plant.specs.Description.{Rights}
+use Rattle.spec_machine.specs.Manner.{Manner, Strict, Wide}
 
-pub data Profile : Type 0 where
-  Strict : Profile
-  Wide : Profile
+pub record Profile : Type 0 where
+  pub manner : Manner
+  pub others : Option Rights
+
+-- the strict server, to which only machines with a route may connect: that of the program `ads`
+abbrev pub strict : Profile
+strict = record { manner = Strict; others = None }
+
+-- the wide server, to which only machines with a route may connect
+abbrev pub wide : Profile
+wide = record { manner = Wide; others = None }

@@ -11,6 +11,7 @@ use Rattle.spec_machine.specs.Writes.{Asker}
 use Rattle.spec_machine.specs.Requests.{act_of}
 use Rattle.spec_machine.specs.Sums.{SumRequest, sum_of_reads, sum_of_writes, sum_of_read_writes}
 use Rattle.spec_machine.specs.Sums.{sum_refusal, given_in_turn}
+use Rattle.spec_machine.specs.MoreSums.{more_sums}
 use Rattle.spec_machine.specs.Decisions.{Single, Sum, Decision, Perform, refuse}
 
 -- each part is decided for the client that the parts before it left
@@ -44,8 +45,16 @@ decide_read_write d c k (Some SumReadWrite) r n read_len bytes =
     decide_sum d c k n (length bytes) read_len (sum_of_read_writes n bytes)
 decide_read_write d c k group r n read_len bytes = decide_single d c k r
 
+-- a sum that a server of this profile knows besides, or what the group says
+abbrev pub decide_more : Setup → Client → Asker → Option (ℕ → List ℕ → SumRequest) → ℕ → ℕ → ℕ
+    → List ℕ → Decision
+decide_more d c k (Some sum) group n read_len bytes =
+    decide_sum d c k n (length bytes) read_len (sum n bytes)
+decide_more d c k None group n read_len bytes =
+    decide_read_write d c k (answered_group READ_WRITE group) (ReadWrite group n read_len bytes) n
+    read_len bytes
+
 unfoldable pub decide_request : Setup → Client → Asker → Request → Decision
 decide_request d c k (ReadWrite group offset read_len bytes) =
-    decide_read_write d c k (answered_group READ_WRITE group)
-    (ReadWrite group offset read_len bytes) offset read_len bytes
+    decide_more d c k (more_sums d.profile group) group offset read_len bytes
 decide_request d c k r = decide_single d c k r

@@ -20,11 +20,13 @@ unfoldable pub left_in_turn : {S P : Type 0} → (S → P → S) → S → List 
 left_in_turn leaves s [] = s
 left_in_turn leaves s (p ∷ ps) = left_in_turn leaves (leaves s p) ps
 
--- how the parts of a sum are packed: reads with their lengths, writes, or reads and writes
+-- how the parts of a sum are packed: reads with their lengths, writes, or reads and writes; reads whose results tell how
+-- many bytes each gave, with the lengths that they asked
 pub data SumForm : Type 0 where
   OfReads : List ℕ → SumForm
   OfWrites : SumForm
   OfReadWrites : SumForm
+  OfToldReads : List ℕ → SumForm
 
 -- a sum that is taken apart: how long its data must be, the greatest length of its reply, its parts,
 -- and how they are packed
@@ -84,6 +86,24 @@ sum_of_read_writes n bytes = record {
   form = OfReadWrites;
 }
 
+-- reads whose results tell their lengths, each filled to the length that it asks
+abbrev pub sum_of_told_reads : ℕ → List ℕ → SumRequest
+sum_of_told_reads n bytes = record {
+  data_len = 12 * n;
+  reply_len = 8 * n + sum (numbers_of_heads n 12 8 bytes);
+  parts = read_parts n bytes;
+  form = OfToldReads (numbers_of_heads n 12 8 bytes);
+}
+
+-- reads whose results tell their lengths, each as long as what it gives
+abbrev pub sum_of_short_reads : ℕ → List ℕ → SumRequest
+sum_of_short_reads n bytes = record {
+  data_len = 12 * n;
+  reply_len = 8 * n + sum (numbers_of_heads n 12 8 bytes);
+  parts = read_parts n bytes;
+  form = OfReadWrites;
+}
+
 -- This project's own choice: how many parts a sum may have.
 abbrev pub MAX_PARTS : ℕ
 MAX_PARTS = 500
@@ -108,11 +128,14 @@ filled_data [] os = []
 filled_data (len ∷ lens) [] = []
 filled_data (len ∷ lens) (o ∷ os) = filled len o.bytes ++ filled_data lens os
 
+-- each result, and the length of what was given
+abbrev pub told : List Outcome → List ℕ
+told os = flat_map (λ (o : Outcome). to_le_bytes w32 o.code ++ to_le_bytes w32 (length o.bytes)) os
+
 -- n results of 4 bytes, then the data of each part, as long as it asked; n results of 4 bytes; n times
--- result 4 and length 4, then the data
+-- result 4 and length 4, then the data, or the data of each part as long as it asked
 unfoldable pub packed : SumForm → List Outcome → List ℕ
 packed (OfReads lens) os = codes_of os ++ filled_data lens os
 packed OfWrites os = codes_of os
-packed OfReadWrites os =
-    flat_map (λ (o : Outcome). to_le_bytes w32 o.code ++ to_le_bytes w32 (length o.bytes)) os
-    ++ flat_map (λ (o : Outcome). o.bytes) os
+packed OfReadWrites os = told os ++ flat_map (λ (o : Outcome). o.bytes) os
+packed (OfToldReads lens) os = told os ++ filled_data lens os

@@ -11,7 +11,7 @@ use Rattle.spec_plant.specs.World.{SymbolPart, AreaPart, StatePart, ByteName, Bl
 use Rattle.spec_plant.specs.World.{byte_or_zero}
 pub use Rattle.spec_plant.specs.Covering.{covers}
 pub use Rattle.spec_plant.specs.Named.{port_numbered}
-use Rattle.spec_machine.specs.Profile.{Profile, Strict}
+use Rattle.spec_machine.specs.Profile.{Profile, strict}
 
 pub record World : Type 0 where
   pub profile : Profile
@@ -105,6 +105,6 @@ world_in profile d signals = record {
   memory = first_memory (plant_of d);
 }
 
--- the same behind the strict server
+-- the same behind the strict server, without a right for others
 abbrev pub world_of : Description → List Wave → World
-world_of d signals = world_in Strict d signals
+world_of d signals = world_in strict d signals

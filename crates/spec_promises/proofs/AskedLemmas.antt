@@ -5,7 +5,6 @@ use Rattle.std.specs.List.{list_any}
 use Rattle.std.proofs.lemmas.Bool.{cases_Bool, or_parts}
 use Rattle.std.proofs.lemmas.List.Concat.{flat_map-append}
 use Rattle.spec_plant.specs.Description.{Rights}
-use Rattle.spec_plant.specs.Rights.{rights_of}
 use Rattle.spec_plant.specs.World.{PlantPort, Block}
 use Rattle.spec_formats.specs.Codes.{target_port_not_found, target_machine_not_found, unknown_command_id, unknown_ams_command, invalid_ams_length, invalid_size}
 use Rattle.spec_formats.specs.Groups.{Group, SumRead, SumWrite, SumReadWrite}
@@ -25,15 +24,16 @@ use Rattle.spec_machine.specs.Answers.{answered_group, READ_WRITE}
 use Rattle.spec_machine.specs.Writes.{Asker}
 use Rattle.spec_machine.specs.Requests.{act_of}
 use Rattle.spec_machine.specs.Sums.{SumRequest, sum_of_reads, sum_of_writes, sum_of_read_writes, given_in_turn}
+use Rattle.spec_machine.specs.MoreSums.{more_sums}
 use Rattle.spec_machine.specs.SumLaws.{Party, party_after}
 use Rattle.spec_machine.specs.Decisions.{Decision, NoAnswer, EndConnection, AmsError, refuse, acts_in}
-use Rattle.spec_machine.specs.SumPackets.{acts_of, decide_parts, decide_read_write, decide_request}
-use Rattle.spec_machine.specs.Packets.{Check, checks_of, checked, decide_passed, decide_header, decide}
+use Rattle.spec_machine.specs.SumPackets.{acts_of, decide_parts, decide_read_write, decide_more, decide_request}
+use Rattle.spec_machine.specs.Packets.{Check, source_rights, checks_of, checked, decide_passed, decide_header, decide}
 use Rattle.spec_machine.specs.Replies.{performed}
 use Rattle.spec_machine.specs.Projection.{acts_of_packet, acts_of_packets, acts_of_piece, acts_at}
 use Rattle.spec_laws.proofs.Exchanges.{answer-client, rest-client}
 use Rattle.spec_promises.specs.Asked.{Asked, act_of_asked, after_asked, asked_in_turn, question, question_in}
-use Rattle.spec_promises.specs.Asked.{question_of, parts_unless, requests_in, requests_of}
+use Rattle.spec_promises.specs.Asked.{question_of, parts_unless, requests_in, requests_more, requests_of}
 use Rattle.spec_promises.specs.Asked.{asked_of_question, party_of, asked_of_packet, asked_of_packets, asked_of_piece, asked_at, names_written, Leads}
 use Rattle.spec_server.specs.Server.{read_description, server_device}
 
@@ -125,11 +125,15 @@ read_write d k p (Some SumWrite) r n len bytes = parts d k p (sum_of_writes n by
 read_write d k p (Some SumReadWrite) r n len bytes = parts d k p (sum_of_read_writes n bytes) _
 read_write d k p g r n len bytes = in_turn d k (r ∷ []) p
 
+more : (d : Setup) (k : Asker) (p : Party) (o : Option (ℕ → List ℕ → SumRequest)) (group n len : ℕ) (bytes : List ℕ)
+    → Matches p (acts_in (decide_more d p.client k o group n len bytes)) (asked_in_turn d k p (requests_more o group n len bytes))
+more d k p (Some sum) group n len bytes = parts d k p (sum n bytes) _
+more d k p None group n len bytes = read_write d k p (answered_group READ_WRITE group) (ReadWrite group n len bytes) n len bytes
+
 requests : (d : Setup) (k : Asker) (p : Party) (r : Request)
-    → Matches p (acts_in (decide_request d p.client k r)) (asked_in_turn d k p (requests_of r))
+    → Matches p (acts_in (decide_request d p.client k r)) (asked_in_turn d k p (requests_of d.profile r))
 unfolding decide_request requests_of
-requests d k p (ReadWrite group offset len bytes) =
-    read_write d k p (answered_group READ_WRITE group) (ReadWrite group offset len bytes) offset len bytes
+requests d k p (ReadWrite group offset len bytes) = more d k p (more_sums d.profile group) group offset len bytes
 requests d k p ReadDeviceInfo = in_turn d k (ReadDeviceInfo ∷ []) p
 requests d k p (Read g o l) = in_turn d k (Read g o l ∷ []) p
 requests d k p (Write g o b) = in_turn d k (Write g o b ∷ []) p
@@ -147,16 +151,16 @@ passed_on d p source (Some rights) None request = (no_acts NoAnswer refl).matche
 passed_on d p source None port request = (no_acts NoAnswer refl).matches p
 
 header : (d : Setup) (p : Party) (payload : List ℕ) (o : Option AmsHeader)
-    → Matches p (acts_in (decide_header d p.client payload o)) (asked_of_question d p (question_in d.plant payload o))
+    → Matches p (acts_in (decide_header d p.client payload o)) (asked_of_question d p (question_in d payload o))
 unfolding AllQuiet
 header d p payload None = (no_acts NoAnswer refl).matches p
-header d p payload (Some h) = go (list_any (λ (c : Check). c.stops) (checks_of d.plant h payload)) refl
+header d p payload (Some h) = go (list_any (λ (c : Check). c.stops) (checks_of d h payload)) refl
   where
     checks : List Check
-    checks = checks_of d.plant h payload
+    checks = checks_of d h payload
 
     rights : Option Rights
-    rights = rights_of h.source.net d.plant.routes
+    rights = source_rights d h
 
     port : Option PlantPort
     port = port_numbered h.target.port d.plant.ports
@@ -170,7 +174,7 @@ header d p payload (Some h) = go (list_any (λ (c : Check). c.stops) (checks_of 
     silent : Quiet NoAnswer
     silent = no_acts NoAnswer refl
 
-    quiet : AllQuiet (checks_of d.plant h payload)
+    quiet : AllQuiet (checks_of d h payload)
     quiet = (
       error invalid_ams_length,
       (
@@ -188,16 +192,16 @@ header d p payload (Some h) = go (list_any (λ (c : Check). c.stops) (checks_of 
       ),
     )
 
-    go : (b : Bool) → list_any (λ (c : Check). c.stops) (checks_of d.plant h payload) ≡ b
-        → Matches p (acts_in (checked (checks_of d.plant h payload) decision))
+    go : (b : Bool) → list_any (λ (c : Check). c.stops) (checks_of d h payload) ≡ b
+        → Matches p (acts_in (checked (checks_of d h payload) decision))
         (asked_of_question d p (cond b None (question h.source rights port (request_of h.command payload))))
-    go true e = (stopped (checks_of d.plant h payload) decision quiet e).matches p
+    go true e = (stopped (checks_of d h payload) decision quiet e).matches p
     go false e =
         subst (λ x. Matches p (acts_in x) (asked_of_question d p (question h.source rights port (request_of h.command payload))))
-        (sym (passed (checks_of d.plant h payload) decision e)) (passed_on d p h.source rights port (request_of h.command payload))
+        (sym (passed (checks_of d h payload) decision e)) (passed_on d p h.source rights port (request_of h.command payload))
 
 decision-matches : (d : Setup) (p : Party) (packet : List ℕ)
-    → Matches p (acts_in (decide d p.client packet)) (asked_of_question d p (question_of d.plant packet))
+    → Matches p (acts_in (decide d p.client packet)) (asked_of_question d p (question_of d packet))
 unfolding decide question_of
 decision-matches d p packet = header d p (payload_of packet) (header_of packet)
 
@@ -219,11 +223,11 @@ packet-takes packet x = go x.connection.closing
     o = performed decision packet x.world x.connection.client
 
     asked : List Asked
-    asked = asked_of_question (setup_of x.world) (party_of x) (question_of x.world.plant packet)
+    asked = asked_of_question (setup_of x.world) (party_of x) (question_of (setup_of x.world) packet)
 
     go : (b : Bool) → Takes x (cond b x (after_outcome (performed decision packet x.world x.connection.client) x.connection))
         (cond b [] (acts_in decision))
-        (cond b [] (asked_of_question (setup_of x.world) (party_of x) (question_of x.world.plant packet)))
+        (cond b [] (asked_of_question (setup_of x.world) (party_of x) (question_of (setup_of x.world) packet)))
     go true = record { leads = refl; clients = refl; names = refl }
     go false =
         let m = decision-matches (setup_of x.world) (party_of x) packet in

@@ -10,7 +10,8 @@ use Rattle.spec_plant.proofs.BlockLemmas.{is_block-true}
 use Rattle.spec_plant.proofs.SoundLemmas.{accepted_are_sound}
 use Rattle.spec_formats.specs.Groups.{ValueByHandle, value_by_handle, group_in, group_of}
 use Rattle.spec_formats.specs.Request.{Read}
-use Rattle.spec_machine.specs.Profile.{Profile, Strict, Wide}
+use Rattle.spec_machine.specs.Manner.{Manner, Strict, Wide}
+use Rattle.spec_machine.specs.Profile.{Profile, strict}
 use Rattle.spec_machine.specs.Meanings.{len_by_status, read_len_in}
 use Rattle.spec_machine.specs.Device.{ClientOutcome, DescriptionFault}
 use Rattle.spec_machine.specs.Connection.{Connection, connection_of, is_deaf}
@@ -121,22 +122,22 @@ abbrev read_of_place : List Block → ℕ → Place → ℕ → Outcome
 read_of_place memory port place len = outcome_of memory (read_act (addressed_in_place port place len))
 
 -- how many bytes of a place are read, where so many are asked
-abbrev len_of_place : Profile → Place → ℕ → ℕ
+abbrev len_of_place : Manner → Place → ℕ → ℕ
 len_of_place Strict place len = len
 len_of_place Wide place len = min len place.len
 
-meant-len : (x : Profile) (c : Client) (p : PlantPort) (handle len : ℕ) (place : Place) → kept_status c.handles handle p.number ≡ Live place
+meant-len : (x : Manner) (c : Client) (p : PlantPort) (handle len : ℕ) (place : Place) → kept_status c.handles handle p.number ≡ Live place
     → read_len_in x c p (Some ValueByHandle) handle len ≡ len_of_place x place len
 meant-len Strict c p handle len place live = refl
 meant-len Wide c p handle len place live = ap (λ s. len_by_status s len) live
 
 reads-place : (d : Setup) (k : Asker) (p : Party) (handle len : ℕ) (place : Place) → kept_status p.client.handles handle k.port.number ≡ Live place
-    → single_outcome d k p (Read value_by_handle handle len) ≡ read_of_place p.memory k.port.number place (len_of_place d.profile place len)
+    → single_outcome d k p (Read value_by_handle handle len) ≡ read_of_place p.memory k.port.number place (len_of_place d.profile.manner place len)
 unfolding act_of plain_act answered_group group_of group_in read_group reach_of
 reads-place d k p handle len place live =
-    let meant = read_len_in d.profile p.client k.port (Some ValueByHandle) handle len in
+    let meant = read_len_in d.profile.manner p.client k.port (Some ValueByHandle) handle len in
     ap (λ s. outcome_of p.memory (read_act (addressed_by_status k.port.number s meant))) live
-    ∙ ap (read_of_place p.memory k.port.number place) (meant-len d.profile p.client k.port handle len place live)
+    ∙ ap (read_of_place p.memory k.port.number place) (meant-len d.profile.manner p.client k.port handle len place live)
 
 place-kept : (old new : Plant) (m : List Block) → IsSoundPlant old → IsSoundPlant new → (port : ℕ) (place : Place) → IsPlaced old port place
     → is_kept old new port (SymbolPart place.symbol) ≡ true → (len : ℕ)
@@ -170,15 +171,15 @@ handles-after moment old new k heard =
 same-reading : (ds dt : Setup) (ms mt : List Block) (k l : Client) (asker later : Asker) (handle len : ℕ) (place : Place)
     → dt.profile ≡ ds.profile → later.port.number ≡ asker.port.number
     → kept_status k.handles handle asker.port.number ≡ Live place → kept_status l.handles handle later.port.number ≡ Live place
-    → read_of_place mt asker.port.number place (len_of_place ds.profile place len)
-    ≡ read_of_place ms asker.port.number place (len_of_place ds.profile place len)
+    → read_of_place mt asker.port.number place (len_of_place ds.profile.manner place len)
+    ≡ read_of_place ms asker.port.number place (len_of_place ds.profile.manner place len)
     → single_outcome dt later (record { client = l; memory = mt }) (Read value_by_handle handle len) ≡ single_outcome ds asker
     (record { client = k; memory = ms }) (Read value_by_handle handle len)
 same-reading ds dt ms mt k l asker later handle len place profile port before after same =
-    let most : ℕ = len_of_place ds.profile place len in
+    let most : ℕ = len_of_place ds.profile.manner place len in
     let new : single_outcome dt later (record { client = l; memory = mt }) (Read value_by_handle handle len) ≡ read_of_place mt later.port.number place most
     = reads-place dt later (record { client = l; memory = mt }) handle len place after
-    ∙ ap (λ (x : Profile). read_of_place mt later.port.number place (len_of_place x place len)) profile in
+    ∙ ap (λ (x : Profile). read_of_place mt later.port.number place (len_of_place x.manner place len)) profile in
     let old : single_outcome ds asker (record { client = k; memory = ms }) (Read value_by_handle handle len) ≡ read_of_place ms asker.port.number place most
     = reads-place ds asker (record { client = k; memory = ms }) handle len place before in
     let there : read_of_place mt later.port.number place most ≡ read_of_place mt asker.port.number place most
@@ -227,7 +228,7 @@ reads-as-before s (Ok d) sound w fits c k l asker later h handle live live_later
     ∙ stays.later in
     same-reading (setup_of s.world) (setup_of new) s.world.memory new.memory k.client l.client asker later handle len stays.place refl h.same_port stays.live after
     (place-kept s.world.plant (plant_of d) s.world.memory w.sound (sound d refl) port stays.place placed stays.is_kept
-    (len_of_place s.world.profile stays.place len))
+    (len_of_place s.world.profile.manner stays.place len))
 
 pub each_keeps_handles : EachKeepsHandles
 unfolding state_after_move state_after_event
@@ -240,4 +241,4 @@ each_keeps_handles profile d waves accepted before bytes =
     (every_state_fits read_description reads_descriptions profile d waves accepted before).connections)
 
 pub server_keeps_handles : ServerKeepsHandles
-server_keeps_handles d waves accepted before bytes = each_keeps_handles Strict d waves accepted before bytes
+server_keeps_handles d waves accepted before bytes = each_keeps_handles strict d waves accepted before bytes

@@ -6,3 +6,8 @@ pub mod Found
 pub mod Lives
 pub mod KeptReads
 pub mod Promised
+mod AskedExamples
+mod WrittenExamples
+mod NotifiedExamples
+mod LifeExamples
+mod KeptExamples

@@ -10,7 +10,7 @@ use Rattle.ads_outside.specs.declared.moves.Move.{Move}
 use Rattle.ads_outside.specs.declared.moves.Move.TheVariants as move
 use Rattle.spec_plant.specs.Description.{Description}
 use Rattle.spec_formats.specs.Header.{AmsAddress}
-use Rattle.spec_machine.specs.Profile.{Profile, Strict}
+use Rattle.spec_machine.specs.Profile.{Profile, strict}
 use Rattle.spec_machine.specs.Device.{ClientOutcome, DescriptionFault}
 use Rattle.spec_machine.specs.Connection.{Connection, connection_of, fresh_connection, is_deaf}
 use Rattle.spec_machine.specs.MachineState.{MachineState, Exchange, exchange_of, after_exchange}
@@ -323,4 +323,4 @@ each_notifies profile d waves before after c h w there first =
     }
 
 pub server_notifies : ServerNotifies
-server_notifies d waves before after c h w there first = each_notifies Strict d waves before after c h w there first
+server_notifies d waves before after c h w there first = each_notifies strict d waves before after c h w there first

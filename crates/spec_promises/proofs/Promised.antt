@@ -5,7 +5,7 @@ use Rattle.ads_outside.specs.declared.event.Event.TheVariants as event
 use Rattle.ads_outside.specs.declared.moves.Move.{Move}
 use Rattle.ads_outside.specs.declared.moves.Move.TheVariants as move
 use Rattle.spec_plant.specs.Description.{Description}
-use Rattle.spec_machine.specs.Profile.{Profile, Strict}
+use Rattle.spec_machine.specs.Profile.{Profile, strict}
 use Rattle.spec_machine.specs.Connection.{connection_of}
 use Rattle.spec_machine.specs.MachineState.{MachineState}
 use Rattle.spec_machine.specs.Moves.{state_after_move}
@@ -57,4 +57,4 @@ each_holds_writes profile d waves accepted before m = record {
 }
 
 pub server_holds_writes : ServerHoldsWrites
-server_holds_writes d waves accepted before m = each_holds_writes Strict d waves accepted before m
+server_holds_writes d waves accepted before m = each_holds_writes strict d waves accepted before m

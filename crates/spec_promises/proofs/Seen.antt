@@ -10,7 +10,6 @@ use Rattle.ads_outside.specs.declared.moves.Move.{Move}
 use Rattle.ads_outside.specs.declared.moves.Move.TheVariants as move
 use Rattle.spec_plant.specs.Description.{Description, Rights}
 use Rattle.spec_plant.specs.Accepted.{IsAccepted}
-use Rattle.spec_plant.specs.Rights.{rights_of}
 use Rattle.spec_plant.specs.World.{Plant, PlantPort, Block, plant_of}
 use Rattle.spec_plant.proofs.BlockLemmas.{stands_within_part}
 use Rattle.spec_plant.proofs.SoundLemmas.{accepted_are_sound, port_number}
@@ -32,7 +31,7 @@ use Rattle.spec_machine.specs.Writes.{Asker}
 use Rattle.spec_machine.specs.Requests.{act_of}
 use Rattle.spec_machine.specs.SumLaws.{Party, party_after}
 use Rattle.spec_machine.specs.Decisions.{Decision, acts_in}
-use Rattle.spec_machine.specs.Packets.{Check, checks_of, decide}
+use Rattle.spec_machine.specs.Packets.{Check, source_rights, checks_of, decide}
 use Rattle.spec_machine.specs.Replies.{performed}
 use Rattle.spec_machine.specs.Ticks.{signal_puts, world_after_tick}
 use Rattle.spec_machine.specs.Reloads.{world_after_reload}
@@ -151,20 +150,20 @@ passed-sees : (d : Setup) (p : Party) → IsSoundPlant d.plant → Alike p.memor
 passed-sees d p sound m f source (Some rights) number (Some port) e (Some request) =
     let P : ℕ → Type 0 = λ n. port_numbered n d.plant.ports ≡ Some port in
     let i : IsAsked d.plant port = record { sound = sound; found = subst P (sym (port_number number d.plant.ports port e)) e } in
-    in_turn-sees d (record { port = port; address = source; rights = rights }) i (requests_of request) p m f
+    in_turn-sees d (record { port = port; address = source; rights = rights }) i (requests_of d.profile request) p m f
 passed-sees d p sound m f source (Some rights) number (Some port) e None = tt
 passed-sees d p sound m f source (Some rights) number None e request = tt
 passed-sees d p sound m f source None number port e request = tt
 
 header-sees : (d : Setup) (p : Party) → IsSoundPlant d.plant → Alike p.memory (first_memory d.plant) → FitsPlant d.plant p.client
-    → (payload : List ℕ) (o : Option AmsHeader) → Each Sees (asked_of_question d p (question_in d.plant payload o))
+    → (payload : List ℕ) (o : Option AmsHeader) → Each Sees (asked_of_question d p (question_in d payload o))
 header-sees d p sound m f payload None = tt
-header-sees d p sound m f payload (Some h) = go (list_any (λ (c : Check). c.stops) (checks_of d.plant h payload))
+header-sees d p sound m f payload (Some h) = go (list_any (λ (c : Check). c.stops) (checks_of d h payload))
   where
     go : (b : Bool) → Each Sees (asked_of_question d p
-        (cond b None (question h.source (rights_of h.source.net d.plant.routes) (port_numbered h.target.port d.plant.ports) (request_of h.command payload))))
+        (cond b None (question h.source (source_rights d h) (port_numbered h.target.port d.plant.ports) (request_of h.command payload))))
     go true = tt
-    go false = passed-sees d p sound m f h.source (rights_of h.source.net d.plant.routes) h.target.port (port_numbered h.target.port d.plant.ports) refl
+    go false = passed-sees d p sound m f h.source (source_rights d h) h.target.port (port_numbered h.target.port d.plant.ports) refl
         (request_of h.command payload)
 
 -- what a packet finds
@@ -177,7 +176,7 @@ packet-sees : (packet : List ℕ) (x : Exchange World Client) → Fine x → Eac
 unfolding question_of
 packet-sees packet x f = go x.connection.closing
   where
-    go : (b : Bool) → Each Sees (cond b [] (asked_of_question (setup_of x.world) (party_of x) (question_of x.world.plant packet)))
+    go : (b : Bool) → Each Sees (cond b [] (asked_of_question (setup_of x.world) (party_of x) (question_of (setup_of x.world) packet)))
     go true = tt
     go false = header-sees (setup_of x.world) (party_of x) f.sound f.memory f.client (payload_of packet) (header_of packet)
 

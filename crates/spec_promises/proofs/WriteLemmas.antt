@@ -14,7 +14,7 @@ use Rattle.spec_formats.specs.Groups.{Group, AreaBytes, AreaBit, ValueByHandle, 
 use Rattle.spec_formats.specs.Ranges.{greatest_len, byte_range, bit_range, range_in}
 use Rattle.spec_formats.specs.Request.{Request, Write}
 use Rattle.spec_formats.specs.Numbers.{number32}
-use Rattle.spec_machine.specs.Profile.{Profile, Strict, Wide}
+use Rattle.spec_machine.specs.Manner.{Manner, Strict, Wide}
 use Rattle.spec_machine.specs.World.{Setup, numbers_from, name_at, names_at, symbol_names, content_of}
 use Rattle.spec_machine.specs.Access.{Addressed, WholeByte, OneBit, values_at, puts_of, memory_after_put, memory_after_puts}
 use Rattle.spec_machine.specs.AreaContent.{IsThere}
@@ -260,8 +260,8 @@ bit-done m p area offset (v ∷ (w ∷ rest)) e there = absurd (omega (arith, e)
 record DoneAs (d : Setup) (c : Client) (k : Asker) (g : Option Group) (offset : ℕ) (bytes : List ℕ) (m : List Block) (a : Act) : Type 0 where
   holds : HoldsAt g m (memory_after m a) c k.port offset bytes
   read : option_map_or is_value_group g false ≡ true → ReadsNext d c k g offset bytes m a
-  -- a read of as many bytes as were written asks for as many, in either profile
-  asks : option_map_or is_value_group g false ≡ true → (x : Profile)
+  -- a read of as many bytes as were written asks for as many, in either manner
+  asks : option_map_or is_value_group g false ≡ true → (x : Manner)
       → read_len_in x (client_after c (effect_of a)) k.port g offset (length bytes) ≡ length bytes
 
 may : (k : Asker) (bytes : List ℕ) (Q : List Addressed → Type 0) (r : Result (List Addressed) ℕ) → ReachCase Q r
@@ -277,15 +277,15 @@ released c p bytes m =
     if_both (λ a. memory_after m a ≡ m) (not (length bytes == 4)) _ _ (λ t. refl)
     (λ t. if_both (λ a. memory_after m a ≡ m) (is_releasable (kept_status c.handles (number32 0 bytes) p.number)) _ _ (λ u. refl) (λ u. refl))
 
-bytes-ask : (x : Profile) (c : Client) (p : PlantPort) (area : Area) (offset len : ℕ) → read_len_in x c p (Some (AreaBytes area)) offset len ≡ len
+bytes-ask : (x : Manner) (c : Client) (p : PlantPort) (area : Area) (offset len : ℕ) → read_len_in x c p (Some (AreaBytes area)) offset len ≡ len
 bytes-ask Strict c p area offset len = refl
 bytes-ask Wide c p area offset len = refl
 
-bit-asks : (x : Profile) (c : Client) (p : PlantPort) (area : Area) (offset len : ℕ) → read_len_in x c p (Some (AreaBit area)) offset len ≡ len
+bit-asks : (x : Manner) (c : Client) (p : PlantPort) (area : Area) (offset len : ℕ) → read_len_in x c p (Some (AreaBit area)) offset len ≡ len
 bit-asks Strict c p area offset len = refl
 bit-asks Wide c p area offset len = refl
 
-handle-asks : (x : Profile) (c : Client) (p : PlantPort) (handle len : ℕ) (place : Place) → kept_status c.handles handle p.number ≡ Live place
+handle-asks : (x : Manner) (c : Client) (p : PlantPort) (handle len : ℕ) (place : Place) → kept_status c.handles handle p.number ≡ Live place
     → len ≤ place.len → read_len_in x c p (Some ValueByHandle) handle len ≡ len
 handle-asks Strict c p handle len place live fits = refl
 handle-asks Wide c p handle len place live fits =
@@ -383,8 +383,8 @@ write-done d k p i there placed group offset bytes h =
       read = λ v.
           let c : Client = client_after p.client (effect_of a) in
           let read : Option Group → ℕ → Outcome = λ x n. outcome_of (memory_after p.memory a) (read_group d c k.port x offset n) in
-          ap (λ (x : Option Group). read x (read_len_in d.profile c k.port x offset (length bytes))) (read_answers group v)
-          ∙ ap (read g) (done.asks v d.profile)
+          ap (λ (x : Option Group). read x (read_len_in d.profile.manner c k.port x offset (length bytes))) (read_answers group v)
+          ∙ ap (read g) (done.asks v d.profile.manner)
           ∙ done.read v;
     }
 

@@ -6,14 +6,14 @@ use Rattle.ads_outside.specs.declared.event.Event.TheVariants as event
 use Rattle.ads_outside.specs.declared.moves.Move.{Move}
 use Rattle.ads_outside.specs.declared.moves.Move.TheVariants as move
 use Rattle.spec_plant.specs.Description.{Rights}
-use Rattle.spec_plant.specs.Rights.{rights_of}
-use Rattle.spec_plant.specs.World.{Plant, PlantPort, ByteName, Block}
+use Rattle.spec_plant.specs.World.{PlantPort, ByteName, Block}
 use Rattle.spec_formats.specs.Groups.{Group, SumRead, SumWrite, SumReadWrite}
 use Rattle.spec_formats.specs.Header.{AmsAddress, AmsHeader, header_of, payload_of}
 use Rattle.spec_formats.specs.Request.{Request, ReadWrite, request_of}
 use Rattle.spec_machine.specs.Connection.{Connection, connection_of, is_deaf}
 use Rattle.spec_machine.specs.MachineState.{MachineState, Exchange, exchange_of}
 use Rattle.spec_machine.specs.Piece.{packets_left, with_received, with_piece, after_packet}
+use Rattle.spec_machine.specs.Profile.{Profile}
 use Rattle.spec_machine.specs.World.{World, Setup, setup_of, port_numbered}
 use Rattle.spec_machine.specs.Client.{Client}
 use Rattle.spec_machine.specs.Acts.{Act, Outcome, writes_of_act}
@@ -21,8 +21,9 @@ use Rattle.spec_machine.specs.Answers.{answered_group, READ_WRITE}
 use Rattle.spec_machine.specs.Writes.{Asker}
 use Rattle.spec_machine.specs.Requests.{act_of}
 use Rattle.spec_machine.specs.Sums.{SumRequest, sum_of_reads, sum_of_writes, sum_of_read_writes, sum_refusal}
+use Rattle.spec_machine.specs.MoreSums.{more_sums}
 use Rattle.spec_machine.specs.SumLaws.{Party, single_outcome, party_after}
-use Rattle.spec_machine.specs.Packets.{Check, checks_of}
+use Rattle.spec_machine.specs.Packets.{Check, source_rights, checks_of}
 use Rattle.spec_server.specs.Server.{server_device}
 
 -- one request: of what plant, by whom, and the client and the bytes that it finds
@@ -58,15 +59,15 @@ question source (Some rights) (Some port) (Some request) =
     Some (record { asker = record { port = port; address = source; rights = rights }; request = request })
 question source rights port request = None
 
-abbrev pub question_in : Plant → List ℕ → Option AmsHeader → Option Question
-question_in plant payload None = None
-question_in plant payload (Some h) =
-    if list_any (λ (c : Check). c.stops) (checks_of plant h payload) then None
-    else question h.source (rights_of h.source.net plant.routes) (port_numbered h.target.port plant.ports)
+abbrev pub question_in : Setup → List ℕ → Option AmsHeader → Option Question
+question_in d payload None = None
+question_in d payload (Some h) =
+    if list_any (λ (c : Check). c.stops) (checks_of d h payload) then None
+    else question h.source (source_rights d h) (port_numbered h.target.port d.plant.ports)
     (request_of h.command payload)
 
-unfoldable pub question_of : Plant → List ℕ → Option Question
-question_of plant packet = question_in plant (payload_of packet) (header_of packet)
+unfoldable pub question_of : Setup → List ℕ → Option Question
+question_of d packet = question_in d (payload_of packet) (header_of packet)
 
 -- the parts of a sum; none of one that is refused whole
 abbrev pub parts_unless : Option ℕ → List Request → List Request
@@ -82,15 +83,21 @@ requests_in (Some SumWrite) r n read_len bytes = parts_of n (length bytes) read_
 requests_in (Some SumReadWrite) r n read_len bytes = parts_of n (length bytes) read_len (sum_of_read_writes n bytes)
 requests_in group r n read_len bytes = r ∷ []
 
+-- the parts of a sum that a server of this profile knows besides, or what the group says
+abbrev pub requests_more : Option (ℕ → List ℕ → SumRequest) → ℕ → ℕ → ℕ → List ℕ → List Request
+requests_more (Some sum) group n read_len bytes = parts_of n (length bytes) read_len (sum n bytes)
+requests_more None group n read_len bytes =
+    requests_in (answered_group READ_WRITE group) (ReadWrite group n read_len bytes) n read_len bytes
+
 -- a request by itself, or the parts of a sum, whose offset is their number
-unfoldable pub requests_of : Request → List Request
-requests_of (ReadWrite group offset read_len bytes) =
-    requests_in (answered_group READ_WRITE group) (ReadWrite group offset read_len bytes) offset read_len bytes
-requests_of r = r ∷ []
+unfoldable pub requests_of : Profile → Request → List Request
+requests_of profile (ReadWrite group offset read_len bytes) =
+    requests_more (more_sums profile group) group offset read_len bytes
+requests_of profile r = r ∷ []
 
 abbrev pub asked_of_question : Setup → Party → Option Question → List Asked
 asked_of_question d p None = []
-asked_of_question d p (Some q) = asked_in_turn d q.asker p (requests_of q.request)
+asked_of_question d p (Some q) = asked_in_turn d q.asker p (requests_of d.profile q.request)
 
 -- what a connection and the world are to a request
 abbrev pub party_of : Exchange World Client → Party
@@ -100,7 +107,7 @@ party_of x = record { client = x.connection.client; memory = x.world.memory }
 abbrev pub asked_of_packet : List ℕ → Exchange World Client → List Asked
 asked_of_packet packet x =
     if x.connection.closing then []
-    else asked_of_question (setup_of x.world) (party_of x) (question_of x.world.plant packet)
+    else asked_of_question (setup_of x.world) (party_of x) (question_of (setup_of x.world) packet)
 
 unfoldable pub asked_of_packets : List (List ℕ) → Exchange World Client → List Asked
 asked_of_packets [] x = []

@@ -8,7 +8,7 @@ use Rattle.spec_plant.specs.Description.{Description}
 use Rattle.spec_plant.specs.Accepted.{IsAccepted}
 use Rattle.spec_formats.specs.Groups.{value_by_handle}
 use Rattle.spec_formats.specs.Request.{Read}
-use Rattle.spec_machine.specs.Profile.{Profile, Strict}
+use Rattle.spec_machine.specs.Profile.{Profile, strict}
 use Rattle.spec_machine.specs.Connection.{Connection, connection_of, is_deaf}
 use Rattle.spec_machine.specs.MachineState.{MachineState}
 use Rattle.spec_machine.specs.World.{World, setup_of}
@@ -45,14 +45,14 @@ KeepsHandlesIn profile d waves before bytes =
     ReadsAsBefore (server_after_in profile d waves before)
     (server_after_in profile d waves (before ++ move.Event (event.Reload bytes) ∷ []))
 
--- So at each reload of every log over an accepted description, of the server of either profile.
+-- So at each reload of every log over an accepted description, of the server of each profile.
 abbrev pub EachKeepsHandles : Type 0
 EachKeepsHandles = (profile : Profile) (d : Description) (waves : List Wave) → IsAccepted d (length waves)
     → (before : List Move) (bytes : List ℕ) → KeepsHandlesIn profile d waves before bytes
 
--- and so of the program `ads`, which is the strict one
+-- and so of the program `ads`, which is the strict one, without a right for others
 abbrev pub KeepsHandles : Description → List Wave → List Move → List ℕ → Type 0
-KeepsHandles d waves before bytes = KeepsHandlesIn Strict d waves before bytes
+KeepsHandles d waves before bytes = KeepsHandlesIn strict d waves before bytes
 
 abbrev pub ServerKeepsHandles : Type 0
 ServerKeepsHandles = (d : Description) (waves : List Wave) → IsAccepted d (length waves)

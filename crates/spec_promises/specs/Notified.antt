@@ -11,7 +11,7 @@ use Rattle.ads_outside.specs.declared.moves.Move.{Move}
 use Rattle.ads_outside.specs.declared.moves.Move.TheVariants as move
 use Rattle.spec_plant.specs.Description.{Description}
 use Rattle.spec_plant.specs.World.{Block}
-use Rattle.spec_machine.specs.Profile.{Profile, Strict}
+use Rattle.spec_machine.specs.Profile.{Profile, strict}
 use Rattle.spec_machine.specs.Connection.{Connection, connection_of, is_deaf}
 use Rattle.spec_machine.specs.MachineState.{MachineState}
 use Rattle.spec_machine.specs.Moves.{state_after_move}
@@ -117,14 +117,14 @@ NotifiesAfterIn profile d waves before after = (c handle : ℕ) (w : Watch (List
     → watch_at c handle (server_after_in profile d waves before) ≡ Some w → w.last ≡ None
     → GivesAsAsked w (life_of c handle (server_after_in profile d waves before) after)
 
--- So in every log, of the server of either profile.
+-- So in every log, of the server of each profile.
 abbrev pub EachNotifies : Type 0
 EachNotifies = (profile : Profile) (d : Description) (waves : List Wave) (before after : List Move)
     → NotifiesAfterIn profile d waves before after
 
--- and so of the program `ads`, which is the strict one
+-- and so of the program `ads`, which is the strict one, without a right for others
 abbrev pub NotifiesAfter : Description → List Wave → List Move → List Move → Type 0
-NotifiesAfter d waves before after = NotifiesAfterIn Strict d waves before after
+NotifiesAfter d waves before after = NotifiesAfterIn strict d waves before after
 
 abbrev pub ServerNotifies : Type 0
 ServerNotifies = (d : Description) (waves : List Wave) (before after : List Move) → NotifiesAfter d waves before after

@@ -13,7 +13,7 @@ use Rattle.spec_plant.specs.World.{PlantPort, Block, byte_or_zero}
 use Rattle.spec_formats.specs.Codes.{no_error}
 use Rattle.spec_formats.specs.Groups.{Group, AreaBytes, AreaBit, ValueByHandle, ReleaseHandle, is_value_group}
 use Rattle.spec_formats.specs.Request.{Read, Write, ReadState, WriteControl}
-use Rattle.spec_machine.specs.Profile.{Profile, Strict}
+use Rattle.spec_machine.specs.Profile.{Profile, strict}
 use Rattle.spec_machine.specs.World.{name_at, content_of, state_names, state_bytes}
 use Rattle.spec_machine.specs.Access.{WholeByte, values_at}
 use Rattle.spec_machine.specs.Handles.{Live, kept_status}
@@ -121,14 +121,14 @@ pub record HoldsWritesIn (profile : Profile) (d : Description) (waves : List Wav
   pub writes : Each IsDone (asked_at_move profile d waves before m)
   pub controls : Each IsControlled (asked_at_move profile d waves before m)
 
--- So at each move of every log over an accepted description, of the server of either profile.
+-- So at each move of every log over an accepted description, of the server of each profile.
 abbrev pub EachHoldsWrites : Type 0
 EachHoldsWrites = (profile : Profile) (d : Description) (waves : List Wave) → IsAccepted d (length waves)
     → (before : List Move) (m : Move) → HoldsWritesIn profile d waves before m
 
--- and so of the program `ads`, which is the strict one
+-- and so of the program `ads`, which is the strict one, without a right for others
 abbrev pub HoldsWrites : Description → List Wave → List Move → Move → Type 0
-HoldsWrites d waves before m = HoldsWritesIn Strict d waves before m
+HoldsWrites d waves before m = HoldsWritesIn strict d waves before m
 
 abbrev pub ServerHoldsWrites : Type 0
 ServerHoldsWrites = (d : Description) (waves : List Wave) → IsAccepted d (length waves)

@@ -1,4 +1,5 @@
 mod Examples
+mod PassageExamples
 pub mod ChangeLemmas
 pub mod GivenLemmas
 pub mod TakenLemmas

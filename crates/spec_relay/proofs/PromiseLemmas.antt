@@ -25,6 +25,7 @@ passes_rightly d log = record {
 
 pub turns_keep_promises : TurnsKeepPromises
 turns_keep_promises d log turns = record {
+  turns = turns;
   passes = passes_rightly d log;
   begins = λ c. relay_delivers d c log turns;
   all = λ c whole cut. relay_delivers_all d c log turns whole cut;

@@ -30,6 +30,8 @@ pub record RelayKeepsPromisesSoFar (d : Description) (log : List Move) : Type 0 
 
 -- and is all of it, unless its last offer was short, or it was closed by its peer or lost
 pub record RelayKeepsPromises (d : Description) (log : List Move) : Type 0 where
+  -- each event is followed by the offers to each connection, and one that is closing is then shut
+  pub turns : KeepsTurns relay_after_event (relay_start d) log
   pub passes : PassesRightly d log
   pub begins : (c : ℕ) → IsPrefix (taken_of c log) (output_of c (relay_state_after d log))
   pub all : (c : ℕ) → is_short c log ≡ false → is_cut_off c log ≡ false → taken_of c log ≡ output_of c (relay_state_after d log)

@@ -12,7 +12,7 @@ use Rattle.spec_rules.proofs.Accepts.{table_verdict-accepted}
 use Rattle.spec_formats.specs.Groups.{group_in, group_of}
 use Rattle.spec_machine.specs.Device.{DescriptionFault, BreaksRule, NoDocument}
 use Rattle.spec_machine.specs.MachineState.{MachineState}
-use Rattle.spec_machine.specs.Profile.{Strict}
+use Rattle.spec_machine.specs.Profile.{strict}
 use Rattle.spec_machine.specs.World.{World}
 use Rattle.spec_machine.specs.Client.{Client}
 use Rattle.spec_machine.specs.Answers.{answered_group}
@@ -70,20 +70,20 @@ pub server_keeps_profile : ServerKeepsProfile
 server_keeps_profile profile description signals log = keeps_profile read_description profile description signals log
 
 pub server_is_strict : ServerIsStrict
-server_is_strict description signals log = server_keeps_profile Strict description signals log
+server_is_strict description signals log = server_keeps_profile strict description signals log
 
 pub each_plays_in_turns : EachPlaysInTurns
 each_plays_in_turns profile description signals lines =
     play_keeps_turns World Client server (server_start_in profile description signals) lines
 
 pub server_plays_in_turns : ServerPlaysInTurns
-server_plays_in_turns description signals lines = each_plays_in_turns Strict description signals lines
+server_plays_in_turns description signals lines = each_plays_in_turns strict description signals lines
 
 pub each_is_isolated : EachIsIsolated
 each_is_isolated profile description signals c log apart = isolated read_description profile description signals c log apart
 
 pub server_is_isolated : ServerIsIsolated
-server_is_isolated description signals c log apart = each_is_isolated Strict description signals c log apart
+server_is_isolated description signals c log apart = each_is_isolated strict description signals c log apart
 
 pub each_takes_as_alone : EachTakesAsAlone
 each_takes_as_alone profile description signals c log apart = record {
@@ -93,7 +93,7 @@ each_takes_as_alone profile description signals c log apart = record {
 
 pub server_takes_as_alone : ServerTakesAsAlone
 server_takes_as_alone description signals c log apart =
-    let each = each_takes_as_alone Strict description signals c log apart in
+    let each = each_takes_as_alone strict description signals c log apart in
     record { begins = each.begins; all = each.all }
 
 pub each_state_fits : EachStateFits
@@ -101,14 +101,14 @@ each_state_fits profile description signals accepted log =
     every_state_fits read_description reads_descriptions profile description signals accepted log
 
 pub server_state_fits : ServerStateFits
-server_state_fits description signals accepted log = each_state_fits Strict description signals accepted log
+server_state_fits description signals accepted log = each_state_fits strict description signals accepted log
 
 pub each_replies_fit : EachRepliesFit
 each_replies_fit profile description signals accepted log =
     replies_fit read_description reads_descriptions profile description signals accepted log
 
 pub server_replies_fit : ServerRepliesFit
-server_replies_fit description signals accepted log = each_replies_fit Strict description signals accepted log
+server_replies_fit description signals accepted log = each_replies_fit strict description signals accepted log
 
 pub server_refuses_dead_handles : ServerRefusesDeadHandles
 unfolding answered_group group_of group_in

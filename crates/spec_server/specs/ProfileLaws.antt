@@ -1,4 +1,4 @@
--- Laws of the server of either profile: of every description, all signals and every log. Those of ServerLaws are their
+-- Laws of the server of each profile: of every description, all signals and every log. Those of ServerLaws are their
 -- instances at the strict profile, and what ServerLaws says of handles that are not live it says of both.
 use Rattle.std.specs.Prelude.{◌≡◌, ℕ, List, length, false}
 use Rattle.signals.specs.Wave.{Wave}
@@ -10,21 +10,21 @@ use Rattle.spec_machine.specs.Turns.{KeepsTurns}
 use Rattle.spec_machine.specs.ScriptLine.{ScriptLine}
 use Rattle.spec_machine.specs.Play.{play_of}
 use Rattle.spec_machine.specs.Delivery.{IsPrefix, AreOffers, is_short, is_cut_off}
-use Rattle.spec_machine.specs.Profile.{Profile, Strict}
+use Rattle.spec_machine.specs.Profile.{Profile, strict}
 use Rattle.spec_machine.specs.Projection.{projection_of}
 use Rattle.spec_laws.specs.Isolation.{IsUntouchedIn}
 use Rattle.spec_laws.specs.Reachable.{AllFits}
 use Rattle.spec_laws.specs.RepliesFit.{AllAnswersFit}
 use Rattle.spec_server.specs.Server.{read_description, server_device, server, server_start_in, server_after_in, server_output_in, server_after}
 
--- A server keeps its profile over every log; that of the program `ads` is strict.
+-- A server keeps its profile over every log; that of the program `ads` is strict, and gives no right to others.
 abbrev pub ServerKeepsProfile : Type 0
 ServerKeepsProfile = (profile : Profile) (description : Description) (signals : List Wave) (log : List Move)
     → (server_after_in profile description signals log).world.profile ≡ profile
 
 abbrev pub ServerIsStrict : Type 0
 ServerIsStrict = (description : Description) (signals : List Wave) (log : List Move)
-    → (server_after description signals log).world.profile ≡ Strict
+    → (server_after description signals log).world.profile ≡ strict
 
 -- The play of a script keeps the turns.
 abbrev pub EachPlaysInTurns : Type 0

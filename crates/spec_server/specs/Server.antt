@@ -9,7 +9,7 @@ use Rattle.spec_rules.specs.TextVerdict as text
 use Rattle.spec_machine.specs.Device.{Device, DescriptionFault, BreaksRule, NoDocument}
 use Rattle.spec_machine.specs.MachineState.{MachineState, start_of, output_of}
 use Rattle.spec_machine.specs.Moves.{EventStep, state_after}
-use Rattle.spec_machine.specs.Profile.{Profile, Strict}
+use Rattle.spec_machine.specs.Profile.{Profile, strict}
 use Rattle.spec_machine.specs.World.{World, world_in}
 use Rattle.spec_machine.specs.Client.{Client}
 use Rattle.spec_machine.specs.BuiltLines.{all_lines}
@@ -47,9 +47,9 @@ server_after_in profile description signals log = state_after server (server_sta
 abbrev pub server_output_in : Profile → Description → List Wave → ℕ → List Move → List ℕ
 server_output_in profile description signals c log = output_of c (server_after_in profile description signals log)
 
--- the program `ads` is the strict server
+-- the program `ads` is the strict server, without a right for others
 abbrev pub server_start : Description → List Wave → MachineState World Client
-server_start description signals = server_start_in Strict description signals
+server_start description signals = server_start_in strict description signals
 
 abbrev pub server_after : Description → List Wave → List Move → MachineState World Client
 server_after description signals log = state_after server (server_start description signals) log

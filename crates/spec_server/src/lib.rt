@@ -41,7 +41,7 @@ pub fn dead_handles_touch_nothing()
 {}
 
 /// A server keeps its profile over every log, and that of the program `ads` is the strict one. The laws above hold of the
-/// server of either profile.
+/// server of each profile.
 pub fn each_profile_keeps_the_laws()
     ensures profile { ServerKeepsProfile }
     ensures strict { ServerIsStrict }

@@ -5,12 +5,13 @@ use Rattle.std.proofs.Math.Nat.{mul-suc}
 use Rattle.std.proofs.lemmas.List.{append-nil}
 use Rattle.std.proofs.lemmas.List.Concat.{flat_map-cons}
 use Rattle.std.specs.Int.{w32, to_le_bytes}
-use Rattle.spec_formats.specs.Request.{Request, ReadWrite}
+use Rattle.spec_formats.specs.Request.{Request}
 use Rattle.spec_machine.specs.Acts.{Outcome}
 use Rattle.spec_machine.specs.Sums.{given_in_turn, left_in_turn}
 use Rattle.sum_commands.specs.declared.form.Form.{Form}
 use Rattle.sum_commands.specs.declared.form.Form.TheVariants as form
-use Rattle.sum_commands.specs.Parts.{front_of, front_len, data_of, asked_of}
+use Rattle.sum_commands.specs.Parts.{asked_of}
+use Rattle.sum_commands.specs.Packing.{told_front, front_of, data_of}
 use Rattle.sum_commands.specs.Forms.{HasParts, RunsAll, head_width, front_width, written_len, all_written, all_asked, part_of, parts_of, fronts_in, data_in}
 use Rattle.sum_commands.proofs.HeadLemmas.{heads-step, numbers-step}
 
@@ -25,6 +26,8 @@ all_written-step : (form : Form) (m k : ℕ) (heads : List ℕ) → m ≡ suc k
 all_written-step form.Reads m k heads e = refl
 all_written-step form.Writes m k heads e = numbers-step m k 12 8 heads e
 all_written-step form.ReadWrites m k heads e = numbers-step m k 16 12 heads e
+all_written-step form.ToldReads m k heads e = refl
+all_written-step form.ShortReads m k heads e = refl
 
 all_asked-step : (form : Form) (m k : ℕ) (heads written : List ℕ) → m ≡ suc k
     → all_asked form m heads
@@ -32,6 +35,8 @@ all_asked-step : (form : Form) (m k : ℕ) (heads written : List ℕ) → m ≡ 
 all_asked-step form.Reads m k heads written e = numbers-step m k 12 8 heads e
 all_asked-step form.Writes m k heads written e = refl
 all_asked-step form.ReadWrites m k heads written e = numbers-step m k 16 8 heads e
+all_asked-step form.ToldReads m k heads written e = numbers-step m k 12 8 heads e
+all_asked-step form.ShortReads m k heads written e = numbers-step m k 12 8 heads e
 
 pub parts-step : (form : Form) (m k : ℕ) (heads written : List ℕ) → m ≡ suc k → HasParts form m heads written
     → HasFirst form k heads written
@@ -47,11 +52,12 @@ parts-step form m k heads written e has =
       };
     }
 
-front-len : (form : Form) (heads written : List ℕ) (o : Outcome)
-    → length (front_of (part_of form heads written) o) ≡ front_width form
-front-len form.Reads heads written o = refl
-front-len form.Writes heads written o = refl
-front-len form.ReadWrites heads written o = refl
+pub front-len : (form : Form) (o : Outcome) → length (front_of form o) ≡ front_width form
+front-len form.Reads o = refl
+front-len form.Writes o = refl
+front-len form.ReadWrites o = refl
+front-len form.ToldReads o = refl
+front-len form.ShortReads o = refl
 
 pub parts_of-suc : (form : Form) (k : ℕ) (heads written : List ℕ)
     → parts_of form (suc k) heads written
@@ -59,20 +65,24 @@ pub parts_of-suc : (form : Form) (k : ℕ) (heads written : List ℕ)
 parts_of-suc form.Reads k heads written = refl
 parts_of-suc form.Writes k heads written = refl
 parts_of-suc form.ReadWrites k heads written = refl
+parts_of-suc form.ToldReads k heads written = refl
+parts_of-suc form.ShortReads k heads written = refl
 
-fronts_in-cons : (form : Form) (heads written : List ℕ) (o : Outcome) (os : List Outcome)
-    → fronts_in form (o ∷ os) ≡ front_of (part_of form heads written) o ++ fronts_in form os
-fronts_in-cons form.Reads heads written o os = flat_map-cons (λ (x : Outcome). to_le_bytes w32 x.code) o os
-fronts_in-cons form.Writes heads written o os = flat_map-cons (λ (x : Outcome). to_le_bytes w32 x.code) o os
-fronts_in-cons form.ReadWrites heads written o os =
-    flat_map-cons (λ (x : Outcome). to_le_bytes w32 x.code ++ to_le_bytes w32 (length x.bytes)) o os
+fronts_in-cons : (form : Form) (o : Outcome) (os : List Outcome) → fronts_in form (o ∷ os) ≡ front_of form o ++ fronts_in form os
+fronts_in-cons form.Reads o os = flat_map-cons (λ (x : Outcome). to_le_bytes w32 x.code) o os
+fronts_in-cons form.Writes o os = flat_map-cons (λ (x : Outcome). to_le_bytes w32 x.code) o os
+fronts_in-cons form.ReadWrites o os = flat_map-cons told_front o os
+fronts_in-cons form.ToldReads o os = flat_map-cons told_front o os
+fronts_in-cons form.ShortReads o os = flat_map-cons told_front o os
 
 data_in-cons : (form : Form) (k : ℕ) (heads written : List ℕ) (o : Outcome) (os : List Outcome)
     → data_in form (suc k) heads (o ∷ os)
-    ≡ data_of (part_of form heads written) o ++ data_in form k (drop (head_width form) heads) os
+    ≡ data_of form (part_of form heads written) o ++ data_in form k (drop (head_width form) heads) os
 data_in-cons form.Reads k heads written o os = refl
 data_in-cons form.Writes k heads written o os = refl
 data_in-cons form.ReadWrites k heads written o os = flat_map-cons (λ (x : Outcome). x.bytes) o os
+data_in-cons form.ToldReads k heads written o os = refl
+data_in-cons form.ShortReads k heads written o os = flat_map-cons (λ (x : Outcome). x.bytes) o os
 
 given_in_turn-cons : {S : Type 0} (given : S → Request → Outcome) (leaves : S → Request → S) (s : S) (r : Request)
     (rs : List Request)
@@ -85,30 +95,18 @@ left_in_turn-cons : {S : Type 0} (leaves : S → Request → S) (s : S) (r : Req
 unfolding left_in_turn
 left_in_turn-cons leaves s r rs = refl
 
-front_len-part_of : (form : Form) (heads written : List ℕ) → front_len (part_of form heads written) ≡ front_width form
-front_len-part_of form.Reads heads written = refl
-front_len-part_of form.Writes heads written = refl
-front_len-part_of form.ReadWrites heads written = refl
-
-pub front_len-first : (form : Form) (heads written : List ℕ) (r : Request) → r ≡ part_of form heads written → front_len r ≡ front_width form
-front_len-first form heads written r first = ap front_len first ∙ front_len-part_of form heads written
-
-pub length-front_of : (r : Request) (o : Outcome) → length (front_of r o) ≡ front_len r
-length-front_of (ReadWrite group offset read_len bytes) o = refl
-length-front_of _ o = refl
-
 -- a part is run: the state that it leaves, and what it adds to the results and to the data
 pub record Adds {V S : Type 0} (stands_for : V → S → Type 0) (given : S → Request → Outcome) (leaves : S → Request → S)
-    (r : Request) (before : S) (after : V) (fronts fronts' : List ℕ) (more more' : List ℕ) : Type 0 where
+    (form : Form) (r : Request) (before : S) (after : V) (fronts fronts' : List ℕ) (more more' : List ℕ) : Type 0 where
   pub state : stands_for after (leaves before r)
-  pub front : fronts' ≡ fronts ++ front_of r (given before r)
-  pub bytes : more' ≡ more ++ data_of r (given before r)
+  pub front : fronts' ≡ fronts ++ front_of form (given before r)
+  pub bytes : more' ≡ more ++ data_of form r (given before r)
   pub asked : length more' ≤ length more + asked_of r
 
 -- a part is run, and then those behind it
 pub runs-suc : {V S : Type 0} (stands_for : V → S → Type 0) (given : S → Request → Outcome) (leaves : S → Request → S)
     (form : Form) (k : ℕ) (heads written : List ℕ) (s : S) (v1 v2 : V) (f f1 f2 out out1 out2 : List ℕ)
-    → Adds stands_for given leaves (part_of form heads written) s v1 f f1 out out1
+    → Adds stands_for given leaves form (part_of form heads written) s v1 f f1 out out1
     → RunsAll stands_for given leaves form k (drop (head_width form) heads) (drop (written_len form heads) written)
     (leaves s (part_of form heads written)) v2 f1 f2 out1 out2
     → RunsAll stands_for given leaves form (suc k) heads written s v2 f f2 out out2
@@ -122,14 +120,14 @@ runs-suc stands_for given leaves form k heads written s v1 v2 f f1 f2 out out1 o
     ap (given_in_turn given leaves s) parts ∙ given_in_turn-cons given leaves s r rs in
     let left : left_in_turn leaves s (parts_of form (suc k) heads written) ≡ left_in_turn leaves (leaves s r) rs =
     ap (left_in_turn leaves s) parts ∙ left_in_turn-cons leaves s r rs in
-    let fronts = fronts_in-cons form heads written o os in
+    let fronts = fronts_in-cons form o os in
     let bytes = data_in-cons form k heads written o os in
     record {
       state = subst (stands_for v2) (sym left) more.state;
-      front = cc (gave, fronts, one.front, more.front, append_assoc f (front_of r o) (fronts_in form os));
-      bytes = cc (gave, bytes, one.bytes, more.bytes, append_assoc out (data_of r o) (data_in form k (drop (head_width form) heads) os));
+      front = cc (gave, fronts, one.front, more.front, append_assoc f (front_of form o) (fronts_in form os));
+      bytes = cc (gave, bytes, one.bytes, more.bytes, append_assoc out (data_of form r o) (data_in form k (drop (head_width form) heads) os));
       asked = omega (arith, one.asked, more.asked, all_asked-step form (suc k) k heads written refl);
-      room = omega (arith, more.room, ap length one.front, length-append f (front_of r o), front-len form heads written o, mul-suc (front_width form) k);
+      room = omega (arith, more.room, ap length one.front, length-append f (front_of form o), front-len form o, mul-suc (front_width form) k);
     }
 
 -- no part is run
@@ -152,6 +150,20 @@ runs-zero stands_for given leaves form.Writes heads written s v f out stands = r
   room = omega arith;
 }
 runs-zero stands_for given leaves form.ReadWrites heads written s v f out stands = record {
+  state = stands;
+  front = sym (append-nil f);
+  bytes = sym (append-nil out);
+  asked = omega arith;
+  room = omega arith;
+}
+runs-zero stands_for given leaves form.ToldReads heads written s v f out stands = record {
+  state = stands;
+  front = sym (append-nil f);
+  bytes = sym (append-nil out);
+  asked = omega arith;
+  room = omega arith;
+}
+runs-zero stands_for given leaves form.ShortReads heads written s v f out stands = record {
   state = stands;
   front = sym (append-nil f);
   bytes = sym (append-nil out);
@@ -182,12 +194,12 @@ pub runs-next : {V S : Type 0} (stands_for : V → S → Type 0) (given : S → 
     (form form' : Form) (m k : ℕ) (heads written heads' written' : List ℕ) (r : Request) (s : S) (v1 v2 : V)
     (f f1 f2 out out1 out2 : List ℕ) → m ≡ suc k
     → IsBehind form heads written form' heads' written' → r ≡ part_of form heads written
-    → Adds stands_for given leaves r s v1 f f1 out out1
+    → Adds stands_for given leaves form r s v1 f f1 out out1
     → RunsAll stands_for given leaves form' k heads' written' (leaves s r) v2 f1 f2 out1 out2
     → RunsAll stands_for given leaves form m heads written s v2 f f2 out out2
 runs-next stands_for given leaves form form' m k heads written heads' written' r s v1 v2 f f1 f2 out out1 out2 e b first one more =
-    let here : Adds stands_for given leaves (part_of form heads written) s v1 f f1 out out1 =
-    subst (λ x. Adds stands_for given leaves x s v1 f f1 out out1) first one in
+    let here : Adds stands_for given leaves form (part_of form heads written) s v1 f f1 out out1 =
+    subst (λ x. Adds stands_for given leaves form x s v1 f f1 out out1) first one in
     let more' : RunsAll stands_for given leaves form' k heads' written' (leaves s (part_of form heads written)) v2 f1 f2 out1 out2 =
     subst (λ x. RunsAll stands_for given leaves form' k heads' written' (leaves s x) v2 f1 f2 out1 out2) first more in
     let behind : RunsAll stands_for given leaves form k (drop (head_width form) heads)

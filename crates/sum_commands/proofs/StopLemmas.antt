@@ -41,6 +41,8 @@ pub parts-sum_in : (form : Form) (n : ℕ) (bytes : List ℕ)
 parts-sum_in form.Reads n bytes = refl
 parts-sum_in form.Writes n bytes = refl
 parts-sum_in form.ReadWrites n bytes = refl
+parts-sum_in form.ToldReads n bytes = refl
+parts-sum_in form.ShortReads n bytes = refl
 
 pub on_err : {T E P : Type 0} (r : Result T E) → P → OnErr r P
 on_err (Ok x) p = tt

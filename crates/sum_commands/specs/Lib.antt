@@ -2,5 +2,5 @@ pub mod Parts
 pub mod Stops
 pub mod Forms
 pub mod SumCommand
-pub mod PartValues
+pub mod Packing
 pub mod Served

@@ -1,10 +1,11 @@
-//! The three forms of a sum.
+//! The forms of a sum.
 
 ghost use Rattle.std.specs.Prelude.{◌≡◌, ◌≤◌, ◌*◌, ℕ, List};
 ghost use Rattle.spec_machine.specs.Sums.{MAX_PARTS};
 ghost use Rattle.sum_commands.specs.SumCommand.{sum_of};
 
-use index_groups::{SUM_READ, SUM_WRITE};
+use crate::groups::SUM_TOLD_READ;
+use index_groups::{SUM_READ, SUM_READ_WRITE, SUM_WRITE};
 
 // How the parts of a sum are packed.
 #[derive(Clone, Copy)]
@@ -15,6 +16,10 @@ pub(crate) enum Form {
     Writes,
     // 0xF082: heads of group 4, offset 4, read length 4, write length 4, and the data behind them.
     ReadWrites,
+    // 0xF083: heads as of 0xF080; each result is told with the length of its data, and the data is filled.
+    ToldReads,
+    // 0xF084: the same, and the data is not filled.
+    ShortReads,
 }
 
 impl Form {
@@ -23,13 +28,15 @@ impl Form {
     // The form of the sums of a group.
     pub(crate) fn of(group: u32) -> Form
         requires from { 0xF080 ≤ group }
-        requires to { group ≤ 0xF082 }
+        requires to { group ≤ 0xF084 }
         ensures { (n : ℕ) (bytes : List ℕ) → sum_in result n bytes ≡ sum_of group n bytes }
     {
         match group {
             SUM_READ => Form::Reads,
             SUM_WRITE => Form::Writes,
-            _ => Form::ReadWrites,
+            SUM_READ_WRITE => Form::ReadWrites,
+            SUM_TOLD_READ => Form::ToldReads,
+            _ => Form::ShortReads,
         }
     }
 
@@ -38,7 +45,7 @@ impl Form {
         ensures { result ≡ head_width self }
     {
         match self {
-            Form::Reads | Form::Writes => 12,
+            Form::Reads | Form::Writes | Form::ToldReads | Form::ShortReads => 12,
             Form::ReadWrites => 16,
         }
     }
@@ -49,16 +56,16 @@ impl Form {
     {
         match self {
             Form::Reads | Form::Writes => 4,
-            Form::ReadWrites => 8,
+            Form::ReadWrites | Form::ToldReads | Form::ShortReads => 8,
         }
     }
 
     // How many bytes of a reply, of at most `len` and with results of `fronts`, are sure to come: a read is filled to the length
-    // that it asks, and a read-write may give less.
+    // that it asks, and in the other forms a part may give less.
     pub(crate) fn sure_len(self, fronts: u32, len: usize) -> usize {
         match self {
-            Form::Reads | Form::Writes => len,
-            Form::ReadWrites => fronts as usize,
+            Form::Reads | Form::Writes | Form::ToldReads => len,
+            Form::ReadWrites | Form::ShortReads => fronts as usize,
         }
     }
 
@@ -69,7 +76,7 @@ impl Form {
         ensures small { result ≤ 8000 }
     {
         match self {
-            Form::Reads | Form::Writes => 12 * n as usize,
+            Form::Reads | Form::Writes | Form::ToldReads | Form::ShortReads => 12 * n as usize,
             Form::ReadWrites => 16 * n as usize,
         }
     }
@@ -82,7 +89,7 @@ impl Form {
     {
         match self {
             Form::Reads | Form::Writes => 4 * n,
-            Form::ReadWrites => 8 * n,
+            Form::ReadWrites | Form::ToldReads | Form::ShortReads => 8 * n,
         }
     }
 }

@@ -1,13 +1,10 @@
 //! The parts of a sum, taken from the front.
 
 ghost use Rattle.std.specs.Prelude.{◌≡◌, ◌≤◌, ◌+◌, ◌*◌, ◌^◌, length, drop, sum};
-ghost use Rattle.spec_formats.specs.Numbers.{number32};
 ghost use Rattle.spec_machine.specs.Sums.{MAX_PARTS, numbers_of_heads};
-ghost use Rattle.sum_commands.specs.Forms.{head_width, written_len, part_of, all_written, all_asked, sum_in};
-ghost use Rattle.sum_commands.specs.PartValues.{part_meant};
+ghost use Rattle.sum_commands.specs.Forms.{head_width, written_len, all_written, all_asked, sum_in};
 
 use crate::form::Form;
-use crate::part::Part;
 use ads_base::get32;
 
 // The parts that are left: their heads, and the data that they write.
@@ -24,36 +21,9 @@ pub(crate) fn first_written(form: Form, heads: &[u8]) -> usize
     ensures { result ≡ written_len form heads.now }
 {
     match form {
-        Form::Reads => 0,
+        Form::Reads | Form::ToldReads | Form::ShortReads => 0,
         Form::Writes => get32(heads, 8) as usize,
         Form::ReadWrites => get32(heads, 12) as usize,
-    }
-}
-
-// The first part.
-#[inline(always)]
-pub(crate) fn first_part<'a>(rest: Rest<'a>) -> Part<'a>
-    requires head { head_width rest.form ≤ length rest.heads.now }
-    requires written { written_len rest.form rest.heads.now ≤ length rest.written.now }
-    ensures { part_meant result ≡ part_of rest.entry.form rest.entry.heads.now rest.entry.written.now }
-{
-    let heads = rest.heads;
-    let group = get32(heads, 0);
-    let offset = get32(heads, 4);
-    let len = get32(heads, 8);
-    match rest.form {
-        Form::Reads => Part::Read { group, offset, len },
-        Form::Writes => Part::Write {
-            group,
-            offset,
-            bytes: &rest.written[..len as usize],
-        },
-        Form::ReadWrites => Part::ReadWrite {
-            group,
-            offset,
-            read_len: len,
-            bytes: &rest.written[..get32(heads, 12) as usize],
-        },
     }
 }
 
@@ -108,7 +78,7 @@ fn total_written(form: Form, n: u32, bytes: &[u8]) -> u64
     ensures small { result ≤ 500 * 2 ^ 32 }
 {
     match form {
-        Form::Reads => 0,
+        Form::Reads | Form::ToldReads | Form::ShortReads => 0,
         Form::Writes => total(n, 12, 8, bytes),
         Form::ReadWrites => total(n, 16, 12, bytes),
     }
@@ -122,7 +92,7 @@ fn total_asked(form: Form, n: u32, bytes: &[u8]) -> u64
     ensures small { result ≤ 500 * 2 ^ 32 }
 {
     match form {
-        Form::Reads => total(n, 12, 8, bytes),
+        Form::Reads | Form::ToldReads | Form::ShortReads => total(n, 12, 8, bytes),
         Form::Writes => 0,
         Form::ReadWrites => total(n, 16, 8, bytes),
     }

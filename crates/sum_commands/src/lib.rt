@@ -3,13 +3,14 @@
 
 mod answers;
 mod form;
+mod groups;
 mod heads;
-mod part;
 mod part_service;
 mod refusals;
 mod room;
 mod run;
 mod running;
 
+pub use groups::{SUM_SHORT_READ, SUM_TOLD_READ};
 pub use part_service::PartService;
 pub use run::run_sum;

@@ -2,9 +2,10 @@
 
 ghost use Rattle.std.specs.Prelude.{◌≡◌, ◌<◌, ◌≤◌, ◌+◌, ◌*◌, ◌^◌, ◌++◌, length, take, OnOk, OnErr, IfOk};
 ghost use Rattle.ads_base.specs.Octets.{Extends};
-ghost use Rattle.spec_formats.specs.Groups.{sum_read, sum_read_write};
+ghost use Rattle.spec_formats.specs.Groups.{sum_read};
 ghost use Rattle.spec_formats.specs.Ranges.{greatest_len};
 ghost use Rattle.spec_machine.specs.Sums.{MAX_PARTS};
+ghost use Rattle.spec_machine.specs.MoreSums.{sum_short_read};
 ghost use Rattle.sum_commands.specs.Forms.{HasParts, Replies, front_width, parts_of};
 ghost use Rattle.sum_commands.specs.Served.{StandsForSome};
 ghost use Rattle.sum_commands.specs.Stops.{StopsAmong, KeepsFront};
@@ -12,22 +13,25 @@ ghost use Rattle.sum_commands.specs.SumCommand.{sum_of, refusal_in, refused_by, 
 
 use crate::PartService;
 use crate::form::Form;
-use crate::heads::{Rest, behind_first, bytes_behind, first_part};
+use crate::heads::{Rest, behind_first, bytes_behind};
 use crate::refusals::accepted_len;
 use crate::room::put_zeros;
-use crate::running::run_part;
+use crate::running::run_first;
 use ads_base::{NoMemory, Octets};
 use return_codes::Code;
 use std::alloc::Global;
 
 /// Runs the n parts of a sum command one after another, each on the state that the part before left, and appends the
-/// data of its reply. The group is 0xF080 for reads, 0xF081 for writes and 0xF082 for read-writes.
+/// data of its reply. The group is 0xF080 for reads, 0xF081 for writes and 0xF082 for read-writes; 0xF083 and 0xF084 are reads
+/// whose results tell their lengths.
 ///
 /// | group | bytes | reply |
 /// |---|---|---|
 /// | 0xF080 | n times group 4, offset 4, length 4 | n results of 4, then the data, each filled with zeros to its length |
 /// | 0xF081 | n times group 4, offset 4, length 4, then the data | n results of 4 |
 /// | 0xF082 | n times group 4, offset 4, read length 4, write length 4, then the data | n times result 4 and length 4, then the data |
+/// | 0xF083 | n times group 4, offset 4, length 4 | n times result 4 and length 4, then the data, each filled with zeros to its asked length |
+/// | 0xF084 | n times group 4, offset 4, length 4 | n times result 4 and length 4, then the data |
 ///
 /// Refused, before a part is run: n above 500, 0x706; bytes that are not as long as the heads say, 0x705; `read_len`
 /// below the greatest length of the reply, or that above 2,000,000, 0x705. A part that is refused hinders no later one.
@@ -42,7 +46,7 @@ pub fn run_sum<P: PartService>(
     out: &mut Octets,
 ) -> Result<Result<(), Code>, NoMemory>
     requires from { sum_read ≤ group }
-    requires to { group ≤ sum_read_write }
+    requires to { group ≤ sum_short_read }
     requires some { StandsForSome P.stands_for service.old }
 
     // Refused exactly by the code of the definition, with no part run.
@@ -131,7 +135,7 @@ fn run_parts<P: PartService>(
     let mut rest = rest;
     let mut at = start;
     for _ in 0..n {
-        run_part(alloc, service, first_part(rest), at, out)?;
+        run_first(alloc, service, rest, at, out)?;
         at += rest.form.front();
         rest = behind_first(rest);
     }

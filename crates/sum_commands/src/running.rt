@@ -1,52 +1,61 @@
 //! One part is run.
 
-ghost use Rattle.std.specs.Prelude.{◌≤◌, ◌+◌, length, OnOk, OnErr};
+ghost use Rattle.std.specs.Prelude.{◌≡◌, ◌≤◌, ◌<◌, ◌+◌, ◌^◌, ◌++◌, length, OnOk, OnErr};
+ghost use Rattle.std.specs.Int.{w32, to_le_bytes};
 ghost use Rattle.ads_base.specs.Octets.{Extends};
 ghost use Rattle.spec_formats.specs.Request.{Read, Write, ReadWrite};
-ghost use Rattle.sum_commands.specs.Parts.{Runs, front_len};
+ghost use Rattle.sum_commands.specs.declared.form.Form.TheVariants as form;
+ghost use Rattle.sum_commands.specs.Forms.{head_width, front_width, written_len, part_of};
+ghost use Rattle.sum_commands.specs.Packing.{Runs};
+ghost use Rattle.sum_commands.specs.Parts.{code_in, written_over};
 ghost use Rattle.sum_commands.specs.Served.{StandsForSome};
 ghost use Rattle.sum_commands.specs.Stops.{MayStop};
-ghost use Rattle.sum_commands.specs.PartValues.{part_meant};
 
 use crate::PartService;
 use crate::answers::number_in;
-use crate::part::Part;
+use crate::form::Form;
+use crate::heads::Rest;
 use crate::room::{put_zeros, write_at};
-use ads_base::{NoMemory, Octets};
+use ads_base::{NoMemory, Octets, get32};
+use return_codes::Code;
 use std::alloc::Global;
 
-// Runs a part. Its result is written at its place in `out`, and its data appended.
+// Runs the first part. Its result is written at its place in `out`, and its data appended.
 #[inline(always)]
-pub(crate) fn run_part<P: PartService>(
+pub(crate) fn run_first<P: PartService>(
     alloc: Global,
     service: &mut P,
-    part: Part<'_>,
+    rest: Rest<'_>,
     at: usize,
     out: &mut Octets,
 ) -> Result<(), NoMemory>
+    requires head { head_width rest.form ≤ length rest.heads.now }
+    requires written { written_len rest.form rest.heads.now ≤ length rest.written.now }
     requires some { StandsForSome P.stands_for service.old }
-    requires room { at + front_len (part_meant part) ≤ length out.old }
+    requires room { at + front_width rest.form ≤ length out.old }
     ensures ok { OnOk result ((s : P.State) → P.stands_for service.old s
-        → Runs P.stands_for P.given P.left (part_meant part.entry) s service.new at out.old out.new) }
-    ensures wants { OnErr result ((s : P.State) → P.stands_for service.old s
-        → MayStop P.stands_for P.left P.may_leave (part_meant part.entry) s service.new) }
+        → Runs P.stands_for P.given P.left rest.entry.form (part_of rest.entry.form rest.entry.heads.now rest.entry.written.now)
+        s service.new at out.old out.new) }
+    ensures wants { OnErr result ((s : P.State) → P.stands_for service.old s → MayStop P.stands_for P.left P.may_leave
+        (part_of rest.entry.form rest.entry.heads.now rest.entry.written.now) s service.new) }
     ensures no_memory { OnErr result (Extends out.old out.new) }
 {
-    match part {
-        Part::Read { group, offset, len } => {
-            run_read(alloc, service, group, offset, len, at, out)
+    let heads = rest.heads;
+    let group = get32(heads, 0);
+    let offset = get32(heads, 4);
+    let len = get32(heads, 8);
+    match rest.form {
+        Form::Reads => run_read(alloc, service, group, offset, len, at, out),
+        Form::Writes => {
+            let bytes = &rest.written[..len as usize];
+            run_write(alloc, service, group, offset, bytes, at, out)
         }
-        Part::Write {
-            group,
-            offset,
-            bytes,
-        } => run_write(alloc, service, group, offset, bytes, at, out),
-        Part::ReadWrite {
-            group,
-            offset,
-            read_len,
-            bytes,
-        } => run_read_write(alloc, service, group, offset, read_len, bytes, at, out),
+        Form::ReadWrites => {
+            let bytes = &rest.written[..get32(heads, 12) as usize];
+            run_read_write(alloc, service, group, offset, len, bytes, at, out)
+        }
+        Form::ToldReads => run_told_read(alloc, service, group, offset, len, at, out),
+        Form::ShortReads => run_short_read(alloc, service, group, offset, len, at, out),
     }
 }
 
@@ -62,7 +71,7 @@ fn run_read<P: PartService>(
     requires some { StandsForSome P.stands_for service.old }
     requires room { at + 4 ≤ length out.old }
     ensures ok { OnOk result ((s : P.State) → P.stands_for service.old s
-        → Runs P.stands_for P.given P.left (Read group offset len) s service.new at out.old out.new) }
+        → Runs P.stands_for P.given P.left form.Reads (Read group offset len) s service.new at out.old out.new) }
     ensures wants { OnErr result ((s : P.State) → P.stands_for service.old s
         → MayStop P.stands_for P.left P.may_leave (Read group offset len) s service.new) }
     ensures no_memory { OnErr result (Extends out.old out.new) }
@@ -87,7 +96,7 @@ fn run_write<P: PartService>(
     requires some { StandsForSome P.stands_for service.old }
     requires room { at + 4 ≤ length out.old }
     ensures ok { OnOk result ((s : P.State) → P.stands_for service.old s
-        → Runs P.stands_for P.given P.left (Write group offset bytes.now) s service.new at out.old out.new) }
+        → Runs P.stands_for P.given P.left form.Writes (Write group offset bytes.now) s service.new at out.old out.new) }
     ensures wants { OnErr result ((s : P.State) → P.stands_for service.old s
         → MayStop P.stands_for P.left P.may_leave (Write group offset bytes.now) s service.new) }
     ensures no_memory { OnErr result (Extends out.old out.new) }
@@ -110,7 +119,7 @@ fn run_read_write<P: PartService>(
     requires some { StandsForSome P.stands_for service.old }
     requires room { at + 8 ≤ length out.old }
     ensures ok { OnOk result ((s : P.State) → P.stands_for service.old s
-        → Runs P.stands_for P.given P.left (ReadWrite group offset read_len bytes.now) s service.new at out.old out.new) }
+        → Runs P.stands_for P.given P.left form.ReadWrites (ReadWrite group offset read_len bytes.now) s service.new at out.old out.new) }
     ensures wants { OnErr result ((s : P.State) → P.stands_for service.old s
         → MayStop P.stands_for P.left P.may_leave (ReadWrite group offset read_len bytes.now) s service.new) }
     ensures no_memory { OnErr result (Extends out.old out.new) }
@@ -118,7 +127,66 @@ fn run_read_write<P: PartService>(
     let before = out.len();
     let answer = service.read_write(alloc, group, offset, read_len, bytes, out)?;
     let gave = out.len() - before;
-    write_at(out, at, number_in(answer));
-    write_at(out, at + 4, gave as u32);
+    tell(out, at, answer, gave as u32);
     Ok(())
+}
+
+fn run_told_read<P: PartService>(
+    alloc: Global,
+    service: &mut P,
+    group: u32,
+    offset: u32,
+    len: u32,
+    at: usize,
+    out: &mut Octets,
+) -> Result<(), NoMemory>
+    requires some { StandsForSome P.stands_for service.old }
+    requires room { at + 8 ≤ length out.old }
+    ensures ok { OnOk result ((s : P.State) → P.stands_for service.old s
+        → Runs P.stands_for P.given P.left form.ToldReads (Read group offset len) s service.new at out.old out.new) }
+    ensures wants { OnErr result ((s : P.State) → P.stands_for service.old s
+        → MayStop P.stands_for P.left P.may_leave (Read group offset len) s service.new) }
+    ensures no_memory { OnErr result (Extends out.old out.new) }
+{
+    let before = out.len();
+    let answer = service.read(alloc, group, offset, len, out)?;
+    let given = (out.len() - before) as u32;
+    put_zeros(alloc, out, len - given)?;
+    tell(out, at, answer, given);
+    Ok(())
+}
+
+fn run_short_read<P: PartService>(
+    alloc: Global,
+    service: &mut P,
+    group: u32,
+    offset: u32,
+    len: u32,
+    at: usize,
+    out: &mut Octets,
+) -> Result<(), NoMemory>
+    requires some { StandsForSome P.stands_for service.old }
+    requires room { at + 8 ≤ length out.old }
+    ensures ok { OnOk result ((s : P.State) → P.stands_for service.old s
+        → Runs P.stands_for P.given P.left form.ShortReads (Read group offset len) s service.new at out.old out.new) }
+    ensures wants { OnErr result ((s : P.State) → P.stands_for service.old s
+        → MayStop P.stands_for P.left P.may_leave (Read group offset len) s service.new) }
+    ensures no_memory { OnErr result (Extends out.old out.new) }
+{
+    let before = out.len();
+    let answer = service.read(alloc, group, offset, len, out)?;
+    let given = (out.len() - before) as u32;
+    tell(out, at, answer, given);
+    Ok(())
+}
+
+// Writes a result at its place, and behind it how many bytes were given.
+#[inline(always)]
+fn tell(out: &mut Octets, at: usize, answer: Result<(), Code>, given: u32)
+    requires room { at + 8 ≤ length out.old }
+    requires small { at + 8 < 2 ^ 64 }
+    ensures { out.new ≡ written_over at (to_le_bytes w32 (code_in answer) ++ to_le_bytes w32 given) out.old }
+{
+    write_at(out, at, number_in(answer));
+    write_at(out, at + 4, given);
 }

@@ -8,7 +8,7 @@ ghost use Rattle.port_device.specs.Holds.{WasAccepted};
 use ads_base::Octets;
 use case_plants::description_of;
 use case_sheets::{Answer, Args, Fault};
-use net_routes::Routes;
+use net_routes::Admission;
 use port_device::Ports;
 use session::{Session, Taken};
 use std::alloc::Global;
@@ -55,9 +55,9 @@ fn take(alloc: Global, args: &mut Args<'_>, answer: &mut Answer) -> Result<(), F
     let d = accepted(alloc, args)?;
     let packet = packet_of(args)?;
     let mut ports = Ports::build(alloc, &d)?;
-    let routes = Routes::build(alloc, &d.routes)?;
+    let admission = Admission::build(alloc, &d.routes, None)?;
     let mut session = Session::new(alloc)?;
-    match session.take(alloc, &mut ports, &routes, d.net, packet.as_slice())? {
+    match session.take(alloc, &mut ports, &admission, d.net, packet.as_slice())? {
         Taken::Answer(frame) => answer.hex(frame.as_slice()),
         Taken::Silent => answer.say("silent"),
         Taken::Close => answer.say("close"),

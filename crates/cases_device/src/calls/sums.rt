@@ -55,7 +55,7 @@ fn ended(
     let parts = args.u32();
     let read_len = args.u32();
     let bytes = args.octets();
-    if group < 0xF080 || group > 0xF082 {
+    if group < 0xF080 || group > 0xF084 {
         args.refuse();
         return Ok(0);
     }

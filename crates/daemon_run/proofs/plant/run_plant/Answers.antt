@@ -2,7 +2,7 @@
 use Rattle.std.proofs.Common.{◌≡◌, refl, length}
 use Rattle.ads_outside.specs.Named.{bytes_of}
 use Rattle.ads_outside.specs.Rose.{Rose}
-use Rattle.port_device.specs.Profiles.{profile_of}
+use Rattle.server_core.specs.Profiles.{profile_of}
 use Rattle.type_layout.specs.Descriptions.{description_of}
 use Rattle.keep_play.specs.KeptDisk.{disk_used}
 use Rattle.run_tasks.specs.EndsOr.{WantsMemory}

@@ -1,6 +1,6 @@
 -- The server begins with what the store holds, and is served.
 use Rattle.std.proofs.Common.{refl, inl, inr, length}
-use Rattle.port_device.specs.Profiles.{profile_of}
+use Rattle.server_core.specs.Profiles.{profile_of}
 use Rattle.type_layout.specs.Descriptions.{description_of}
 use Rattle.stored_values.specs.StoredBodies.{bytes_lent}
 use Rattle.keep_play.proofs.CoreLemmas.{kept_is, kept_may_begin}

@@ -1,7 +1,7 @@
 -- The store is opened, and the plant served over it; or it is not.
 use Rattle.std.proofs.Common.{refl, inl, inr}
 use Rattle.std.specs.Prelude.{Some}
-use Rattle.port_device.specs.Profiles.{profile_of}
+use Rattle.server_core.specs.Profiles.{profile_of}
 use Rattle.type_layout.specs.Descriptions.{description_of}
 use Rattle.daemon_run.specs.Plant.{plant_of, serving}
 use Rattle.daemon_run.proofs.KeptLemmas.{kept_opened, kept_unopened, kept_unstarted}

@@ -1,6 +1,6 @@
 -- A core that was just built is served.
 use Rattle.std.proofs.Common.{refl, inl, inr}
-use Rattle.port_device.specs.Profiles.{profile_of}
+use Rattle.server_core.specs.Profiles.{profile_of}
 use Rattle.type_layout.specs.Descriptions.{description_of}
 use Rattle.file_run.specs.FileOutcomes.{at_start_in}
 use Rattle.file_run.proofs.PlayLemmas.{stands_at_start}

@@ -1,9 +1,9 @@
-use Rattle.spec_machine.specs.Profile.{Strict}
+use Rattle.spec_machine.specs.Profile.{strict}
 use Rattle.file_run.proofs.PromiseLemmas.{turns_keep_promises}
 use Rattle.file_run.proofs.laws.logs_in_turns_keep_promises.Goals as goal
 
 pub returns-clause-strict : goal.returns-clause-strict
-returns-clause-strict c = λ d waves log turns. turns_keep_promises Strict d waves log turns
+returns-clause-strict c = λ d waves log turns. turns_keep_promises strict d waves log turns
 
 pub returns-clause-each : goal.returns-clause-each
 returns-clause-each c = λ profile d waves log turns. turns_keep_promises profile d waves log turns

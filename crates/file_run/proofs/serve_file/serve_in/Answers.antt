@@ -3,7 +3,7 @@ use Rattle.std.proofs.Common.{◌≡◌, refl, length}
 use Rattle.ads_outside.specs.Named.{bytes_of}
 use Rattle.ads_outside.specs.Rose.{Rose}
 use Rattle.type_layout.specs.Descriptions.{description_of}
-use Rattle.port_device.specs.Profiles.{profile_of}
+use Rattle.server_core.specs.Profiles.{profile_of}
 use Rattle.run_tasks.specs.Service.{server_with_in}
 use Rattle.run_tasks.specs.Verdict.{Serves, verdict_of_file, verdict_of_serve_in}
 use Rattle.run_tasks.specs.EndsOr.{WantsMemory}

@@ -5,7 +5,7 @@ use Rattle.spec_plant.specs.Description.{Port}
 use Rattle.type_layout.specs.Descriptions.{port_of, ports_of}
 use Rattle.type_layout.specs.NamedTypes.{types_of}
 use Rattle.type_layout.specs.declared.port.PortDesc.{PortDesc}
-use Rattle.port_device.specs.Profiles.{profile_of}
+use Rattle.port_device.specs.Manners.{manner_of}
 use Rattle.port_device.specs.FirstPorts.{IsOfAccepted, AreFirstPorts}
 use Rattle.port_device.proofs.FirstPortLemmas.{first_ports-more}
 use Rattle.port_device.proofs.building.first_ports.Goals as goal
@@ -25,6 +25,6 @@ loop-d-preserved c =
     = take_more c.args.ports.now i x c.loop-d-test.true ∙ ap (λ y. before ++ y ∷ []) (sym c.d-item.is) in
     let ports : ports_of (take (i + 1) c.args.ports.now) ≡ ports_of before ++ port_of x ∷ [] = ap ports_of taken ∙ map-append port_of before (x ∷ []) in
     let built = c.loop-d.built.items in
-    let more = first_ports-more types c.args.version (profile_of c.args.profile) (ports_of before) built (port_of x) c.in_ok-port.port c.loop-d.invariant c.in_ok-port.ensures in
-    let P : List Port → Type 0 = λ ps. AreFirstPorts types c.args.version (profile_of c.args.profile) ps (c.loop-d.built.items ++ c.in_ok-port.port ∷ []) in
-    subst (AreFirstPorts types c.args.version (profile_of c.args.profile) (ports_of (take (i + 1) c.args.ports.now))) (sym c.in_ok-push.ensures.items) (subst P (sym ports) more)
+    let more = first_ports-more types c.args.version (manner_of c.args.manner) (ports_of before) built (port_of x) c.in_ok-port.port c.loop-d.invariant c.in_ok-port.ensures in
+    let P : List Port → Type 0 = λ ps. AreFirstPorts types c.args.version (manner_of c.args.manner) ps (c.loop-d.built.items ++ c.in_ok-port.port ∷ []) in
+    subst (AreFirstPorts types c.args.version (manner_of c.args.manner) (ports_of (take (i + 1) c.args.ports.now))) (sym c.in_ok-push.ensures.items) (subst P (sym ports) more)

@@ -5,7 +5,7 @@ use Rattle.spec_plant.specs.Description.{Port}
 use Rattle.type_layout.specs.Descriptions.{port_of, ports_of}
 use Rattle.type_layout.specs.NamedTypes.{types_of}
 use Rattle.type_layout.specs.declared.port.PortDesc.{PortDesc}
-use Rattle.port_device.specs.Profiles.{profile_of}
+use Rattle.port_device.specs.Manners.{manner_of}
 use Rattle.port_device.specs.FirstPorts.{IsOfAccepted}
 use Rattle.port_device.specs.ReloadedPorts.{AreReloadedPorts}
 use Rattle.port_device.proofs.ReloadedPorts.{reloaded-more}
@@ -26,7 +26,7 @@ loop-d-preserved c = λ before compared all.
     let taken : take (i + 1) c.args.ports.now ≡ first ++ x ∷ []
     = take_more c.args.ports.now i x c.loop-d-test.true ∙ ap (λ y. first ++ y ∷ []) (sym c.d-item.is) in
     let ports : ports_of (take (i + 1) c.args.ports.now) ≡ ports_of first ++ port_of x ∷ [] = ap ports_of taken ∙ map-append port_of first (x ∷ []) in
-    let more = reloaded-more old types c.args.version (profile_of c.args.profile) (ports_of first) c.loop-d.built.items (port_of x) c.in_ok-port.port
+    let more = reloaded-more old types c.args.version (manner_of c.args.manner) (ports_of first) c.loop-d.built.items (port_of x) c.in_ok-port.port
     (c.loop-d.invariant before compared all) (c.in_ok-port.ensures before compared all) in
-    let P : List Port → Type 0 = λ ps. AreReloadedPorts old types c.args.version (profile_of c.args.profile) ps (c.loop-d.built.items ++ c.in_ok-port.port ∷ []) in
-    subst (AreReloadedPorts old types c.args.version (profile_of c.args.profile) (ports_of (take (i + 1) c.args.ports.now))) (sym c.in_ok-push.ensures.items) (subst P (sym ports) more)
+    let P : List Port → Type 0 = λ ps. AreReloadedPorts old types c.args.version (manner_of c.args.manner) ps (c.loop-d.built.items ++ c.in_ok-port.port ∷ []) in
+    subst (AreReloadedPorts old types c.args.version (manner_of c.args.manner) (ports_of (take (i + 1) c.args.ports.now))) (sym c.in_ok-push.ensures.items) (subst P (sym ports) more)

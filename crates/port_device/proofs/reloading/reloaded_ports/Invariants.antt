@@ -4,7 +4,7 @@ use Rattle.std.specs.Arc.{arc_value}
 use Rattle.spec_plant.specs.Listed.{NamedType}
 use Rattle.type_layout.specs.Descriptions.{ports_of}
 use Rattle.type_layout.specs.NamedTypes.{types_of}
-use Rattle.port_device.specs.Profiles.{profile_of}
+use Rattle.port_device.specs.Manners.{manner_of}
 use Rattle.port_device.specs.Moved.{HasTypes}
 use Rattle.port_device.specs.Reloaded.{AreCompared}
 use Rattle.port_device.specs.ReloadedPorts.{AreReloadedPorts}
@@ -14,4 +14,4 @@ use Rattle.port_device.proofs.reloading.reloaded_ports.Given as goal
 abbrev pub invariant-loop-d : goal.invariant-loop-d
 invariant-loop-d l =
     (before : List NamedType) → AreCompared before (types_of (arc_value l.types)) l.same → All (HasTypes before) l.old.ports
-    → AreReloadedPorts l.old.ports (types_of (arc_value l.types)) l.version (profile_of l.profile) (ports_of (take l.d-index l.ports)) l.built.items
+    → AreReloadedPorts l.old.ports (types_of (arc_value l.types)) l.version (manner_of l.manner) (ports_of (take l.d-index l.ports)) l.built.items

@@ -9,7 +9,7 @@ use Rattle.server_core.proofs.taking.take_fed.Goals as goal
 
 pub loop-init : goal.loop-init
 loop-init c = record {
-  device = record { net = refl; routes = refl; signals = refl; moment = refl };
+  device = record { net = refl; admission = refl; signals = refl; moment = refl };
   connected = c.requires.connected;
   queue = c.requires.queue;
   takes = λ w x held s is_open. none_taken _ c.args.device.now c.args.summary.now x held s is_open;
@@ -19,7 +19,7 @@ pub loop-preserved : goal.loop-preserved
 loop-preserved c = record {
   device = record {
     net = c.in_ok-take_next.ensures.device.net ∙ c.loop.invariant.device.net;
-    routes = c.in_ok-take_next.ensures.device.routes ∙ c.loop.invariant.device.routes;
+    admission = c.in_ok-take_next.ensures.device.admission ∙ c.loop.invariant.device.admission;
     signals = c.in_ok-take_next.ensures.device.signals ∙ c.loop.invariant.device.signals;
     moment = c.in_ok-take_next.ensures.device.moment ∙ c.loop.invariant.device.moment;
   };
@@ -59,7 +59,7 @@ returns-clause-goes c = λ w x held s is_open there.
 pub returns-clause-device : goal.returns-clause-device
 returns-clause-device c = record {
   net = c.take_next.ensures.device.net ∙ c.loop.invariant.device.net;
-  routes = c.take_next.ensures.device.routes ∙ c.loop.invariant.device.routes;
+  admission = c.take_next.ensures.device.admission ∙ c.loop.invariant.device.admission;
   signals = c.take_next.ensures.device.signals ∙ c.loop.invariant.device.signals;
   moment = c.take_next.ensures.device.moment ∙ c.loop.invariant.device.moment;
 }

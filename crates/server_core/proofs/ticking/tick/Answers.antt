@@ -20,7 +20,7 @@ check_all-requires g c =
       (
         search rules,
         tick_served v device waves c.args.moment c.as_mut_slice.result.now c.requires
-            (record { net = refl; routes = refl; signals = refl; moment = c.later_of-server.ensures; ports = c.step_into.ensures.ports })
+            (record { net = refl; admission = refl; signals = refl; moment = c.later_of-server.ensures; ports = c.step_into.ensures.ports })
             c.as_mut_slice.ensures.value,
       ),
     )
@@ -35,7 +35,7 @@ returns-clause-follows g c =
     let back = lent_back list old.items old.len old.ok.0 (c.check_all.auto.list ∙ ap (λ (ts : List Turned). length ts) c.as_mut_slice.ensures.value) in
     on_ok c.deliver.result (λ delivers. λ x s.
     tick_follows v _ waves (g.S.Sources.waves c.step_into.new.self) x c.args.moment _ c.deliver.new.self s
-    (record { net = refl; routes = refl; signals = refl; moment = c.later_of-server.ensures; ports = c.step_into.ensures.ports }) c.step_into.ensures.waves
+    (record { net = refl; admission = refl; signals = refl; moment = c.later_of-server.ensures; ports = c.step_into.ensures.ports }) c.step_into.ensures.waves
     (λ u held net. subst (λ (ts : List Turned). EachAsked u.plant u.plant (client_after_tick device.moment u) old.items ts) (sym back)
     (subst (λ (ts : List Turned). EachAsked u.plant u.plant (client_after_tick device.moment u) ts list) c.as_mut_slice.ensures.value
     (c.in_ok-check_all.ensures u held net))) refl delivers refl refl) c.deliver.ensures

@@ -1,16 +1,15 @@
 use Rattle.std.proofs.Common.{◌≡◌, ◌+◌, ◌-◌, ◌*◌, ◌≤◌, suc, ◌++◌, drop, length, refl, ◌∙◌, ap, arith, rules, length-append, length-drop}
-use Rattle.sum_commands.specs.Forms.{head_width, front_width, written_len}
-use Rattle.sum_commands.specs.Parts.{front_of, data_of}
-use Rattle.sum_commands.specs.PartValues.{part_meant}
+use Rattle.sum_commands.specs.Forms.{head_width, front_width, written_len, part_of}
+use Rattle.sum_commands.specs.Packing.{front_of, data_of}
 use Rattle.sum_commands.proofs.StopLemmas.{parts_of-next, stops-here, stops-later, on_err}
 use Rattle.sum_commands.proofs.HeadLemmas.{times-step}
 use Rattle.sum_commands.proofs.LaidLemmas.{laid-next, longer-next, kept-next, kept-extends}
 use Rattle.sum_commands.proofs.RunningLemmas.{continues-first, replies}
-use Rattle.sum_commands.proofs.PartLemmas.{IsBehind, parts-step, parts-next, runs-next, front_len-first, length-front_of}
+use Rattle.sum_commands.proofs.PartLemmas.{IsBehind, parts-step, parts-next, runs-next, front-len}
 use Rattle.sum_commands.proofs.run.run_parts.Goals as goal
 
-pub first_part-requires-clause-written : goal.first_part-requires-clause-written
-first_part-requires-clause-written g c =
+pub run_first-requires-clause-written : goal.run_first-requires-clause-written
+run_first-requires-clause-written g c =
     let more : c.args.n - c.loop.counter ≡ suc (c.args.n - (c.loop.counter + 1)) = omega arith in
     (parts-step c.loop.rest.form _ _ c.loop.rest.heads.now c.loop.rest.written.now more c.loop.invariant.parts).written_there
 
@@ -43,14 +42,13 @@ overflow_add-at g c =
     let all = times-step (c.args.n - c.loop.counter) k (front_width form) more in
     omega (arith, c.loop.invariant.small, all, c.front-at.ensures)
 
-pub run_part-requires-clause-room : goal.run_part-requires-clause-room
-run_part-requires-clause-room g c =
+pub run_first-requires-clause-room : goal.run_first-requires-clause-room
+run_first-requires-clause-room g c =
     let form = c.loop.rest.form in
     let k = c.args.n - (c.loop.counter + 1) in
     let more : c.args.n - c.loop.counter ≡ suc k = omega arith in
     let all = times-step (c.args.n - c.loop.counter) k (front_width form) more in
-    let wide = front_len-first form c.loop.rest.heads.now c.loop.rest.written.now (part_meant c.first_part.result) c.first_part.ensures in
-    omega (arith, c.loop.invariant.room, all, wide)
+    omega (arith, c.loop.invariant.room, all)
 
 pub loop-preserved : goal.loop-preserved
 loop-preserved g c =
@@ -63,8 +61,7 @@ loop-preserved g c =
     let k = c.args.n - (c.loop.counter + 1) in
     let more : c.args.n - c.loop.counter ≡ suc k = omega arith in
     let all = times-step (c.args.n - c.loop.counter) k (front_width form) more in
-    let r = part_meant c.first_part.result in
-    let wide = front_len-first form heads written r c.first_part.ensures in
+    let r = part_of form heads written in
     let behind : IsBehind form heads written
     c.behind_first-rest.result.form c.behind_first-rest.result.heads.now c.behind_first-rest.result.written.now
     = record {
@@ -74,19 +71,19 @@ loop-preserved g c =
     } in
     let same_left : front_width c.behind_first-rest.result.form * k ≡ front_width form * k = ap (λ f. front_width f * k) behind.form_same in
     let some = c.loop.invariant.some in
-    let one = c.in_ok-run_part.ensures.ok some.state some.stands in
-    let one_front = front_of r (given some.state r) in
-    let one_long : length one_front ≡ front_width form = length-front_of r (given some.state r) ∙ wide in
+    let one = c.in_ok-run_first.ensures.ok some.state some.stands in
+    let one_front = front_of form (given some.state r) in
+    let one_long : length one_front ≡ front_width form = front-len form (given some.state r) in
     let inside : c.loop.at + length one_front ≤ length c.loop.out = omega (arith, c.loop.invariant.room, all, one_long) in
-    let longer = longer-next c.loop.at c.loop.out one_front (data_of r (given some.state r)) c.run_part.new.out inside one.bytes in
+    let longer = longer-next c.loop.at c.loop.out one_front (data_of form r (given some.state r)) c.run_first.new.out inside one.bytes in
     record {
       parts = parts-next _ _ _ _ _ _ _ _ more behind c.loop.invariant.parts;
       continues = λ s stands.
           let so_far = c.loop.invariant.continues s stands in
-          let this = c.in_ok-run_part.ensures.ok so_far.now so_far.stands in
-          let front = front_of r (given so_far.now r) in
-          let added = data_of r (given so_far.now r) in
-          let long : length front ≡ front_width form = length-front_of r (given so_far.now r) ∙ wide in
+          let this = c.in_ok-run_first.ensures.ok so_far.now so_far.stands in
+          let front = front_of form (given so_far.now r) in
+          let added = data_of form r (given so_far.now r) in
+          let long : length front ≡ front_width form = front-len form (given so_far.now r) in
           let fits : length front ≤ length so_far.room = omega (arith, so_far.left, all, long) in
           record {
             now = leaves so_far.now r;
@@ -98,39 +95,39 @@ loop-preserved g c =
                 (omega (arith, c.front-at.ensures, long)) this.bytes;
             left = omega (arith, length-drop (length front) so_far.room, so_far.left, all, long, same_left);
             runs = λ v f o rest. so_far.runs v f o
-                (runs-next stands_for given leaves _ _ _ _ _ _ _ _ r so_far.now _ v _ _ _ _ _ _ more behind c.first_part.ensures
+                (runs-next stands_for given leaves _ _ _ _ _ _ _ _ r so_far.now _ v _ _ _ _ _ _ more behind refl
                 (record { state = this.state; front = refl; bytes = refl; asked = omega (arith, this.asked, length-append so_far.more added) }) rest);
             stops = λ v later. so_far.stops v
                 (stops-later stands_for leaves g.P.PartService.may_leave _ r _ so_far.now v
-                (parts_of-next _ _ _ _ _ _ _ _ r more behind c.first_part.ensures) later);
+                (parts_of-next _ _ _ _ _ _ _ _ r more behind refl) later);
           };
       some = record { state = leaves some.state r; stands = one.state };
       room = omega (arith, c.loop.invariant.room, all, same_left, longer, c.front-at.ensures);
       small = omega (arith, c.loop.invariant.small, all, same_left, c.front-at.ensures);
       behind = omega (arith, c.loop.invariant.behind, c.front-at.ensures);
-      begun = kept-next c.args.start c.loop.at c.args.out.now c.loop.out one_front (data_of r (given some.state r)) c.run_part.new.out
+      begun = kept-next c.args.start c.loop.at c.args.out.now c.loop.out one_front (data_of form r (given some.state r)) c.run_first.new.out
           c.loop.invariant.behind inside c.loop.invariant.begun one.bytes;
     }
 
-pub returns-in_err-run_part-clause-wants : goal.returns-in_err-run_part-clause-wants
-returns-in_err-run_part-clause-wants g c =
+pub returns-in_err-run_first-clause-wants : goal.returns-in_err-run_first-clause-wants
+returns-in_err-run_first-clause-wants g c =
     let more : c.args.n - c.loop.counter ≡ suc (c.args.n - (c.loop.counter + 1)) = omega arith in
     let form = c.loop.rest.form in
     let heads = c.loop.rest.heads.now in
     let written = c.loop.rest.written.now in
-    let r = part_meant c.first_part.result in
+    let r = part_of form heads written in
     let same : IsBehind form heads written form (drop (head_width form) heads) (drop (written_len form heads) written) =
     record { form_same = refl; heads_left = refl; written_left = refl } in
     on_err c.from_residual.result (λ s stands.
     let so_far = c.loop.invariant.continues s stands in
     so_far.stops _
     (stops-here g.P.PartService.stands_for g.P.PartService.left g.P.PartService.may_leave _ r _ so_far.now _
-    (parts_of-next _ _ _ _ _ _ _ _ r more same c.first_part.ensures) (c.in_err-run_part.ensures.wants so_far.now so_far.stands)))
+    (parts_of-next _ _ _ _ _ _ _ _ r more same refl) (c.in_err-run_first.ensures.wants so_far.now so_far.stands)))
 
-pub returns-in_err-run_part-clause-no_memory : goal.returns-in_err-run_part-clause-no_memory
-returns-in_err-run_part-clause-no_memory g c =
+pub returns-in_err-run_first-clause-no_memory : goal.returns-in_err-run_first-clause-no_memory
+returns-in_err-run_first-clause-no_memory g c =
     on_err c.from_residual.result
-    (kept-extends c.args.start c.args.out.now c.loop.out c.run_part.new.out c.loop.invariant.begun c.in_err-run_part.ensures.no_memory)
+    (kept-extends c.args.start c.args.out.now c.loop.out c.run_first.new.out c.loop.invariant.begun c.in_err-run_first.ensures.no_memory)
 
 pub returns-clause-ok : goal.returns-clause-ok
 returns-clause-ok g c = λ s stands.

@@ -1,8 +1,8 @@
-use Rattle.std.proofs.Common.{◌≡◌, ◌+◌, ◌-◌, ◌++◌, length, refl, ◌∙◌, ap, arith, length-append}
+use Rattle.std.proofs.Common.{◌≡◌, ◌+◌, ◌-◌, ◌++◌, length, ◌∙◌, ap, arith, length-append}
 use Rattle.std.specs.Int.{w32, to_le_bytes}
 use Rattle.spec_formats.specs.Request.{ReadWrite}
-use Rattle.sum_commands.specs.Parts.{front_of, written_over}
-use Rattle.sum_commands.proofs.LaidLemmas.{written_over-twice}
+use Rattle.sum_commands.specs.Parts.{code_in, written_over}
+use Rattle.sum_commands.specs.Packing.{told_front}
 use Rattle.sum_commands.proofs.running.run_read_write.Goals as goal
 
 pub returns-clause-ok : goal.returns-clause-ok
@@ -14,14 +14,12 @@ returns-clause-ok g c = λ s stands.
     let grown : length out ≡ length c.args.out.now + length o.bytes = ap length gives.bytes ∙ length-append c.args.out.now o.bytes in
     let gave = c.len.result - c.len-before.result in
     let len : gave ≡ length o.bytes = omega (arith, c.len.ensures, c.len-before.ensures, grown) in
-    let code = to_le_bytes w32 c.number_in.result in
     let at = c.args.at in
     record {
       state = c.in_ok-answer.ensures.leaves s stands;
-      bytes = c.write_at-2.ensures ∙ ap (written_over (at + 4) (to_le_bytes w32 gave)) c.write_at.ensures
-          ∙ written_over-twice at (at + 4) code (to_le_bytes w32 gave) out refl (omega (arith, c.requires.room, grown))
-          ∙ ap (λ n. written_over at (to_le_bytes w32 n ++ to_le_bytes w32 gave) out) (c.number_in.ensures ∙ gives.code)
+      bytes = c.tell.ensures
+          ∙ ap (λ n. written_over at (to_le_bytes w32 n ++ to_le_bytes w32 gave) out) gives.code
           ∙ ap (λ n. written_over at (to_le_bytes w32 o.code ++ to_le_bytes w32 n) out) len
-          ∙ ap (written_over at (front_of r o)) gives.bytes;
+          ∙ ap (written_over at (told_front o)) gives.bytes;
       asked = omega (arith, c.in_ok-answer.ensures.asked, grown);
     }

@@ -1,4 +1,4 @@
-use Rattle.std.proofs.Common.{◌≡◌, ◌+◌, ◌<◌, ◌≤◌, List, ℕ, [], ◌∷◌, ◌++◌, length, true, false, Ok, refl, sym, ap, ◌∙◌, subst, inl, inr}
+use Rattle.std.proofs.Common.{◌≡◌, ◌+◌, ◌<◌, ◌≤◌, [], ◌∷◌, ◌++◌, length, true, false, Ok, refl, sym, ap, ◌∙◌, inl, inr}
 use Rattle.std.specs.Prelude.{Some}
 use Rattle.std.proofs.lemmas.Bool.{cases_lt}
 use Rattle.spec_frames.specs.Frame.{frame_bytes}
@@ -34,19 +34,15 @@ returns-in-Done-clause-follows c = λ b s h.
     let was : peer_in n old.peers.entries ≡ Some p = place.value ∙ c.index_mut.ensures.value in
     let is_open : p.closing ≡ false =
     sym (ap (λ (x : Peer). x.closing) (some_same c.index.result.now p (sym c.index.ensures ∙ c.index_mut.ensures.value))) ∙ c.if-index.false in
-    let frame : c.as_slice.result.now ≡ frame_bytes packet =
-    c.as_slice.ensures ∙ c.in_ok-put_frame.ensures.ok ∙ ap (λ xs. xs ++ frame_bytes packet) c.cut.ensures in
-    let room : queued p.out + length c.as_slice.result.now ≤ 4194304 = elim (cases_lt 4194304 (queued p.out + length c.as_slice.result.now)) [
+    let room : queued p.out + length (frame_bytes packet) ≤ 4194304 = elim (cases_lt 4194304 (queued p.out + length (frame_bytes packet))) [
       | inl over ↦ absurd (let both = sym c.in-Done.is ∙ c.in_ok-push.ensures.over.1 over in cc)
       | inr fits ↦ fits
     ] in
-    let room_f : queued p.out + length (frame_bytes packet) ≤ 4194304 = subst (λ (f : List ℕ). queued p.out + length f ≤ 4194304) frame room in
-    let q : Peer = record p { out = c.push.new.self } in
-    let is : q ≡ record p { out = p.out ++ frame_bytes packet ∷ [] } =
-    ap (λ (o : List (List ℕ)). record p { out = o }) (c.in_ok-push.ensures.done (ap (λ x. Ok x) c.in-Done.is) ∙ ap (λ (f : List ℕ). p.out ++ f ∷ []) frame) in
+    let q = c.push.new.self in
+    let is : q ≡ record p { out = p.out ++ frame_bytes packet ∷ []; near = c.args.from } = c.in_ok-push.ensures.done (ap (λ x. Ok x) c.in-Done.is) in
     let sets = place.sets q in (
-      room_there n b packet p old s true h was is_open (λ k st. fits_room p (frame_bytes packet) k st room_f),
-      given_fitting n b packet p q old _ s h was is_open room_f (frame_some packet) is sets refl refl refl
+      room_there n b packet p old s true h was is_open (λ k st. fits_room p (frame_bytes packet) k st room),
+      given_fitting n b packet p q c.args.from old _ s h was is_open room (frame_some packet) is sets refl refl refl
           (idle_touched n q old.peers.entries _ old.touched c.with-self.result sets c.with-self.ensures h.idle),
     )
 
@@ -60,12 +56,9 @@ returns-in-Over-clause-follows c = λ b s h.
     let was : peer_in n old.peers.entries ≡ Some p = place.value ∙ c.index_mut.ensures.value in
     let is_open : p.closing ≡ false =
     sym (ap (λ (x : Peer). x.closing) (some_same c.index.result.now p (sym c.index.ensures ∙ c.index_mut.ensures.value))) ∙ c.if-index.false in
-    let frame : c.as_slice.result.now ≡ frame_bytes packet =
-    c.as_slice.ensures ∙ c.in_ok-put_frame.ensures.ok ∙ ap (λ xs. xs ++ frame_bytes packet) c.cut.ensures in
-    let over : 4194304 < queued p.out + length (frame_bytes packet) =
-    subst (λ (f : List ℕ). 4194304 < queued p.out + length f) frame (c.in_ok-push.ensures.over.0 c.in-Over.is) in
-    let q : Peer = record p { out = c.push.new.self } in
-    let same : q ≡ p = ap (λ (o : List (List ℕ)). record p { out = o }) (c.in_ok-push.ensures.unchanged (ap (λ x. Ok x) c.in-Over.is)) in
+    let over : 4194304 < queued p.out + length (frame_bytes packet) = c.in_ok-push.ensures.over.0 c.in-Over.is in
+    let q = c.push.new.self in
+    let same : q ≡ p = c.in_ok-push.ensures.unchanged (ap (λ x. Ok x) c.in-Over.is) in
     let kept = put_again n b p q old _ s h was same (place.sets q) refl refl refl refl in (
       room_there n b packet p old s false h was is_open (λ k st. fits_over p (frame_bytes packet) k st over),
       given_over n b packet p old c.close.new.self s h was is_open over (c.close.ensures.follows b s kept),

@@ -10,13 +10,13 @@ use Rattle.ams_relay.proofs.OwnerLemmas.{some_same, owner_kept}
 use Rattle.ams_relay.proofs.router.Router.own.Goals as goal
 
 pub returns-then-is_some-clause-follows : goal.returns-then-is_some-clause-follows
-returns-then-is_some-clause-follows c = λ b s k h heard free.
+returns-then-is_some-clause-follows c = λ b s k h heard free has.
     let was = c.in-Some.ensures.found.value ∙ c.index.ensures in
     let owned = owned_some c.index.result.now.owned (sym c.is_some.ensures ∙ c.if-is_some.true) in
     owned_already c.args.conn b c.args.net.bytes owned.0 k c.index.result.now c.args.self.now s h heard was owned.1 free
 
 pub returns-clause-follows : goal.returns-clause-follows
-returns-clause-follows c = λ b s k h heard free.
+returns-clause-follows c = λ b s k h heard free has.
     let old = c.args.self.now in
     let n = c.args.conn in
     let net = c.args.net in
@@ -30,6 +30,6 @@ returns-clause-follows c = λ b s k h heard free.
     let ps = c.insert.new.self.entries in
     let now : owner_in net.bytes ps ≡ Some n = ap (λ x. owner_in x ps) (sym key) ∙ c.in_ok-insert.ensures.updates.1 in
     let sets = place.sets (record p { owned = Some net }) in
-    owns_now n b net k p old _ s h heard was nothing free sets refl refl now
+    owns_now n b net k p old _ s h heard was nothing free has sets refl refl now
     (λ other ne. owner_kept c.in_ok-key.key.items os ps c.in_ok-insert.ensures.updates.3 other (λ e. ne (e ∙ key)))
     (idle_kept n p (record p { owned = Some net }) old.peers.entries _ old.touched was sets refl h.idle)

@@ -7,7 +7,7 @@ use Rattle.spec_relay.specs.Routing.{after_way, with_owner}
 use Rattle.ams_header.specs.Header.{ams_header_of}
 use Rattle.ams_relay.specs.Holds.{Holds}
 use Rattle.ams_relay.proofs.PromiseLemmas.{on_ok}
-use Rattle.ams_relay.proofs.WayLemmas.{header_closes, header_goes, way_by_mark, not_taken, after_owned}
+use Rattle.ams_relay.proofs.WayLemmas.{header_closes, header_goes, way_by_mark, not_taken, has_route, after_owned}
 use Rattle.ams_relay.proofs.router.Router.pass.Goals as goal
 
 pub returns-then-is_closed_by-clause-follows : goal.returns-then-is_closed_by-clause-follows
@@ -25,7 +25,7 @@ returns-then-is_response-clause-follows c = on_ok c.pass_response.result (λ e b
     let opens = ap (λ (p : List ℕ). is_closed_by p head k s) (sym c.in-Some.ensures.payload)
     ∙ sym (c.is_closed_by.ensures b s k h heard) ∙ c.if-is_closed_by.false in
     let owned = with_owner conn head.source.net s in
-    let held = c.in_ok-own.ensures.follows b s k h heard (not_taken (payload_of packet) head k s opens) in
+    let held = c.in_ok-own.ensures.follows b s k h heard (not_taken (payload_of packet) head k s opens) (has_route (payload_of packet) head k s opens) in
     let after = after_owned conn head.source.net k s heard swept in
     let goes = e b owned after.connection held after.heard after.swept in
     header_goes conn packet k head c.pass_response.new.self b s c.in-Some.ensures.header opens
@@ -43,7 +43,7 @@ returns-else-is_response-clause-follows c = on_ok c.pass_request.result (λ e b 
     let opens = ap (λ (p : List ℕ). is_closed_by p head k s) (sym c.in-Some.ensures.payload)
     ∙ sym (c.is_closed_by.ensures b s k h heard) ∙ c.if-is_closed_by.false in
     let owned = with_owner conn head.source.net s in
-    let held = c.in_ok-own.ensures.follows b s k h heard (not_taken (payload_of packet) head k s opens) in
+    let held = c.in_ok-own.ensures.follows b s k h heard (not_taken (payload_of packet) head k s opens) (has_route (payload_of packet) head k s opens) in
     let after = after_owned conn head.source.net k s heard swept in
     let goes = e b owned after.connection held after.heard after.swept after.client in
     header_goes conn packet k head c.pass_request.new.self b s c.in-Some.ensures.header opens

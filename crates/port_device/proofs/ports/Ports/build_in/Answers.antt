@@ -5,7 +5,7 @@ use Rattle.spec_plant.specs.AcceptedTypes.{AreTypes}
 use Rattle.type_layout.specs.Descriptions.{port_of, ports_of, description_of}
 use Rattle.type_layout.specs.NamedTypes.{types_of}
 use Rattle.type_layout.specs.declared.port.PortDesc.{PortDesc}
-use Rattle.port_device.specs.Profiles.{profile_of}
+use Rattle.port_device.specs.Manners.{manner_of}
 use Rattle.port_device.specs.FirstPorts.{IsOfAccepted, AreFirstPorts}
 use Rattle.port_device.proofs.BuiltLemmas.{each_of_built, types_of_built, first_ports_hold}
 use Rattle.port_device.proofs.ports.Ports.build_in.Goals as goal
@@ -24,9 +24,9 @@ first_ports-requires-clause-each c =
 pub returns : goal.returns
 returns c =
     let types = types_of (arc_value c.in_ok-types.types) in
-    let P : List PortDesc → Type 0 = λ ps. AreFirstPorts types 1 (profile_of c.args.profile) (ports_of ps) c.in_ok-ports.ports.items in
+    let P : List PortDesc → Type 0 = λ ps. AreFirstPorts types 1 (manner_of c.args.manner) (ports_of ps) c.in_ok-ports.ports.items in
     let first = subst P c.as_slice.ensures c.in_ok-ports.ensures in
-    λ signals. first_ports_hold (profile_of c.args.profile) (description_of c.args.d.now) signals types c.in_ok-ports.ports.items c.requires (sym c.in_ok-types.ensures) first
+    λ others signals. first_ports_hold (record { manner = manner_of c.args.manner; others = others }) (description_of c.args.d.now) signals types c.in_ok-ports.ports.items c.requires (sym c.in_ok-types.ensures) first
 
 pub invariant_of-result : goal.invariant_of-result
 invariant_of-result c = subst AreTypes (sym c.in_ok-types.ensures) (types_of_built (description_of c.args.d.now) c.requires)

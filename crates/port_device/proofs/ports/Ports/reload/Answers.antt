@@ -7,7 +7,7 @@ use Rattle.type_layout.specs.Descriptions.{port_of, ports_of, description_of}
 use Rattle.type_layout.specs.NamedTypes.{types_of}
 use Rattle.type_layout.specs.SameShapes.{ArePartners}
 use Rattle.type_layout.specs.declared.port.PortDesc.{PortDesc}
-use Rattle.port_device.specs.Profiles.{profile_of}
+use Rattle.port_device.specs.Manners.{manner_of}
 use Rattle.port_device.specs.FirstPorts.{IsOfAccepted}
 use Rattle.port_device.specs.Holds.{HoldsPorts}
 use Rattle.port_device.specs.InsidePorts.{ports_in}
@@ -37,7 +37,7 @@ returns c = λ w held.
     let old : PortsMemory = ports_in c.self.inside in
     let types = types_of (arc_value c.in_ok-types.types) in
     let version : ℕ = (c.self.inside.version + 1) % 256 in
-    let profile = profile_of c.self.inside.profile in
+    let manner = manner_of c.self.inside.manner in
     let h : HoldsPorts w old = subst (HoldsPorts w) (sym c.self.view_is) held in
     let P : List NamedType → Type 0 = λ ts. ArePartners ts (types_of c.deref-3.result.now) (length ts) c.in_ok-same.same in
     let Q : List NamedType → Type 0 = λ ts. ArePartners old.types ts (length old.types) c.in_ok-same.same in
@@ -47,8 +47,8 @@ returns c = λ w held.
     let T : List NamedType → Type 0 = λ ts. All (HasTypes ts) old.ports in
     let all : All (HasTypes old.types) old.ports = subst T (sym h.types) (held-types w w.plant.ports old.ports h.each) in
     let R : PortsMemory → Type 0 = λ x. (before : List NamedType) → AreCompared before types c.in_ok-same.same → All (HasTypes before) x.ports
-    → AreReloadedPorts x.ports types version profile (ports_of c.as_slice.result.now) c.in_ok-ports.ports.items in
-    let S : List PortDesc → Type 0 = λ ps. AreReloadedPorts old.ports types version profile (ports_of ps) c.in_ok-ports.ports.items in
+    → AreReloadedPorts x.ports types version manner (ports_of c.as_slice.result.now) c.in_ok-ports.ports.items in
+    let S : List PortDesc → Type 0 = λ ps. AreReloadedPorts old.ports types version manner (ports_of ps) c.in_ok-ports.ports.items in
     let reloaded = subst S c.as_slice.ensures (subst R (sym c.self.view_is) c.in_ok-ports.ensures old.types compared all) in
-    reloaded-ports-hold w old (description_of c.args.d.now) types version profile c.in_ok-ports.ports.items h c.requires (sym c.in_ok-types.ensures)
-    (ap (λ n. (n + 1) % 256) (sym h.version)) (sym h.profile) reloaded
+    reloaded-ports-hold w old (description_of c.args.d.now) types version manner c.in_ok-ports.ports.items h c.requires (sym c.in_ok-types.ensures)
+    (ap (λ n. (n + 1) % 256) (sym h.version)) (sym h.manner) reloaded

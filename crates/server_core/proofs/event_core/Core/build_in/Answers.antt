@@ -1,5 +1,5 @@
 use Rattle.server_core.specs.CoreState.{started_in}
-use Rattle.port_device.specs.Profiles.{profile_of}
+use Rattle.server_core.specs.Profiles.{profile_of}
 use Rattle.type_layout.specs.Descriptions.{description_of}
 use Rattle.server_core.proofs.CoreLemmas.{started_serves}
 use Rattle.server_core.proofs.event_core.Core.build_in.Goals as goal

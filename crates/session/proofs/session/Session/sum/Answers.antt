@@ -1,7 +1,8 @@
 use Rattle.std.proofs.Common.{sym, subst, refl, ap, arith, rules}
 use Rattle.spec_formats.specs.Header.{AmsAddress}
 use Rattle.session.specs.Asks.{SomeAsks}
-use Rattle.session.specs.Runs.{AsksSession}
+use Rattle.spec_machine.specs.Manner.{Manner}
+use Rattle.session.specs.Runs.{AsksSession, IsSumOf}
 use Rattle.session.specs.SessionState.{SessionState}
 use Rattle.session.proofs.SumLemmas.{sum-runs}
 use Rattle.session.proofs.session.Session.sum.Goals as goal
@@ -19,10 +20,11 @@ returns-clause-runs c = λ a h from.
     let S : SessionState → Type 0 = λ s. AsksSession a c.args.port.now s in
     let own = subst S (sym c.self.view_is) h in
     let x = c.args.asked.now in
+    let G : Manner → Type 0 = λ p. IsSumOf p x.group in
     sum-runs a x.group x.offset x.len x.bytes.now c.args.port.now _
     _ _ _ _ c.args.out.now c.put_room.new.out c.run_parts.new.out c.fill_front.new.out
     c.len-start.result c.number_in.result c.in_ok-answer.answer c.in_ok-answer.ensures.code c.in_ok-answer.ensures.err c.in_ok-answer.ensures.reply
-    c.in_ok-answer.ensures.leaves c.requires.sum own
+    c.in_ok-answer.ensures.leaves (subst G own.held.manner c.requires.sum) own
     (record {
       asks = record { held = own.held; handles = own.stands.handles };
       asker = record { net_is = ap (λ (x : AmsAddress). x.net) from.address; rights_are = from.rights_are };

@@ -47,6 +47,6 @@ returns-in_ok-refused_frame-in-Refused-clause-takes c = λ w x held stands addre
 
 pub returns-in-Asked-clause-takes : goal.returns-in-Asked-clause-takes
 returns-in-Asked-clause-takes c =
-    let H : World → Type 0 = λ w. HasAddress w.plant c.args.net.bytes c.args.routes.now in
+    let H : World → Type 0 = λ w. HasAddress w c.args.net.bytes c.args.admission.now in
     if-asked H c.args.ams.now (drop (length c.args.out.now) c.answer.new.out) c.in-Asked.h c.in-Asked.rights c.in-Asked.request c.args.ports.now
     c.answer.new.ports c.args.self.now c.answer.new.self c.answer.result c.in-Asked.ensures c.answer.ensures.answers

@@ -1,0 +1,7 @@
+//! The index groups of the sums that only the wide server knows.
+
+/// ADSIGRP_SUMUP_READEX: reads in one request, whose results tell their lengths; the offset is the number of parts.
+pub const SUM_TOLD_READ: u32 = 0xF083;
+
+/// ADSIGRP_SUMUP_READEX2: the same, and the data of each read is as long as what it gives.
+pub const SUM_SHORT_READ: u32 = 0xF084;
