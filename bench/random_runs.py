@@ -878,9 +878,9 @@ def kinds_of(given, folder):
         kinds, left_out = kinds_of_ads(os.path.abspath(given.program or PROGRAM), folder)
     if given.wide:
         program = os.path.abspath(given.wide)
-        more = wide_runs.sums_of_cases(program, folder)
-        kinds.append(("wide", lambda seed, own: wide_runs.one_wide(program, seed, own, more), 1))
-        left_out += [f"0x{group:X} of cases_wide" for group in wide_runs.MORE if group not in more]
+        cases = wide_runs.has_of_cases(program, folder)
+        kinds.append(("wide", lambda seed, place: wide_runs.one_wide(program, seed, place, cases), 1))
+        left_out += [f"{it} of cases_wide" for it in cases.left_out()]
     if given.adsd:
         daemon = os.path.abspath(given.adsd)
         own = wide_runs.has_of(daemon, folder)

@@ -2,7 +2,7 @@
 both profiles (--adsd), against the model of the protocol. Requests are made wide here: lengths by handle and by name that are greater than the value, names with NULs and
 a full stop in front, modes in the context of a task, sums that tell lengths, additions and deletions in sums, packets to a local router before the first frame.
 
-What a program does not have yet is found out first (`sums_of_cases`, `has_of`), left out or asked for its refusal, and named in the last line.
+What a program does not have yet is found out first (`has_of_cases`, `has_of`), left out or asked for its refusal, and named in the last line.
 """
 import contextlib
 import os
@@ -26,6 +26,20 @@ def without_signals(d):
     """The description, whose symbols follow no signal: `cases_wide` has none, and over sockets signals go by the clock."""
     ports = [{**port, "symbol": [{key: it for key, it in symbol.items() if key != "signal"} for symbol in port.get("symbol", [])]} for port in d["port"]]
     return {**d, "port": ports}
+
+
+# What a program has.
+
+
+class Has:
+    """What a program has beside the protocol: further sums, and rights for NetIds that no route names."""
+
+    def __init__(self, more, others):
+        self.more, self.others = more, others
+
+    def left_out(self):
+        """What it does not have, in words."""
+        return [*(f"0x{group:X}" for group in MORE if group not in self.more), *(["other_routes"] if self.others == (None,) else [])]
 
 
 # Wider requests.
@@ -114,13 +128,14 @@ def is_of_signals(event):
 # Whole scripts, by `cases_wide`.
 
 
-def of_cases(program, folder, d, events, script, more):
-    """What differs of a script on `cases_wide` from the model, or None."""
+def of_cases(program, folder, d, events, script, more, others=None):
+    """What differs of a script on `cases_wide` from the model, or None; machines without a route have the right `others`."""
     lines = [f"| {line}" for line in script.splitlines()]
-    out = [f"| {line}" for line in model.play(d, [], events, True, more).splitlines()[:-1]]
+    out = [f"| {line}" for line in model.play(d, [], events, True, others, more).splitlines()[:-1]]
+    right = [f"others {others}"] if others else []
     random_runs.write(folder, "plant.toml", random_runs.toml_of(d))
     random_runs.write(folder, "runs.txt", "it.runs\n")
-    random_runs.write(folder, "it.runs", "\n".join(["script", *lines, "out", *out]) + "\n")
+    random_runs.write(folder, "it.runs", "\n".join([*right, "script", *lines, "out", *out]) + "\n")
     status, came, err = random_runs.ran(program, [folder], folder)
     random_runs.write(folder, "came", came)
     return f"status {status}, {len(came)} bytes came" if status != 0 or err else None
@@ -133,36 +148,26 @@ def empty_sum(group):
     return bytes(2) + u32(len(ams)) + ams
 
 
-def sums_of_cases(program, folder):
-    """Which of the further sums `cases_wide` has."""
-    found = []
+def has_of_cases(program, folder):
+    """What this program `cases_wide` has; found out by scripts of one request."""
+    more = []
     for group in MORE:
-        events = [("open", 1), ("bytes", 1, empty_sum(group))]
-        if of_cases(program, folder, SMALL, events, f"open 1\nbytes 1 {empty_sum(group).hex()}\n", (group,)) is None:
-            found.append(group)
-    return tuple(found)
+        script = [("open", 1), ("bytes", 1, empty_sum(group))]
+        if of_cases(program, folder, SMALL, script, f"open 1\nbytes 1 {empty_sum(group).hex()}\n", (group,)) is None:
+            more.append(group)
+    others = of_cases(program, folder, SMALL, [("open", 1)], "open 1\n", (), "read") is None
+    return Has(tuple(more), (None, "read", "write") if others else (None,))
 
 
-def one_wide(program, seed, folder, more):
+def one_wide(program, seed, folder, has):
     """A whole script on the wide server against the model; what differs, or None."""
     r = random.Random(seed)
     d = without_signals(random_runs.description(r))
     events = [wider_event(r, event) for event in random_runs.script(r, d) if not is_of_signals(event)]
-    return of_cases(program, folder, d, events, random_runs.lines_of(r, events), more)
+    return of_cases(program, folder, d, events, random_runs.lines_of(r, events), has.more, r.choice((None, *has.others)))
 
 
 # Clients over sockets, by `adsd`.
-
-
-class Has:
-    """What a program of the daemon has beside the protocol: further sums, and rights for NetIds that no route names."""
-
-    def __init__(self, more, others):
-        self.more, self.others = more, others
-
-    def left_out(self):
-        """What it does not have, in words."""
-        return [*(f"0x{group:X}" for group in MORE if group not in self.more), *(["other_routes"] if self.others == (None,) else [])]
 
 
 def daemon_words(program, port, profile, others):
