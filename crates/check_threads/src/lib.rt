@@ -1,4 +1,4 @@
-//! A test, and nothing else: that the halves of a tick's list are checked at once, which no contract says.
+//! Tests, and nothing else: that the halves of a tick's list are checked at once, which no contract says.
 #![tactic(auto)]
 
 #[cfg(test)]

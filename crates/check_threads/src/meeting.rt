@@ -22,6 +22,11 @@ impl Meeting {
         }
     }
 
+    /// How many came.
+    pub fn came(&self) -> u64 {
+        self.came.load(Ordering::SeqCst)
+    }
+
     /// How many of those who came saw another one there.
     pub fn met(&self) -> u64 {
         self.met.load(Ordering::SeqCst)

@@ -71,3 +71,17 @@ fn both_halves_are_checked_at_once(rt: HostRuntime) -> Result<(), Fail> {
     assert_eq!(rt; gate.met(), 2);
     Ok(())
 }
+
+#[test]
+#[tactic(auto, using(port_device::proofs::BuiltLemmas::accepted_may_be_built))]
+fn without_levels_one_is_checked_after_another(rt: HostRuntime) -> Result<(), Fail> {
+    let alloc = rt.alloc();
+    let ports = Ports::build(alloc, &smallest(alloc)?)?;
+    let mut list = [turned(alloc)?, turned(alloc)?];
+    let gate = Meeting::new();
+    check_all(&rt, alloc, &mut list, &ports, NET, 1, 0, &gate)?;
+    // The first waited in vain, and the second saw that it had come.
+    assert_eq!(rt; gate.came(), 2);
+    assert_eq!(rt; gate.met(), 1);
+    Ok(())
+}
