@@ -213,7 +213,7 @@ def row(session):
 
 def table():
     """A row a client."""
-    lines = ["| client | goes on in `wide`, but not in `strict` | goes on in neither |", "|---|---|---|"]
+    lines = ["| client | works in `wide` only | works in neither |", "|---|---|---|"]
     for session in SESSIONS:
         lines.append(f"| {session.client} | " + " | ".join("; ".join(it) or "–" for it in row(session)) + " |")
     return "\n".join(lines) + "\n"

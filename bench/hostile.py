@@ -260,7 +260,9 @@ def told_sums():
         yield asked(f"A sum {group:#06x}: a read by handle of fewer bytes, and of none.", by_name, sum_of(7, group, 2, 100, head(0xF005, 1, 2) + head(0xF005, 1, 0)))
         yield asked(f"A sum {group:#06x} whose lengths add up to more than 32 bits hold.", sum_of(7, group, 2, 24, head(0x4040, 0, 2 ** 32 - 1) * 2))
         yield asked(f"A sum {group:#06x} that passes 2,000,000 bytes.", by_name, sum_of(7, group, 2, 2 ** 32 - 1, head(0xF005, 1, 1000000) * 2))
-        yield asked(f"A sum {group:#06x} of the greatest reply.", by_name, sum_of(7, group, 1, 2000000, head(0xF005, 1, 1999992)))
+        if OVER:
+            # (as text it is a file of four million digits)
+            yield asked(f"A sum {group:#06x} of the greatest reply.", by_name, sum_of(7, group, 1, 2000000, head(0xF005, 1, 1999992)))
         for own in (0x4025, 0xF008, 0xF00C, 0xF00F, 0xF00B, 0xF00E, 0xF006, 0xF080, 0xF083, 0x9999, 0x4021):
             yield asked(f"A sum {group:#06x} of group {own:#06x}, with little room for it and with more.", *[sum_of(7, group, 2, 20 + some, head(own, 0, some) + four) for some in (0, 1, 4, 400)])
         for outer in (0xF080, *model.TOLD_SUMS):

@@ -902,9 +902,10 @@ def main():
     it.add_argument("--adsd", metavar="ADSD", help="the program adsd")
     it.add_argument("--keep", default=os.path.join(tempfile.gettempdir(), "ads_random"))
     given = it.parse_args()
-    begun, seed, wrong = time.time(), given.seed, 0
+    seed, wrong = given.seed, 0
     with tempfile.TemporaryDirectory() as folder:
         kinds, left_out = kinds_of(given, folder)
+        begun = time.time()
         counts = {name: 0 for name, _, _ in kinds}
         while time.time() - begun < given.seconds and wrong < 10:
             for name, one, count in kinds:
