@@ -2,6 +2,7 @@ pub mod LineLemmas
 pub mod PlaceLemmas
 pub mod DigitLemmas
 pub mod ByteLemmas
+pub mod PairLemmas
 pub mod GrammarLemmas
 pub mod NumberLemmas
 pub mod ReadLemmas
@@ -10,6 +11,7 @@ pub mod FreshLemmas
 pub mod RoomLemmas
 pub mod AnswerLemmas
 pub mod PlayedLemmas
+pub mod ToldLemmas
 pub mod BeginLemmas
 pub mod PlayingLemmas
 pub mod StandingPlayed

@@ -90,3 +90,7 @@ not_among n count ns none = elim (cases_Bool (nat_lt (position_or_len (nat_eq n)
       sym (among_place n count ns ∙ ap (λ k. nat_lt k (length (take count ns))) (place_is (nat_eq n) ns)
       ∙ ap (nat_lt (position_or_len (nat_eq n) ns)) size ∙ none_there)
 ]
+
+pub none_among : (n : ℕ) (ns : List ℕ) → length ns ≡ 0 → false ≡ is_among n ns
+none_among n [] none = refl
+none_among n (m ∷ ms) none = absurd (omega arith)

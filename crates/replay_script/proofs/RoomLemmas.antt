@@ -1,11 +1,13 @@
 -- Rooms, as they are kept and as the machine's script has them.
-use Rattle.std.proofs.Common.{◌≡◌, ◌≢◌, ℕ, ◌-◌, ◌≤◌, ◌<◌, List, [], ◌∷◌, true, false, cond, refl, sym, ap, ◌∙◌, subst, min, inl, inr, arith}
+use Rattle.std.proofs.Common.{◌≡◌, ◌≢◌, ℕ, ◌-◌, ◌≤◌, ◌<◌, List, [], ◌∷◌, length, true, false, cond, refl, sym, ap, ◌∙◌, subst, min, inl, inr, arith}
 use Rattle.std.specs.Prelude.{◌==◌, nat_eq, Option, Some, None, Result, Ok, Err, OnOk, OnErr}
 use Rattle.indexmap.specs.IndexMap.{IndexMap, get, Updates}
 use Rattle.std.specs.Option.{option_map}
 use Rattle.std.proofs.lemmas.Bool.{cases_eq}
+use Rattle.std.proofs.lemmas.List.{nil_from_length}
 use Rattle.spec_machine.specs.Peers.{Room, taken_by, rooms_after}
 use Rattle.spec_machine.proofs.Find.{test_same, test_other}
+use Rattle.replay_script.specs.declared.rooms.Rooms.{Rooms}
 use Rattle.replay_script.specs.Rooms.{room_at}
 
 abbrev pub taken_of : Option ℕ → ℕ → ℕ
@@ -68,3 +70,7 @@ after_put rs c n left less old new found is put holds d = elim (cases_eq c d) [
       let P : ℕ → Type 0 = λ k. get nat_eq new k ≡ room_at (rooms_after rs c n) k in subst P e here)
   | inr e ↦ put.2 d (test_other c d e) ∙ (holds d ∙ sym (after-other rs c n d e))
 ]
+
+-- no connection is bounded
+pub none_bounded : (rooms : Rooms) (c : ℕ) → length rooms.map.entries ≡ 0 → None ≡ get nat_eq rooms.map c
+none_bounded rooms c none = let empty = nil_from_length rooms.map.entries none in rw empty refl

@@ -1,8 +1,10 @@
 pub mod Script
 pub mod Lines
+pub mod HexPairs
 pub mod Shown
 pub mod Fresh
 pub mod Answering
 pub mod Rooms
 pub mod ScriptWire
+pub mod ToldLines
 pub mod Playing

@@ -2,12 +2,12 @@
 
 ghost use Rattle.std.specs.Prelude.{◌≡◌, ◌++◌, IfOk, OnOk};
 ghost use Rattle.spec_machine.specs.ScriptLines.{words_of};
-ghost use Rattle.spec_machine.specs.ScriptWords.{bytes_of_words};
+ghost use Rattle.spec_machine.specs.ScriptWords.{bytes_of_word, bytes_of_words};
 ghost use Rattle.replay_script.specs.Lines.{AppendsWord};
 
+use crate::hex_pairs::read_pairs;
 use crate::lines::first_word;
 use ads_base::{NoMemory, Octets};
-use hex::FromHexError;
 use std::alloc::Global;
 
 /// The bytes of the hex words of a text, or none where a word is no hex word.
@@ -30,27 +30,38 @@ pub fn read_bytes(alloc: Global, text: &[u8]) -> Result<Option<Octets>, NoMemory
 fn append_word(alloc: Global, bytes: &mut Octets, word: &[u8]) -> Result<bool, NoMemory>
     ensures { IfOk result (λ is_hex. AppendsWord is_hex bytes.old bytes.new word.now) }
 {
-    if word.is_empty() {
-        return Ok(false);
-    }
-    match hex::decode(alloc, word) {
-        Ok(decoded) => {
-            put_decoded(alloc, bytes, decoded)?;
+    match read_word(alloc, word)? {
+        Some(read) => {
+            put_read(alloc, bytes, read)?;
             Ok(true)
         }
-        Err(FromHexError::OutOfMemory) => Err(NoMemory),
-        Err(_) => Ok(false),
+        None => Ok(false),
+    }
+}
+
+// The bytes of a hex word.
+fn read_word(alloc: Global, word: &[u8]) -> Result<Option<Octets>, NoMemory>
+    ensures { IfOk result (λ bytes. bytes ≡ bytes_of_word word.now) }
+{
+    if word.is_empty() || word.len() % 2 == 1 {
+        return Ok(None);
+    }
+    let mut bytes = vec![in alloc; 0u8; word.len() / 2]?;
+    if read_pairs(word, bytes.as_mut_slice()) {
+        Ok(Some(Octets::from_vec(bytes)))
+    } else {
+        Ok(None)
     }
 }
 
 // Appends the bytes of a word. Those of the first word are taken as they are, without a copy.
-fn put_decoded(alloc: Global, bytes: &mut Octets, decoded: Vec<u8>) -> Result<(), NoMemory>
-    ensures { OnOk result (bytes.new ≡ bytes.old ++ decoded.items) }
+fn put_read(alloc: Global, bytes: &mut Octets, read: Octets) -> Result<(), NoMemory>
+    ensures { OnOk result (bytes.new ≡ bytes.old ++ read) }
 {
     if bytes.len() == 0 {
-        *bytes = Octets::from_vec(decoded);
+        *bytes = read;
         return Ok(());
     }
-    bytes.put(alloc, decoded.as_slice())?;
+    bytes.put(alloc, read.as_slice())?;
     Ok(())
 }

@@ -3,6 +3,7 @@
 
 mod bytes;
 mod counts;
+mod hex_pairs;
 mod laws;
 mod line;
 mod line_kind;

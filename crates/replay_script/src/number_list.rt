@@ -43,6 +43,10 @@ impl NumberList {
     pub fn has(&self, number: u32) -> bool
         ensures { result ≡ is_among number self.now }
     {
+        // Most lists stay empty, and a look-up hashes the number first.
+        if self.numbers.is_empty() {
+            return false;
+        }
         self.numbers.contains(&number)
     }
 
@@ -50,6 +54,9 @@ impl NumberList {
     pub fn has_among(&self, number: u32, count: usize) -> bool
         ensures { result ≡ is_among number (take count self.now) }
     {
+        if count == 0 {
+            return false;
+        }
         match self.numbers.get_index_of(&number) {
             Some(at) => at < count,
             None => false,

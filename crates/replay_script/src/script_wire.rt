@@ -20,7 +20,8 @@ use std::marker::Model;
 #[derive(Drop)]
 pub struct ScriptWire {
     alloc: Global,
-    lines: ListOf<ScriptLine>,
+    // An event that the log has was taken out of its line; a tick stands there.
+    lines: Vec<ScriptLine>,
     // How many of the lines were read.
     at: usize,
     rooms: Rooms,
@@ -38,12 +39,13 @@ pub struct ScriptWire {
 impl Model for ScriptWire {
     ghost use Rattle.std.specs.Prelude.{map, drop};
     ghost use Rattle.replay_script.specs.Script.{line_meant};
-    ghost use Rattle.replay_script.specs.ScriptWire.{PlayedScript, PlaysOn};
+    ghost use Rattle.replay_script.specs.ScriptWire.{PlayedScript};
+    ghost use Rattle.replay_script.specs.ToldLines.{lines_told, PlaysFrom};
 
     ghost Value = { PlayedScript };
 
     ghost view = { λ w. record {
-      lines = map line_meant w.lines;
+      lines = lines_told (map line_meant w.lines.items) w.log.items;
       at = w.at;
       log = w.log.items;
       starts = w.starts;
@@ -53,7 +55,7 @@ impl Model for ScriptWire {
       wants = w.wants;
     } };
 
-    ghost invariant = { λ w. PlaysOn (map line_meant w.lines) (drop w.at (map line_meant w.lines)) w.log.items w.rooms w.failing w.settled w.ends };
+    ghost invariant = { λ w. PlaysFrom (map line_meant w.lines.items) w.at w.log.items w.rooms w.failing w.settled w.ends };
 }
 
 impl ScriptWire {
@@ -68,7 +70,7 @@ impl ScriptWire {
     {
         ScriptWire {
             alloc,
-            lines: script.into_lines(),
+            lines: script.into_lines().into_vec(),
             at: 0,
             rooms: Rooms::new(alloc),
             failing: NumberList::new(alloc),
@@ -143,7 +145,7 @@ impl ScriptWire {
         ensures within { IfOk result (λ line. IfSome line (λ l. self.now.at < length self.now.lines)) }
         ensures small { length self.now.lines < 2 ^ 64 }
     {
-        match self.lines.as_slice().get(self.at) {
+        match self.lines.get(self.at) {
             Some(line) => Ok(Some(line.copy(self.alloc)?)),
             None => Ok(None),
         }
@@ -165,7 +167,7 @@ impl ScriptWire {
         Ok(())
     }
 
-    // A line that is an event.
+    // A line that is an event, of which this is a copy. The log takes the script's own.
     fn happen(&mut self, event: Event) -> Result<Event, NoMemory>
         requires line { slice_get self.old.lines self.old.at ≡ Some (Happens event) }
         requires small { self.old.at + 1 < 2 ^ 64 }
@@ -175,8 +177,9 @@ impl ScriptWire {
         ensures lines { self.new.lines ≡ self.old.lines }
         ensures no_memory { OnErr result (self.new ≡ self.old) }
     {
-        let entry = Move::Event(event.copy(self.alloc)?);
-        self.log.push(entry)?;
+        self.log.reserve(1)?;
+        let taken = self.lines[self.at].take_event();
+        self.log.push_reserved(Move::Event(taken));
         self.at += 1;
         self.settled = self.failing.len();
         self.events = self.events.saturating_add(1);
