@@ -1,28 +1,30 @@
 //! A signal that counts its drops.
 
-use signals::{Ramp, Signal};
+use signals::Signal;
 use std::cell::Cell;
 use std::rc::Rc;
 
-/// A ramp, and a count of drops that it shares.
+/// A signal that is 0 at each tick, and a count of drops that it shares.
 pub struct Counted {
-    pub ramp: Ramp,
     pub drops: Rc<Cell<u64>>,
 }
 
 impl Signal for Counted {
-    ghost wave = { λ c. ⟦<Ramp as Signal>⟧.wave c.ramp };
+    ghost use Rattle.std.specs.Prelude.{[], ◌∷◌};
+    ghost use Rattle.std.proofs.Math.Nat.{zero-lt-suc};
 
-    ghost is_wave = { λ c. ⟦<Ramp as Signal>⟧.is_wave c.ramp };
+    ghost wave = { λ c. record { values = 0 ∷ []; place = 0 } };
+
+    ghost is_wave = { λ c. zero-lt-suc 0 };
 
     fn step(&mut self) -> u64 {
-        self.ramp.step()
+        0
     }
 }
 
 impl Drop for Counted {
     fn drop(self) {
-        let Counted { ramp: _, drops } = self;
+        let Counted { drops } = self;
         drops.set(drops.get().saturating_add(1));
     }
 }

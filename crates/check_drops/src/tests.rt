@@ -13,7 +13,7 @@ use ads_run::run;
 use persist_store::{Disk, MemDisk};
 use run_sheets::open_new;
 use sample_store::{Keeper, MapKeeper};
-use signals::{Ramp, Signal};
+use signals::Signal;
 use std::alloc::Global;
 use std::cell::Cell;
 use std::rc::Rc;
@@ -118,11 +118,9 @@ fn run_counted<T: Threads + Sync, F: Files, W: Wire, L: Link, S: Sink, D: Disk, 
     let words = words(alloc)?;
     let drops = Rc::new(alloc, Cell::new(0))?;
     let first = Counted {
-        ramp: Ramp::new(3),
         drops: drops.clone()?,
     };
     let second = Counted {
-        ramp: Ramp::new(5),
         drops: drops.clone()?,
     };
     let mut signals: Vec<Box<dyn Signal>> = Vec::new(alloc);
