@@ -28,7 +28,7 @@ use Rattle.spec_machine.specs.Reads.{read_group}
 use Rattle.spec_machine.specs.ByName.{read_write_group}
 use Rattle.spec_machine.specs.Meanings.{meant_by}
 use Rattle.spec_machine.specs.Requests.{plain_act, act_of}
-use Rattle.spec_machine.specs.MoreSums.{sum_told_read, sum_short_read, wide_sums, sums_in_manner}
+use Rattle.spec_machine.specs.MoreSums.{sum_told_read, sum_short_read, sum_add, sum_delete, wide_sums, sums_in_manner}
 use Rattle.spec_machine.specs.SumPackets.{decide_read_write, decide_more, decide_request}
 use Rattle.spec_machine.specs.Ticks.{world_after_tick}
 use Rattle.spec_machine.specs.Reloads.{world_after_reload}
@@ -129,5 +129,9 @@ more-wide d c k group offset len bytes x wide = ap (λ (y : Manner). decide_more
 
 pub wide_sums_are : WideSums
 unfolding decide_request
-wide_sums_are d c k n len bytes wide =
-    (more-wide d c k sum_told_read n len bytes d.profile.manner wide, more-wide d c k sum_short_read n len bytes d.profile.manner wide)
+wide_sums_are d c k n len bytes wide = (
+  more-wide d c k sum_told_read n len bytes d.profile.manner wide,
+  more-wide d c k sum_short_read n len bytes d.profile.manner wide,
+  more-wide d c k sum_add n len bytes d.profile.manner wide,
+  more-wide d c k sum_delete n len bytes d.profile.manner wide,
+)

@@ -4,3 +4,4 @@ pub mod ReplyLemmas
 pub mod StopLemmas
 pub mod RunningLemmas
 pub mod LaidLemmas
+pub mod ReadLemmas

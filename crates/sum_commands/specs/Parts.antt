@@ -1,11 +1,9 @@
 -- How a part of a sum ends.
 -- Beckhoff Information System, "ADS Sum Command".
-use Rattle.std.specs.Prelude.{◌≡◌, ◌≤◌, ℕ, ◌+◌, List, [], ◌++◌, length, take, drop, Result, Ok, Err}
-use Rattle.std.specs.Int.{w32, to_le_bytes}
+use Rattle.std.specs.Prelude.{◌≡◌, ℕ, ◌+◌, List, ◌++◌, length, take, drop, Result, Ok, Err}
 use Rattle.spec_formats.specs.Codes.{no_error}
 use Rattle.spec_formats.specs.Request.{Request, Read, ReadWrite}
 use Rattle.spec_machine.specs.Acts.{Outcome}
-use Rattle.spec_machine.specs.Sums.{filled}
 use Rattle.return_codes.specs.declared.code.Code.{Code}
 use Rattle.return_codes.specs.Code.{number_of}
 

@@ -1,12 +1,13 @@
 //! One part is run.
 
-ghost use Rattle.std.specs.Prelude.{◌≡◌, ◌≤◌, ◌<◌, ◌+◌, ◌^◌, ◌++◌, length, OnOk, OnErr};
+ghost use Rattle.std.specs.Prelude.{◌≡◌, ◌≤◌, ◌<◌, ◌+◌, ◌-◌, ◌^◌, ◌++◌, true, length, replicate, OnOk, OnErr};
 ghost use Rattle.std.specs.Int.{w32, to_le_bytes};
 ghost use Rattle.ads_base.specs.Octets.{Extends};
 ghost use Rattle.spec_formats.specs.Request.{Read, Write, ReadWrite};
 ghost use Rattle.sum_commands.specs.declared.form.Form.TheVariants as form;
 ghost use Rattle.sum_commands.specs.Forms.{head_width, front_width, written_len, part_of};
 ghost use Rattle.sum_commands.specs.Packing.{Runs};
+ghost use Rattle.sum_commands.specs.Reads.{is_of_reads, read_width, read_front, zeros_of};
 ghost use Rattle.sum_commands.specs.Parts.{code_in, written_over};
 ghost use Rattle.sum_commands.specs.Served.{StandsForSome};
 ghost use Rattle.sum_commands.specs.Stops.{MayStop};
@@ -45,7 +46,9 @@ pub(crate) fn run_first<P: PartService>(
     let offset = get32(heads, 4);
     let len = get32(heads, 8);
     match rest.form {
-        Form::Reads => run_read(alloc, service, group, offset, len, at, out),
+        Form::Reads | Form::ToldReads | Form::ShortReads => {
+            run_read(alloc, service, rest.form, group, offset, len, at, out)
+        }
         Form::Writes => {
             let bytes = &rest.written[..len as usize];
             run_write(alloc, service, group, offset, bytes, at, out)
@@ -54,14 +57,15 @@ pub(crate) fn run_first<P: PartService>(
             let bytes = &rest.written[..get32(heads, 12) as usize];
             run_read_write(alloc, service, group, offset, len, bytes, at, out)
         }
-        Form::ToldReads => run_told_read(alloc, service, group, offset, len, at, out),
-        Form::ShortReads => run_short_read(alloc, service, group, offset, len, at, out),
     }
 }
 
+// A read of any form. `read` is called here alone, so that the compiler puts its code into the loop.
+#[inline(always)]
 fn run_read<P: PartService>(
     alloc: Global,
     service: &mut P,
+    form: Form,
     group: u32,
     offset: u32,
     len: u32,
@@ -69,18 +73,50 @@ fn run_read<P: PartService>(
     out: &mut Octets,
 ) -> Result<(), NoMemory>
     requires some { StandsForSome P.stands_for service.old }
-    requires room { at + 4 ≤ length out.old }
+    requires reads { is_of_reads form ≡ true }
+    requires room { at + read_width form ≤ length out.old }
     ensures ok { OnOk result ((s : P.State) → P.stands_for service.old s
-        → Runs P.stands_for P.given P.left form.Reads (Read group offset len) s service.new at out.old out.new) }
+        → Runs P.stands_for P.given P.left form (Read group offset len) s service.new at out.old out.new) }
     ensures wants { OnErr result ((s : P.State) → P.stands_for service.old s
         → MayStop P.stands_for P.left P.may_leave (Read group offset len) s service.new) }
     ensures no_memory { OnErr result (Extends out.old out.new) }
 {
     let before = out.len();
     let answer = service.read(alloc, group, offset, len, out)?;
-    let gave = out.len() - before;
-    put_zeros(alloc, out, len - gave as u32)?;
-    write_at(out, at, number_in(answer));
+    let given = (out.len() - before) as u32;
+    finish_read(alloc, form, len, given, answer, at, out)?;
+    Ok(())
+}
+
+// Fills what a read gave, where its form fills, and writes its result.
+#[inline(always)]
+fn finish_read(
+    alloc: Global,
+    form: Form,
+    len: u32,
+    given: u32,
+    answer: Result<(), Code>,
+    at: usize,
+    out: &mut Octets,
+) -> Result<(), NoMemory>
+    requires given { given ≤ len }
+    requires room { at + read_width form ≤ length out.old }
+    requires small { at + read_width form < 2 ^ 64 }
+    ensures ok { OnOk result (out.new
+        ≡ written_over at (read_front form (code_in answer) given) (out.old ++ replicate (zeros_of form (len - given)) 0)) }
+    ensures no_memory { OnErr result (out.new ≡ out.old) }
+{
+    match form {
+        Form::Reads => {
+            put_zeros(alloc, out, len - given)?;
+            write_at(out, at, number_in(answer));
+        }
+        Form::ToldReads => {
+            put_zeros(alloc, out, len - given)?;
+            tell(out, at, answer, given);
+        }
+        _ => tell(out, at, answer, given),
+    }
     Ok(())
 }
 
@@ -128,55 +164,6 @@ fn run_read_write<P: PartService>(
     let answer = service.read_write(alloc, group, offset, read_len, bytes, out)?;
     let gave = out.len() - before;
     tell(out, at, answer, gave as u32);
-    Ok(())
-}
-
-fn run_told_read<P: PartService>(
-    alloc: Global,
-    service: &mut P,
-    group: u32,
-    offset: u32,
-    len: u32,
-    at: usize,
-    out: &mut Octets,
-) -> Result<(), NoMemory>
-    requires some { StandsForSome P.stands_for service.old }
-    requires room { at + 8 ≤ length out.old }
-    ensures ok { OnOk result ((s : P.State) → P.stands_for service.old s
-        → Runs P.stands_for P.given P.left form.ToldReads (Read group offset len) s service.new at out.old out.new) }
-    ensures wants { OnErr result ((s : P.State) → P.stands_for service.old s
-        → MayStop P.stands_for P.left P.may_leave (Read group offset len) s service.new) }
-    ensures no_memory { OnErr result (Extends out.old out.new) }
-{
-    let before = out.len();
-    let answer = service.read(alloc, group, offset, len, out)?;
-    let given = (out.len() - before) as u32;
-    put_zeros(alloc, out, len - given)?;
-    tell(out, at, answer, given);
-    Ok(())
-}
-
-fn run_short_read<P: PartService>(
-    alloc: Global,
-    service: &mut P,
-    group: u32,
-    offset: u32,
-    len: u32,
-    at: usize,
-    out: &mut Octets,
-) -> Result<(), NoMemory>
-    requires some { StandsForSome P.stands_for service.old }
-    requires room { at + 8 ≤ length out.old }
-    ensures ok { OnOk result ((s : P.State) → P.stands_for service.old s
-        → Runs P.stands_for P.given P.left form.ShortReads (Read group offset len) s service.new at out.old out.new) }
-    ensures wants { OnErr result ((s : P.State) → P.stands_for service.old s
-        → MayStop P.stands_for P.left P.may_leave (Read group offset len) s service.new) }
-    ensures no_memory { OnErr result (Extends out.old out.new) }
-{
-    let before = out.len();
-    let answer = service.read(alloc, group, offset, len, out)?;
-    let given = (out.len() - before) as u32;
-    tell(out, at, answer, given);
     Ok(())
 }
 

@@ -1,4 +1,4 @@
-use Rattle.std.proofs.Common.{◌≡◌, ◌+◌, ◌-◌, ◌*◌, ◌≤◌, suc, ◌++◌, drop, length, refl, ◌∙◌, ap, arith, rules, length-append, length-drop}
+use Rattle.std.proofs.Common.{◌≡◌, ◌+◌, ◌-◌, ◌*◌, ◌≤◌, suc, ◌++◌, drop, length, refl, ap, arith, rules, length-append, length-drop}
 use Rattle.sum_commands.specs.Forms.{head_width, front_width, written_len, part_of}
 use Rattle.sum_commands.specs.Packing.{front_of, data_of}
 use Rattle.sum_commands.proofs.StopLemmas.{parts_of-next, stops-here, stops-later, on_err}
