@@ -16,7 +16,8 @@ abbrev pub OfMore : (Act → Type 0) → Option Act → Type 0
 OfMore P None = Unit {0}
 OfMore P (Some a) = P a
 
-of_more : (P : Act → Type 0) (o : Option Act) (plain : Act) → OfMore P o → P plain → P (unwrap_or o plain)
+-- what the act has where there is one, and what the plain one has
+pub of_more : (P : Act → Type 0) (o : Option Act) (plain : Act) → OfMore P o → P plain → P (unwrap_or o plain)
 of_more P None plain more h = h
 of_more P (Some a) plain more h = more
 
@@ -24,7 +25,7 @@ more_if : (P : Act → Type 0) (b : Bool) (a : Act) → P a → OfMore P (cond b
 more_if P true a h = h
 more_if P false a h = tt
 
-read_write-more : (P : Act → Type 0) (x : Manner) (d : Setup) (group len : ℕ) (bytes : List ℕ)
+pub read_write-more : (P : Act → Type 0) (x : Manner) (d : Setup) (group len : ℕ) (bytes : List ℕ)
     → P (type_act d.plant len bytes) → OfMore P (more_read_write x d group len bytes)
 read_write-more P Strict d group len bytes h = tt
 read_write-more P Wide d group len bytes h = more_if P (group == type_by_text) (type_act d.plant len bytes) h
@@ -50,6 +51,6 @@ more_read_write-none Strict d group len bytes e = refl
 more_read_write-none Wide d group len bytes e = rw e refl
 
 -- the strict server does nothing besides
-pub more-strict : (d : Setup) (c : Client) (k : Asker) (r : Request) → d.profile.manner ≡ Strict → more_act d c k r ≡ None
-more-strict d c k (ReadWrite group offset len bytes) strict = rw strict refl
-more-strict d c k r strict = refl
+pub more_act-strict : (d : Setup) (c : Client) (k : Asker) (r : Request) → d.profile.manner ≡ Strict → more_act d c k r ≡ None
+more_act-strict d c k (ReadWrite group offset len bytes) strict = rw strict refl
+more_act-strict d c k r strict = refl
