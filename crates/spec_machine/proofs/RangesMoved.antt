@@ -13,7 +13,7 @@ use Rattle.spec_plant.proofs.SoundLemmas.{each-get, port_sound, port_number}
 use Rattle.spec_plant.proofs.CoveringLemmas.{stands_at}
 use Rattle.spec_plant.proofs.SameSizes.{same_type-size}
 use Rattle.spec_formats.specs.Ranges.{Range, Bytes, Bit, Size}
-use Rattle.spec_machine.specs.World.{numbers_from, name_at, names_at, symbol_names, own_name, own_names}
+use Rattle.spec_machine.specs.World.{numbers_from, name_at, names_at, symbol_names, own_name, own_names, OWN_SIZE}
 use Rattle.spec_machine.specs.Access.{Addressed, WholeByte, OneBit}
 use Rattle.spec_machine.specs.Client.{Kept, is_in_part, are_kept, kept_bytes}
 use Rattle.spec_machine.specs.Reloads.{is_kept, is_kept_part}
@@ -21,7 +21,7 @@ use Rattle.spec_machine.specs.HandleLaws.{AgreeingPlaces}
 use Rattle.spec_machine.specs.AreaNames.{is_covered}
 use Rattle.spec_machine.specs.NumberedPlaces.{NumberedPlace, KeptSymbol, IsEntryOf, is_entry_of_symbol, entry_of_symbol, AreKeptSymbols}
 use Rattle.spec_machine.specs.WatchedRanges.{is_same_addressed, are_same_addressed, is_range_at, is_watched_at, is_same_watched, has_bytes, entry_of_bytes, bytes_of_entry}
-use Rattle.spec_machine.specs.WatchedRanges.{Watched, InArea, Own, OWN_SIZE, bit_of_entry, moved_watched, numbers_of, WatchedMoveAlike}
+use Rattle.spec_machine.specs.WatchedRanges.{Watched, InArea, Own, bit_of_entry, moved_watched, numbers_of, WatchedMoveAlike}
 use Rattle.spec_machine.proofs.AreaNames.{tiles_give_names, spans_give_names}
 use Rattle.spec_machine.proofs.Reloaded.{IsCoveredBy, covered_by, part-kept}
 use Rattle.spec_machine.proofs.WritableBytes.{run-nth}

@@ -1,21 +1,20 @@
 -- The bytes of a port in a new world, and after a reload.
-use Rattle.std.proofs.Common.{◌≡◌, ℕ, zero, suc, ◌+◌, ◌-◌, ◌<◌, ◌≤◌, List, [], ◌∷◌, ◌++◌, take, drop, length, replicate, true, false, refl, sym, ◌∙◌, ap, inl, inr, arith}
-use Rattle.std.specs.Prelude.{Option, Some, None, slice_get}
+use Rattle.std.proofs.Common.{◌≡◌, ℕ, zero, suc, ◌+◌, ◌-◌, ◌<◌, List, [], ◌∷◌, length, replicate, true, false, refl, sym, ◌∙◌, ap, inl, inr, arith}
+use Rattle.std.specs.Prelude.{Option, Some, None, slice_get, option_map}
 use Rattle.std.specs.List.{list_any}
 use Rattle.std.proofs.lemmas.Bool.{cases_Bool, false≢true}
-use Rattle.std.proofs.lemmas.Option.{slice_get_within}
 use Rattle.spec_plant.specs.Description.{Area, size_in}
 use Rattle.spec_plant.specs.World.{Block, Part, SymbolPart, AreaPart, StatePart, ByteName, PlantSymbol, PlantPort, Plant, lower_name, symbol_size, is_block_of}
-use Rattle.spec_plant.specs.World.{block_of, byte_at}
+use Rattle.spec_plant.specs.World.{block_of, byte_at, with_nth_byte}
 use Rattle.spec_plant.specs.SameTypes.{is_same_type}
 use Rattle.spec_plant.specs.Covering.{covers}
 use Rattle.spec_plant.specs.Named.{port_numbered, symbol_named}
 use Rattle.spec_plant.specs.Sound.{AreApart, IsSoundSymbol, IsSoundPort, IsSoundPlant}
-use Rattle.spec_plant.proofs.BlockLemmas.{is_block-true}
+use Rattle.spec_plant.proofs.BlockLemmas.{is_block-true, nth-same, nth-other}
 use Rattle.spec_plant.proofs.SoundLemmas.{each-get, port_sound, symbol_sound, port_number, symbol_at}
 use Rattle.spec_plant.proofs.CoveringLemmas.{stands_at, covers_from}
 use Rattle.spec_plant.proofs.SameSizes.{same_type-size}
-use Rattle.spec_machine.specs.World.{name_at, own_name, own_bytes, RUN, first_memory}
+use Rattle.spec_machine.specs.World.{name_at, own_name, own_bytes, VERSION_AT, RUN, first_memory}
 use Rattle.spec_machine.specs.Client.{Kept}
 use Rattle.spec_machine.specs.Reloads.{is_kept_symbol, is_kept_part, is_kept, kept_block_bytes, memory_after_reload}
 use Rattle.spec_machine.specs.AreaNames.{name_in_symbol, name_in_gap, is_covered}
@@ -250,7 +249,7 @@ own_reloaded version old new memory was p b eo en number h k u =
     let some : 0 < length (block_of (first_memory version new) p.number StatePart) = let l = ap length first in omega (arith, l) in
     let kept = reloaded-kept (is_kept old new) memory p.number StatePart (first_memory version new)
     (part-kept old new p.number StatePart (Some was) (Some p) eo en) some in
-    ap (λ xs. slice_get xs k) (kept ∙ ap (λ xs. take 4 words ++ drop 4 xs) first) ∙ word words four old_word k u
+    ap (λ xs. slice_get xs k) (kept ∙ ap (kept_block_bytes StatePart words) first) ∙ word k u
   where
     words : List ℕ
     words = block_of memory p.number StatePart
@@ -258,17 +257,17 @@ own_reloaded version old new memory was p b eo en number h k u =
     old_word : (i : ℕ) → i < 5 → slice_get words i ≡ slice_get (own_bytes b.ads b.device b.version) i
     old_word i v = ap (λ n. slice_get (block_of memory n StatePart) i) (sym number) ∙ h.own i v
 
-    four : 4 ≤ length words
-    four = let there = slice_get_within words 3 _ (old_word 3 (omega arith)) in omega (arith, there)
+    -- each but the version is as before
+    same : (i : ℕ) → i < 4 → slice_get (with_nth_byte words VERSION_AT (λ was. version)) i ≡ slice_get (own_bytes b.ads b.device b.version) i
+    same i v = nth-other VERSION_AT i (λ was. version) words (λ e. omega (arith, e, v)) ∙ old_word i (omega (arith, v))
 
-    word : (xs : List ℕ) → 4 ≤ length xs → ((i : ℕ) → i < 5 → slice_get xs i ≡ slice_get (own_bytes b.ads b.device b.version) i)
-        → (i : ℕ) → i < 5 → slice_get (take 4 xs ++ version ∷ []) i ≡ slice_get (own_bytes b.ads b.device version) i
-    word (x ∷ (y ∷ (z ∷ (w ∷ rest)))) l e zero v = e 0 (omega arith)
-    word (x ∷ (y ∷ (z ∷ (w ∷ rest)))) l e (suc zero) v = e 1 (omega arith)
-    word (x ∷ (y ∷ (z ∷ (w ∷ rest)))) l e (suc (suc zero)) v = e 2 (omega arith)
-    word (x ∷ (y ∷ (z ∷ (w ∷ rest)))) l e (suc (suc (suc zero))) v = e 3 (omega arith)
-    word (x ∷ (y ∷ (z ∷ (w ∷ rest)))) l e (suc (suc (suc (suc zero)))) v = refl
-    word xs l e i v = absurd (omega (arith, l, v))
+    word : (i : ℕ) → i < 5 → slice_get (with_nth_byte words VERSION_AT (λ was. version)) i ≡ slice_get (own_bytes b.ads b.device version) i
+    word zero v = same 0 (omega arith)
+    word (suc zero) v = same 1 (omega arith)
+    word (suc (suc zero)) v = same 2 (omega arith)
+    word (suc (suc (suc zero))) v = same 3 (omega arith)
+    word (suc (suc (suc (suc zero)))) v = nth-same VERSION_AT (λ was. version) words ∙ ap (option_map (λ was. version)) (old_word 4 (omega arith))
+    word (suc (suc (suc (suc (suc i))))) v = absurd (omega (arith, v))
 
 pub reloads_image : ReloadsImage
 reloads_image version old new memory was p b image so sn eo en h r =

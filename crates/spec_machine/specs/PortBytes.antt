@@ -7,7 +7,7 @@ use Rattle.signals.specs.Wave.{Wave, value_of}
 use Rattle.spec_plant.specs.Description.{Area, Inputs, Outputs, Memory, Process, Sizes, size_in}
 use Rattle.spec_plant.specs.World.{PlantPort, PlantSymbol, symbol_size, Block, byte_at}
 use Rattle.spec_plant.specs.Accepted.{image_size}
-use Rattle.spec_machine.specs.World.{name_at, own_name, own_bytes}
+use Rattle.spec_machine.specs.World.{name_at, own_name, own_bytes, OWN_SIZE}
 use Rattle.spec_machine.specs.Ticks.{has_signal}
 
 -- where an area begins in an image
@@ -43,7 +43,7 @@ pub record Holds (memory : List Block) (p : PlantPort) (b : PortBytes) : Type 0 
   pub long : length b.image ≡ image_size p.sizes
   pub areas : (area : Area) (offset : ℕ) → offset < size_in p.sizes area
       → byte_at memory (name_at p area offset) ≡ image_byte p.sizes b.image area offset
-  pub own : (k : ℕ) → k < 5 → byte_at memory (own_name p.number k) ≡ slice_get (own_bytes b.ads b.device b.version) k
+  pub own : (k : ℕ) → k < OWN_SIZE → byte_at memory (own_name p.number k) ≡ slice_get (own_bytes b.ads b.device b.version) k
 
 -- the image after a step of a signal: the first symbol that it writes has the low bytes of its value
 abbrev pub image_after_signal : Sizes → ℕ → ℕ → List PlantSymbol → List ℕ → List ℕ

@@ -7,7 +7,7 @@ use Rattle.spec_plant.specs.Accepted.{image_size}
 use Rattle.spec_plant.specs.SameTypes.{is_same_type}
 use Rattle.spec_plant.specs.Named.{port_numbered, symbol_named, AreNamedApart, AreNumberedApart}
 use Rattle.spec_plant.specs.Sound.{Each, IsSoundPlant}
-use Rattle.spec_machine.specs.World.{World, name_at, names_at, own_names, own_bytes, state_names, state_bytes, RUN, first_memory}
+use Rattle.spec_machine.specs.World.{World, name_at, names_at, own_names, own_bytes, OWN_SIZE, state_names, state_bytes, RUN, first_memory}
 use Rattle.spec_machine.specs.Access.{WholeByte, OneBit, addressed_name, value_at, values_at, with_bit}
 use Rattle.spec_machine.specs.Access.{Put, puts_of, memory_after_puts}
 use Rattle.spec_machine.specs.Ticks.{world_after_tick}
@@ -31,7 +31,7 @@ ReadsBit = (memory : List Block) (p : PlantPort) (b : PortBytes) (area : Area) (
 
 -- The own bytes of a port that are read are those of the port.
 abbrev pub ReadsOwn : Type 0
-ReadsOwn = (memory : List Block) (p : PlantPort) (b : PortBytes) (first len : ℕ) → Holds memory p b → first + len ≤ 5
+ReadsOwn = (memory : List Block) (p : PlantPort) (b : PortBytes) (first len : ℕ) → Holds memory p b → first + len ≤ OWN_SIZE
     → values_at memory (map WholeByte (own_names p.number first len)) ≡ take len (drop first (own_bytes b.ads b.device b.version))
 
 -- The state words that are read are those of the port.

@@ -9,7 +9,7 @@ use Rattle.spec_plant.specs.World.{Plant, PlantPort, is_same_area}
 use Rattle.spec_plant.specs.Named.{port_numbered, is_same_name}
 use Rattle.spec_plant.specs.Sound.{IsSoundPlant}
 use Rattle.spec_formats.specs.Ranges.{Range, Bytes, Bit, Size}
-use Rattle.spec_machine.specs.World.{name_at, names_at, own_names}
+use Rattle.spec_machine.specs.World.{name_at, names_at, own_names, OWN_SIZE}
 use Rattle.spec_machine.specs.Access.{Addressed, WholeByte, OneBit}
 use Rattle.spec_machine.specs.Client.{kept_bytes}
 use Rattle.spec_machine.specs.Reloads.{is_kept}
@@ -40,10 +40,6 @@ is_range_at watched (Size area) p = false
 pub data Watched : Type 0 where
   InArea : (range : Range) → Watched
   Own : (first len : ℕ) → Watched
-
--- a port has two state words and a version
-abbrev pub OWN_SIZE : ℕ
-OWN_SIZE = 5
 
 -- whether these are the bytes, one at least, or the bit, that are so told of a port
 abbrev pub is_watched_at : List Addressed → Watched → PlantPort → Bool

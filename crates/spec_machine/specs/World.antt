@@ -84,6 +84,13 @@ state_bytes ads device = to_le_bytes w16 ads ++ to_le_bytes w16 device
 abbrev pub own_bytes : ℕ → ℕ → ℕ → List ℕ
 own_bytes ads device version = state_bytes ads device ++ version ∷ []
 
+-- at which of them the version stands, and how many there are
+abbrev pub VERSION_AT : ℕ
+VERSION_AT = 4
+
+abbrev pub OWN_SIZE : ℕ
+OWN_SIZE = 5
+
 -- what a description begins with, for a version: each port runs, symbols have their initial bytes, gaps are zeros.
 -- The block of an area is as long as the area, and is used where no symbol stands.
 abbrev pub first_area_block : PlantPort → Area → Block
