@@ -7,6 +7,8 @@ use Rattle.name_paths.specs.Path.{Step, steps_of}
 use Rattle.spec_plant.specs.Description.{Area, size_in}
 use Rattle.spec_plant.specs.Parts.{TypePart, part_behind}
 use Rattle.spec_plant.specs.World.{Plant, PlantPort, PlantSymbol, lower_name, symbol_size, ByteName}
+use Rattle.spec_plant.specs.Trees.{TypeTree}
+use Rattle.spec_formats.specs.TypeEntry.{type_upload_bytes}
 use Rattle.spec_plant.specs.Finding.{Found, whole_of, is_named_by, steps_behind_name, found_in_symbol, found_of_steps, without_nul, found_of}
 use Rattle.spec_plant.proofs.PartLemmas.{part_behind-end}
 use Rattle.spec_formats.specs.Codes.{invalid_size, invalid_group, symbol_not_found}
@@ -35,7 +37,10 @@ use Rattle.spec_formats.specs.Codes.{no_more_notifications}
 use Rattle.spec_formats.specs.SymbolEntry.{entry_bytes}
 use Rattle.spec_machine.specs.Entries.{entry_of_part}
 use Rattle.spec_machine.specs.ByName.{MAX_NUMBER}
-use Rattle.spec_machine.specs.Meanings.{meant_by}
+use Rattle.spec_machine.specs.Meanings.{up_to_nul, meant_by}
+use Rattle.spec_machine.specs.TypesByText.{tree_of_text, entry_by_type}
+use Rattle.spec_machine.specs.MoreActs.{if_type}
+use Rattle.spec_machine.proofs.MoreActs.{act-cases}
 use Rattle.spec_machine.specs.Requests.{MAX_WATCHES, next_watch, add_watch, add_reached, add_act, plain_act, act_of}
 use Rattle.spec_laws.specs.Soundness.{Each, IsSoundSymbol, IsSoundPlant}
 use Rattle.spec_laws.specs.Reachable.{IsPlaced, IsPlacedStatus, IsPlacedHandle}
@@ -273,23 +278,23 @@ if_found-fine : (plant : Plant) (o : Option Found) (act : Found → Act) → ((f
 if_found-fine plant None act h = act_refusal plant symbol_not_found
 if_found-fine plant (Some f) act h = h f refl
 
-read_write-fine : (plant : Plant) (c : Client) (p : PlantPort) → IsAsked plant p
-    → (g : Option Group) (len : ℕ) (name : List ℕ) → FineAct plant (read_write_group c p g len name)
+read_write-fine : (plant : Plant) (d : Setup) (c : Client) (p : PlantPort) → IsAsked plant p
+    → (g : Option Group) (len : ℕ) (name : List ℕ) → FineAct plant (read_write_group d c p g len name)
 unfolding read_write_group
-read_write-fine plant c p k (Some HandleByName) len name =
+read_write-fine plant d c p k (Some HandleByName) len name =
     let inside = if_found-fine plant (found_of p.symbols name) (λ f. grant_act c p (place_of f))
     (λ f e. grant-fine plant c p (place_of f) (found-placed plant p k name f e)) in
     act_if plant (nat_lt len 4) (Refusal invalid_size)
     (if_found (found_of p.symbols name) (λ f. grant_act c p (place_of f))) (act_refusal plant invalid_size) inside
-read_write-fine plant c p k (Some ValueByName) len name =
+read_write-fine plant d c p k (Some ValueByName) len name =
     if_found-fine plant (found_of p.symbols name) (λ f. value_act p len (place_of f)) (λ f e. act_if plant _ _ _ (act_refusal plant _) (act_reading plant _))
-read_write-fine plant c p k (Some InfoByName) len name =
+read_write-fine plant d c p k (Some InfoByName) len name =
     let inside = if_found-fine plant (found_of p.symbols name) (λ f. fixed_data (info_of f)) (λ f e. act_fixed plant (info_of f)) in
     act_if plant (nat_lt len 12) (Refusal invalid_size)
     (if_found (found_of p.symbols name) (λ f. fixed_data (info_of f))) (act_refusal plant invalid_size) inside
-read_write-fine plant c p k (Some ExtendedInfoByName) len name =
-    if_found-fine plant (found_of p.symbols name) (λ f. fixed_reply len (entry_bytes (entry_of_part f))) (λ f e. search (act_if, act_refusal, act_fixed))
-read_write-fine plant c p k g len name = act_refusal plant invalid_group
+read_write-fine plant d c p k (Some ExtendedInfoByName) len name =
+    if_found-fine plant (found_of p.symbols name) (λ f. fixed_reply len (entry_bytes (entry_of_part d.profile.manner f))) (λ f e. search (act_if, act_refusal, act_fixed))
+read_write-fine plant d c p k g len name = act_refusal plant invalid_group
 
 watch-fine : (plant : Plant) (c : Client) (w : Watch (List Addressed)) → AreNamed plant w.watched → FineAct plant (add_watch c w)
 watch-fine plant c w h =
@@ -322,9 +327,15 @@ plain-fine plant d c k i e (AddDeviceNotification group offset len mode delay cy
     add-fine plant c k (answered_group _ group) offset len cycle _ (reach-fine plant c k.port i e (answered_group _ group) offset len)
 plain-fine plant d c k i e (DeleteDeviceNotification handle) = act_if plant _ _ _ (act_changing plant [] (Deletes handle) tt) (act_refusal plant _)
 plain-fine plant d c k i e (DeviceNotification bytes) = act_fixed plant _
-plain-fine plant d c k i e (ReadWrite group offset len bytes) = read_write-fine plant c k.port i (answered_group _ group) len bytes
+plain-fine plant d c k i e (ReadWrite group offset len bytes) = read_write-fine plant d c k.port i (answered_group _ group) len bytes
+
+type-fine : (plant : Plant) (len : ℕ) (o : Option TypeTree) → FineAct plant (if_type o len)
+type-fine plant len None = act_refusal plant symbol_not_found
+type-fine plant len (Some tree) = upload-fine plant len (type_upload_bytes (entry_by_type tree ∷ []))
 
 pub act-fine : (plant : Plant) (d : Setup) (c : Client) (k : Asker) → IsAsked plant k.port
     → Each (IsPlacedHandle plant) c.handles → (r : Request) → FineAct plant (act_of d c k r)
-unfolding act_of
-act-fine plant d c k i e r = plain-fine plant d c k i e (meant_by d.profile c k.port r)
+act-fine plant d c k i e r =
+    act-cases d c k (FineAct plant)
+    (record { types = λ len bytes. type-fine plant len (tree_of_text d.plant.types (up_to_nul bytes)) })
+    r (plain-fine plant d c k i e (meant_by d.profile c k.port r))

@@ -31,6 +31,7 @@ use Rattle.spec_machine.specs.MachineState.{MachineState, Exchange, exchange_of,
 use Rattle.spec_machine.specs.Piece.{after_piece}
 use Rattle.spec_machine.specs.Moves.{with_gone, with_took, state_after_move, state_after}
 use Rattle.spec_machine.specs.Events.{after_reload, state_after_event}
+use Rattle.spec_machine.specs.Manner.{Manner}
 use Rattle.spec_machine.specs.Profile.{Profile}
 use Rattle.spec_machine.specs.World.{World}
 use Rattle.spec_plant.proofs.TextLengths.{short_comment}
@@ -55,22 +56,23 @@ pub record IsModestSymbol (s : PlantSymbol) : Type 0 where
 
 pub record IsModestPort (p : PlantPort) : Type 0 where
   pub facts : length p.facts.name ≡ 16
-  pub upload : length (symbol_upload_of p) ≤ 2000000
+  pub upload : (x : Manner) → length (symbol_upload_of x p) ≤ 2000000
   pub symbols : Each IsModestSymbol p.symbols
 
 abbrev pub IsModestPlant : Plant → Type 0
 IsModestPlant plant = Each IsModestPort plant.ports
 
 -- the upload has the size that is accepted
-entry-len : (types : List NamedType) (s : Symbol) → length (entry_bytes (entry_of_symbol (plant_symbol types s))) ≡ symbol_entry_length types s
-entry-len types s = let e = length-entry_fields (entry_of_symbol (plant_symbol types s)) in omega (arith, e)
+entry-len : (x : Manner) (types : List NamedType) (s : Symbol) → length (entry_bytes (entry_of_symbol x (plant_symbol types s))) ≡ symbol_entry_length types s
+entry-len x types s = let e = length-entry_fields (entry_of_symbol x (plant_symbol types s)) in omega (arith, e)
 
-upload-len : (types : List NamedType) (ss : List Symbol) → length (upload_bytes (map entry_of_symbol (map (plant_symbol types) ss))) ≡ upload_size types ss
-upload-len types [] = refl
-upload-len types (s ∷ ss) =
-    let one = entry-len types s in
-    let rest = upload-len types ss in
-    let all = length-append (entry_bytes (entry_of_symbol (plant_symbol types s))) (upload_bytes (map entry_of_symbol (map (plant_symbol types) ss))) in
+upload-len : (x : Manner) (types : List NamedType) (ss : List Symbol)
+    → length (upload_bytes (map (entry_of_symbol x) (map (plant_symbol types) ss))) ≡ upload_size types ss
+upload-len x types [] = refl
+upload-len x types (s ∷ ss) =
+    let one = entry-len x types s in
+    let rest = upload-len x types ss in
+    let all = length-append (entry_bytes (entry_of_symbol x (plant_symbol types s))) (upload_bytes (map (entry_of_symbol x) (map (plant_symbol types) ss))) in
     let sum = sum_by-cons (symbol_entry_length types) s ss in
     omega (arith, one, rest, all, sum)
 
@@ -118,11 +120,10 @@ port-modest : (types : List NamedType) → AreTypes types → (signals : ℕ) (p
 port-modest types a signals p e =
     let fine = parts _ (are_facts p.facts) _ _ (list_all (is_symbol types p.sizes signals) p.symbols)
     (all_pairs are_two_names p.symbols) (all_pairs (are_apart types) p.symbols) (nat_le (upload_size types p.symbols) 2000000) e in
-    let len = upload-len types p.symbols in
     let most = leb-true (upload_size types p.symbols) 2000000 (fine.2) in
     record {
       facts = facts-name p.facts (fine.0);
-      upload = omega (arith, len, most);
+      upload = λ x. let len = upload-len x types p.symbols in omega (arith, len, most);
       symbols = symbols-modest types a p.sizes signals p.symbols (fine.1);
     }
   where
@@ -163,27 +164,27 @@ placed-small plant m port place i =
     omega (arith, s, e)
 
 -- the entry of a part that a name leads to
-part-short : (s : PlantSymbol) → IsModestSymbol s → (steps : List Step) (p : TypePart) → part_behind (whole_of s) steps ≡ Some p
-    → length (entry_bytes (entry_of_part (record { symbol = s; steps = steps; part = p }))) ≤ 2000000
+part-short : (x : Manner) (s : PlantSymbol) → IsModestSymbol s → (steps : List Step) (p : TypePart) → part_behind (whole_of s) steps ≡ Some p
+    → length (entry_bytes (entry_of_part x (record { symbol = s; steps = steps; part = p }))) ≤ 2000000
 unfolding entry_of_part
-part-short s m steps p e =
+part-short x s m steps p e =
     let f : Found = record { symbol = s; steps = steps; part = p } in
     let name = m.name in
     let path = m.path in
     let t = tame-steps (whole_of s) steps s.name s.comment p 296295 m.tame (omega (arith, name, path)) m.comment e in
-    let len = length-entry_fields (entry_of_part f) in
+    let len = length-entry_fields (entry_of_part x f) in
     let own = t.short_name in
     let said = t.short_comment in
     let text = text-short p.type t.tame in
     omega (arith, len, own, said, text)
 
-pub entry-short : (p : PlantPort) → IsModestPort p → (name : List ℕ) (f : Found)
-    → found_of p.symbols name ≡ Some f → length (entry_bytes (entry_of_part f)) ≤ 2000000
+pub entry-short : (x : Manner) (p : PlantPort) → IsModestPort p → (name : List ℕ) (f : Found)
+    → found_of p.symbols name ≡ Some f → length (entry_bytes (entry_of_part x f)) ≤ 2000000
 unfolding found_of
-entry-short p m name f e = steps_go (steps_of (without_nul name)) e
+entry-short x p m name f e = steps_go (steps_of (without_nul name)) e
   where
     Short : Found → Type 0
-    Short x = length (entry_bytes (entry_of_part x)) ≤ 2000000
+    Short y = length (entry_bytes (entry_of_part x y)) ≤ 2000000
 
     placed : (s : PlantSymbol) → IsModestSymbol s → (steps : List Step) (o : Option TypePart) → part_behind (whole_of s) steps ≡ o
         → option_map (λ part. record { symbol = s; steps = steps; part = part }) o ≡ Some f → Short f
@@ -191,7 +192,7 @@ entry-short p m name f e = steps_go (steps_of (without_nul name)) e
     placed s h steps (Some y) q g =
         let here : Found = record { symbol = s; steps = steps; part = y } in
         let same : here ≡ f = cc in
-        subst Short same (part-short s h steps y q)
+        subst Short same (part-short x s h steps y q)
 
     symbol_go : (steps : List Step) (o : Option PlantSymbol) → find (is_named_by steps) p.symbols ≡ o
         → option_and_then (found_in_symbol steps) o ≡ Some f → Short f

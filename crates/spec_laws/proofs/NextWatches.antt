@@ -3,6 +3,7 @@ use Rattle.std.proofs.Common.{◌≡◌, ℕ, ◌+◌, List, [], length, Bool, t
 use Rattle.std.specs.Prelude.{Option, Some, None, Result, Ok, Err, nat_lt, nat_le, ◌==◌, ◌||◌}
 use Rattle.std.specs.Int.{w32, to_le_bytes}
 use Rattle.spec_plant.specs.World.{PlantPort}
+use Rattle.spec_plant.specs.Trees.{TypeTree}
 use Rattle.spec_plant.specs.Finding.{Found, found_of}
 use Rattle.spec_formats.specs.Codes.{invalid_size, invalid_group, symbol_not_found, watch_too_big, mode_not_supported, no_more_notifications}
 use Rattle.spec_formats.specs.Groups.{Group, AreaSize, HandleByName, ValueByName, ReleaseHandle, InfoByName}
@@ -23,7 +24,10 @@ use Rattle.spec_machine.specs.Reach.{reach_of}
 use Rattle.spec_machine.specs.Reads.{fixed_reply, read_act, read_group}
 use Rattle.spec_machine.specs.Writes.{Asker, write_act, write_group, control_act}
 use Rattle.spec_machine.specs.ByName.{MAX_NUMBER, place_of, grant_act, value_act, info_of, if_found, read_write_group}
-use Rattle.spec_machine.specs.Meanings.{meant_by}
+use Rattle.spec_machine.specs.Meanings.{up_to_nul, meant_by}
+use Rattle.spec_machine.specs.TypesByText.{tree_of_text}
+use Rattle.spec_machine.specs.MoreActs.{if_type}
+use Rattle.spec_machine.proofs.MoreActs.{act-cases}
 use Rattle.spec_machine.specs.Requests.{MAX_WATCHED, MAX_WATCHES, next_watch, add_watch, add_reached, add_act, plain_act, act_of}
 
 abbrev pub NextEffect : Client → Effect → Type 0
@@ -87,20 +91,20 @@ if_found-next : (c : Client) (o : Option Found) (act : Found → Act) → ((f : 
 if_found-next c None act h = next_refusal c symbol_not_found
 if_found-next c (Some f) act h = h f
 
-read_write-next : (c : Client) (p : PlantPort) (g : Option Group) (len : ℕ) (name : List ℕ) → NextAct c (read_write_group c p g len name)
+read_write-next : (d : Setup) (c : Client) (p : PlantPort) (g : Option Group) (len : ℕ) (name : List ℕ) → NextAct c (read_write_group d c p g len name)
 unfolding read_write_group
-read_write-next c p (Some HandleByName) len name =
+read_write-next d c p (Some HandleByName) len name =
     let inside = if_found-next c (found_of p.symbols name) (λ f. grant_act c p (place_of f))
     (λ f. next_if c _ _ _ (next_refusal c _) (next_changing c _ (Grants p.number (place_of f)) tt)) in
     next_if c (nat_lt len 4) (Refusal invalid_size) (if_found (found_of p.symbols name) (λ f. grant_act c p (place_of f))) (next_refusal c invalid_size) inside
-read_write-next c p (Some ValueByName) len name =
+read_write-next d c p (Some ValueByName) len name =
     if_found-next c (found_of p.symbols name) (λ f. value_act p len (place_of f)) (λ f. next_if c _ _ _ (next_refusal c _) (next_reading c _))
-read_write-next c p (Some InfoByName) len name =
+read_write-next d c p (Some InfoByName) len name =
     let inside = if_found-next c (found_of p.symbols name) (λ f. fixed_data (info_of f)) (λ f. next_fixed c (info_of f)) in
     next_if c (nat_lt len 12) (Refusal invalid_size) (if_found (found_of p.symbols name) (λ f. fixed_data (info_of f))) (next_refusal c invalid_size) inside
-read_write-next c p (Some ExtendedInfoByName) len name =
-    if_found-next c (found_of p.symbols name) (λ f. fixed_reply len (entry_bytes (entry_of_part f))) (λ f. search (next_if, next_refusal, next_fixed))
-read_write-next c p g len name = next_refusal c invalid_group
+read_write-next d c p (Some ExtendedInfoByName) len name =
+    if_found-next c (found_of p.symbols name) (λ f. fixed_reply len (entry_bytes (entry_of_part d.profile.manner f))) (λ f. search (next_if, next_refusal, next_fixed))
+read_write-next d c p g len name = next_refusal c invalid_group
 
 add_reached-next : (c : Client) (k : Asker) (mode : Mode) (len cycle : ℕ) (r : Result (List Addressed) ℕ) → NextAct c (add_reached c k mode len cycle r)
 add_reached-next c k mode len cycle (Err code) = next_refusal c code
@@ -131,8 +135,14 @@ plain-next d c k (WriteControl ads device bytes) = control-next c k ads device
 plain-next d c k (AddDeviceNotification group offset len mode delay cycle) = add-next c k (answered_group _ group) offset len cycle _
 plain-next d c k (DeleteDeviceNotification handle) = next_if c _ _ _ (next_changing c [] (Deletes handle) tt) (next_refusal c _)
 plain-next d c k (DeviceNotification bytes) = next_fixed c _
-plain-next d c k (ReadWrite group offset len bytes) = read_write-next c k.port (answered_group _ group) len bytes
+plain-next d c k (ReadWrite group offset len bytes) = read_write-next d c k.port (answered_group _ group) len bytes
+
+type-next : (c : Client) (len : ℕ) (o : Option TypeTree) → NextAct c (if_type o len)
+type-next c len None = next_refusal c symbol_not_found
+type-next c len (Some tree) = search (next_if, next_refusal, next_fixed)
 
 pub act-next : (d : Setup) (c : Client) (k : Asker) (r : Request) → NextAct c (act_of d c k r)
-unfolding act_of
-act-next d c k r = plain-next d c k (meant_by d.profile c k.port r)
+act-next d c k r =
+    act-cases d c k (NextAct c)
+    (record { types = λ len bytes. type-next c len (tree_of_text d.plant.types (up_to_nul bytes)) })
+    r (plain-next d c k (meant_by d.profile c k.port r))

@@ -1,6 +1,6 @@
 -- The profile of every state, and what each profile makes of requests.
 use Rattle.std.proofs.Common.{◌≡◌, ℕ, ◌≤◌, List, [], ◌∷◌, map, length, refl, ◌∙◌, ap, arith, false, inl, inr}
-use Rattle.std.specs.Prelude.{Option, Some, None, Result, Ok, Err, min, nat_lt}
+use Rattle.std.specs.Prelude.{Option, Some, None, Result, Ok, Err, min, nat_lt, unwrap_or}
 use Rattle.std.proofs.lemmas.Bool.{cases_Bool, ltb-true}
 use Rattle.spec_plant.specs.Description.{Description}
 use Rattle.spec_plant.specs.Sizes.{type_size}
@@ -34,8 +34,9 @@ use Rattle.spec_machine.specs.Ticks.{world_after_tick}
 use Rattle.spec_machine.specs.Reloads.{world_after_reload}
 use Rattle.spec_machine.specs.AdsDevice.{DescriptionReading, reloading, ads_device, server_step}
 use Rattle.spec_machine.proofs.Meanings.{meant-strict}
+use Rattle.spec_machine.proofs.MoreActs.{more_act-strict}
 use Rattle.spec_laws.specs.Isolation.{start_in}
-use Rattle.spec_laws.specs.Profiles.{KeepsProfile, StrictIsPlain, WritesArePlain, WideReadsByHandle, WideReadsByName, WideModes, StrictSums, WideSums}
+use Rattle.spec_laws.specs.Profiles.{KeepsProfile, StrictIsPlain, WritesArePlain, WideReadsByHandle, WideReadsByName, WideModes, WideTypes, StrictSums, WideSums}
 use Rattle.spec_laws.proofs.EveryState.{Goes, piece-goes, took-goes, gone-goes}
 
 -- the profile of every state
@@ -86,7 +87,8 @@ keeps_profile reading profile d signals log = log-profile reading log (start_in 
 pub strict_is_plain : StrictIsPlain
 unfolding act_of
 strict_is_plain d c k r strict =
-    ap (plain_act d c k) (meant-strict d.profile c k.port r strict)
+    ap (λ o. unwrap_or o (plain_act d c k (meant_by d.profile c k.port r))) (more_act-strict d c k r strict)
+    ∙ ap (plain_act d c k) (meant-strict d.profile c k.port r strict)
 
 pub writes_are_plain : WritesArePlain
 unfolding act_of plain_act
@@ -109,6 +111,10 @@ unfolding act_of plain_act answered_group group_of group_in read_write_group
 wide_reads_by_name d c k offset len name f wide found =
     let fits = at_most len (type_size f.part.type) in
     rw (wide, found, fits) refl
+
+pub wide_types : WideTypes
+unfolding act_of
+wide_types d c k offset len text wide = rw wide refl
 
 pub wide_modes : WideModes
 unfolding act_of plain_act

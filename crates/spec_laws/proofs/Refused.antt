@@ -22,6 +22,7 @@ use Rattle.spec_machine.specs.ByName.{read_write_group}
 use Rattle.spec_machine.specs.Meanings.{read_len_in, mode_in}
 use Rattle.spec_machine.specs.Requests.{MAX_WATCHED, mode_of, add_act, plain_act, act_of}
 use Rattle.spec_machine.proofs.Meanings.{mode-kept}
+use Rattle.spec_machine.proofs.MoreActs.{more_read_write-none}
 use Rattle.spec_machine.specs.Sums.{SumRequest, sum_of_reads, sum_of_writes, sum_of_read_writes, given_in_turn}
 use Rattle.spec_machine.specs.Decisions.{Single, Decision, NoAnswer, EndConnection, AmsError, Perform, acts_in}
 use Rattle.spec_machine.specs.SumPackets.{acts_of, decide_single, decide_parts}
@@ -169,11 +170,11 @@ unfolding act_of plain_act
 bad_additions_are_refused d c k group offset len number delay cycle bad =
     bad-addition c k (answered_group ADD_DEVICE_NOTIFICATION group) offset len cycle (mode_of (mode_in d.profile.manner number)) bad
 
-read_write-refused : (c : Client) (p : PlantPort) (g : Option Group) (len : ℕ) (bytes : List ℕ)
-    → (g ≡ Some ValueByHandle) ⊎ (g ≡ None) → IsRefused (read_write_group c p g len bytes)
+read_write-refused : (d : Setup) (c : Client) (p : PlantPort) (g : Option Group) (len : ℕ) (bytes : List ℕ)
+    → (g ≡ Some ValueByHandle) ⊎ (g ≡ None) → IsRefused (read_write_group d c p g len bytes)
 unfolding read_write_group
-read_write-refused c p g len bytes (inl e) = subst (λ (o : Option Group). IsRefused (read_write_group c p o len bytes)) (sym e) (invalid_group, refl)
-read_write-refused c p g len bytes (inr e) = subst (λ (o : Option Group). IsRefused (read_write_group c p o len bytes)) (sym e) (invalid_group, refl)
+read_write-refused d c p g len bytes (inl e) = subst (λ (o : Option Group). IsRefused (read_write_group d c p o len bytes)) (sym e) (invalid_group, refl)
+read_write-refused d c p g len bytes (inr e) = subst (λ (o : Option Group). IsRefused (read_write_group d c p o len bytes)) (sym e) (invalid_group, refl)
 
 any_form : (d : Setup) (c : Client) (k : Asker) (handle code : ℕ)
     → dead_code (kept_status c.handles handle k.port.number) ≡ Some code → RefusesAnyForm d c k handle
@@ -198,7 +199,9 @@ any_form d c k handle code dead = record {
         let P : Option Group → Type 0 = λ o. IsRefused (add_act c k o handle len cycle (mode_of (mode_in d.profile.manner mode))) in
         subst P (sym g) (add-refused c k None handle len cycle invalid_group (mode_of (mode_in d.profile.manner mode)) refl)
   ];
-  read_write = λ len bytes. read_write-refused c k.port (answered_group READ_WRITE value_by_handle) _ _ (by_handle READ_WRITE);
+  read_write = λ len bytes.
+      let no_more = more_read_write-none d.profile.manner d value_by_handle len bytes refl in
+      rw no_more (read_write-refused d c k.port (answered_group READ_WRITE value_by_handle) _ _ (by_handle READ_WRITE));
 }
   where
     reach : (len : ℕ) → addressed_by_status k.port.number (kept_status c.handles handle k.port.number) len ≡ Err code

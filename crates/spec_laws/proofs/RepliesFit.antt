@@ -6,7 +6,9 @@ use Rattle.spec_plant.specs.AcceptedTypes.{LIMIT}
 use Rattle.spec_plant.specs.Description.{size_in}
 use Rattle.spec_plant.specs.World.{Plant, PlantPort, Block}
 use Rattle.spec_plant.specs.Finding.{found_of}
-use Rattle.spec_formats.specs.Codes.{invalid_size}
+use Rattle.spec_plant.specs.Trees.{TypeTree}
+use Rattle.spec_formats.specs.TypeEntry.{type_upload_bytes}
+use Rattle.spec_formats.specs.Codes.{invalid_size, symbol_not_found}
 use Rattle.spec_formats.specs.Groups.{Group, AreaSize, HandleByName, ValueByName, InfoByName, SymbolVersion}
 use Rattle.spec_formats.specs.Groups.{ExtendedInfoByName, SymbolUpload, UploadInfo, TypeUpload}
 use Rattle.spec_formats.specs.Groups.{UploadInfoWithTypes, ReleaseHandle}
@@ -32,7 +34,10 @@ use Rattle.spec_formats.specs.SymbolEntry.{entry_bytes}
 use Rattle.spec_machine.specs.Entries.{symbol_upload_of, type_upload_of, upload_info_of, upload_info_with_types_of, entry_of_part}
 use Rattle.spec_machine.specs.Writes.{Asker, write_act, release_act, write_group, control_act}
 use Rattle.spec_machine.specs.ByName.{place_of, grant_act, value_act, info_of, read_write_group}
-use Rattle.spec_machine.specs.Meanings.{meant_by}
+use Rattle.spec_machine.specs.Meanings.{up_to_nul, meant_by}
+use Rattle.spec_machine.specs.TypesByText.{tree_of_text, entry_by_type}
+use Rattle.spec_machine.specs.MoreActs.{if_type}
+use Rattle.spec_machine.proofs.MoreActs.{act-cases}
 use Rattle.spec_machine.specs.Requests.{next_watch, add_watch, add_reached, add_act, plain_act, act_of}
 use Rattle.spec_machine.specs.Sums.{SumRequest, sum_of_reads, sum_of_writes, sum_of_read_writes, given_in_turn}
 use Rattle.spec_machine.specs.Decisions.{Decision, NoAnswer, EndConnection, AmsError, Perform, refuse}
@@ -82,10 +87,10 @@ read-limit : (d : Setup) (c : Client) (p : PlantPort) → IsKnown d.plant c p
 unfolding read_group
 read-limit d c p k (Some (AreaSize a)) offset len = fixed-within greatest_len len (to_le_bytes w32 (size_in p.sizes a)) (omega arith)
 read-limit d c p k (Some SymbolVersion) offset len = fixed-within greatest_len len (d.version ∷ []) (omega arith)
-read-limit d c p k (Some SymbolUpload) offset len = fixed-within greatest_len len (symbol_upload_of p) (port-modest d.plant c p k).upload
-read-limit d c p k (Some UploadInfo) offset len = fixed-within greatest_len len (upload_info_of p) (omega arith)
+read-limit d c p k (Some SymbolUpload) offset len = fixed-within greatest_len len (symbol_upload_of d.profile.manner p) ((port-modest d.plant c p k).upload d.profile.manner)
+read-limit d c p k (Some UploadInfo) offset len = fixed-within greatest_len len (upload_info_of d.profile.manner p) (omega arith)
 read-limit d c p k (Some TypeUpload) offset len = upload-short len (type_upload_of d.plant)
-read-limit d c p k (Some UploadInfoWithTypes) offset len = fixed-within greatest_len len (upload_info_with_types_of d.plant p) (omega arith)
+read-limit d c p k (Some UploadInfoWithTypes) offset len = fixed-within greatest_len len (upload_info_with_types_of d.profile.manner d.plant p) (omega arith)
 read-limit d c p k g offset len =
     read-short greatest_len (reach_of c p g offset len)
     (reach-short greatest_len c p g offset len (λ h. h) (λ e. omega arith)
@@ -121,24 +126,24 @@ add-limit c k g offset len cycle None = short_refusal greatest_len _
 add-limit c k g offset len cycle (Some mode) =
     short_if greatest_len _ _ _ (short_refusal greatest_len _) (add_reached-limit c k mode len cycle (reach_of c k.port g offset len))
 
-read_write-limit : (plant : Plant) (c : Client) (p : PlantPort) → IsKnown plant c p
-    → (g : Option Group) (len : ℕ) (name : List ℕ) → IsShort greatest_len (read_write_group c p g len name)
+read_write-limit : (d : Setup) (c : Client) (p : PlantPort) → IsKnown d.plant c p
+    → (g : Option Group) (len : ℕ) (name : List ℕ) → IsShort greatest_len (read_write_group d c p g len name)
 unfolding read_write_group
-read_write-limit plant c p k (Some HandleByName) len name =
+read_write-limit d c p k (Some HandleByName) len name =
     least-short greatest_len 4 len invalid_size _
     (λ h. if_found-short greatest_len (found_of p.symbols name) (λ f. grant_act c p (place_of f))
     (λ f e. grant-short greatest_len c p (place_of f) (omega arith)))
-read_write-limit plant c p k (Some ValueByName) len name =
+read_write-limit d c p k (Some ValueByName) len name =
     if_found-short greatest_len (found_of p.symbols name) (λ f. value_act p len (place_of f))
     (λ f e. value-short greatest_len p len (place_of f)
-    (λ h. let l = placed-small plant k.modest p.number (place_of f) (found-placed plant p k.asked name f e) in omega (arith, l, h)))
-read_write-limit plant c p k (Some InfoByName) len name =
+    (λ h. let l = placed-small d.plant k.modest p.number (place_of f) (found-placed d.plant p k.asked name f e) in omega (arith, l, h)))
+read_write-limit d c p k (Some InfoByName) len name =
     least-short greatest_len 12 len invalid_size _
     (λ h. if_found-short greatest_len (found_of p.symbols name) (λ f. fixed_data (info_of f)) (λ f e. short_fixed greatest_len (info_of f) (omega arith)))
-read_write-limit plant c p k (Some ExtendedInfoByName) len name =
-    if_found-short greatest_len (found_of p.symbols name) (λ f. fixed_reply len (entry_bytes (entry_of_part f)))
-    (λ f e. fixed-within greatest_len len (entry_bytes (entry_of_part f)) (entry-short p (port-modest plant c p k) name f e))
-read_write-limit plant c p k g len name = short_refusal greatest_len _
+read_write-limit d c p k (Some ExtendedInfoByName) len name =
+    if_found-short greatest_len (found_of p.symbols name) (λ f. fixed_reply len (entry_bytes (entry_of_part d.profile.manner f)))
+    (λ f e. fixed-within greatest_len len (entry_bytes (entry_of_part d.profile.manner f)) (entry-short d.profile.manner p (port-modest d.plant c p k) name f e))
+read_write-limit d c p k g len name = short_refusal greatest_len _
 
 plain-limit : (d : Setup) (c : Client) (k : Asker) → IsKnown d.plant c k.port → (r : Request) → IsShort greatest_len (plain_act d c k r)
 unfolding plain_act
@@ -151,11 +156,17 @@ plain-limit d c k i (AddDeviceNotification group offset len mode delay cycle) = 
 plain-limit d c k i (DeleteDeviceNotification handle) =
     short_if greatest_len _ _ _ (short_changing greatest_len [] (Deletes handle) (omega arith)) (short_refusal greatest_len _)
 plain-limit d c k i (DeviceNotification bytes) = short_fixed greatest_len [] (omega arith)
-plain-limit d c k i (ReadWrite group offset len bytes) = read_write-limit d.plant c k.port i (answered_group _ group) len bytes
+plain-limit d c k i (ReadWrite group offset len bytes) = read_write-limit d c k.port i (answered_group _ group) len bytes
+
+type-limit : (len : ℕ) (o : Option TypeTree) → IsShort greatest_len (if_type o len)
+type-limit len None = short_refusal greatest_len symbol_not_found
+type-limit len (Some tree) = upload-short len (type_upload_bytes (entry_by_type tree ∷ []))
 
 act-limit : (d : Setup) (c : Client) (k : Asker) → IsKnown d.plant c k.port → (r : Request) → IsShort greatest_len (act_of d c k r)
-unfolding act_of
-act-limit d c k i r = plain-limit d c k i (meant_by d.profile c k.port r)
+act-limit d c k i r =
+    act-cases d c k (IsShort greatest_len)
+    (record { types = λ len bytes. type-limit len (tree_of_text d.plant.types (up_to_nul bytes)) })
+    r (plain-limit d c k i (meant_by d.profile c k.port r))
 
 -- how many bytes a decision gives
 

@@ -6,6 +6,8 @@ use Rattle.std.proofs.lemmas.List.{length-append, length-map}
 use Rattle.spec_plant.specs.Description.{Area, size_in}
 use Rattle.spec_plant.specs.World.{PlantPort, ByteName, Block}
 use Rattle.spec_plant.specs.Finding.{Found, found_of}
+use Rattle.spec_plant.specs.Trees.{TypeTree}
+use Rattle.spec_formats.specs.TypeEntry.{type_upload_bytes}
 use Rattle.spec_formats.specs.Codes.{invalid_size, symbol_not_found}
 use Rattle.spec_formats.specs.Groups.{Group, AreaBytes, AreaBit, AreaSize, HandleByName, ValueByName}
 use Rattle.spec_formats.specs.Groups.{ValueByHandle, InfoByName, SymbolVersion, ExtendedInfoByName}
@@ -25,7 +27,10 @@ use Rattle.spec_machine.specs.Reach.{addressed_by_range, addressed_in_place, add
 use Rattle.spec_machine.specs.Reads.{fixed_reply, read_act, read_group}
 use Rattle.spec_machine.specs.Writes.{Asker}
 use Rattle.spec_machine.specs.ByName.{place_of, grant_act, value_act, info_of, if_found, read_write_group}
-use Rattle.spec_machine.specs.Meanings.{read_len_in, value_len_in, name_in}
+use Rattle.spec_machine.specs.Meanings.{read_len_in, value_len_in, up_to_nul, name_in}
+use Rattle.spec_machine.specs.TypesByText.{tree_of_text, entry_by_type}
+use Rattle.spec_machine.specs.MoreActs.{if_type, more_read_write}
+use Rattle.spec_machine.proofs.MoreActs.{of_more, read_write-more}
 use Rattle.spec_machine.specs.Requests.{plain_act, act_of}
 use Rattle.spec_machine.proofs.Meanings.{read_len-less, value_len-less}
 use Rattle.spec_laws.specs.RepliesFit.{NoMoreThanAsked}
@@ -176,27 +181,27 @@ read-asked : (d : Setup) (c : Client) (p : PlantPort) (g : Option Group) (offset
 unfolding read_group
 read-asked d c p (Some (AreaSize a)) offset len = fixed-asked len (to_le_bytes w32 (size_in p.sizes a))
 read-asked d c p (Some SymbolVersion) offset len = fixed-asked len (d.version ∷ [])
-read-asked d c p (Some SymbolUpload) offset len = fixed-asked len (symbol_upload_of p)
-read-asked d c p (Some UploadInfo) offset len = fixed-asked len (upload_info_of p)
+read-asked d c p (Some SymbolUpload) offset len = fixed-asked len (symbol_upload_of d.profile.manner p)
+read-asked d c p (Some UploadInfo) offset len = fixed-asked len (upload_info_of d.profile.manner p)
 read-asked d c p (Some TypeUpload) offset len =
     short_if len _ (Refusal invalid_size) (fixed_reply len (type_upload_of d.plant)) (short_refusal len invalid_size) (fixed-asked len (type_upload_of d.plant))
-read-asked d c p (Some UploadInfoWithTypes) offset len = fixed-asked len (upload_info_with_types_of d.plant p)
+read-asked d c p (Some UploadInfoWithTypes) offset len = fixed-asked len (upload_info_with_types_of d.profile.manner d.plant p)
 read-asked d c p g offset len =
     read-short len (reach_of c p g offset len) (reach-short len c p g offset len (λ h. omega arith) (λ e. omega (arith, e)) (λ place s h. omega arith))
 
-read_write-asked : (c : Client) (p : PlantPort) (g : Option Group) (len : ℕ) (name : List ℕ) → IsShort len (read_write_group c p g len name)
+read_write-asked : (d : Setup) (c : Client) (p : PlantPort) (g : Option Group) (len : ℕ) (name : List ℕ) → IsShort len (read_write_group d c p g len name)
 unfolding read_write_group
-read_write-asked c p (Some HandleByName) len name =
+read_write-asked d c p (Some HandleByName) len name =
     least-short len 4 len invalid_size _
     (λ h. if_found-short len (found_of p.symbols name) (λ f. grant_act c p (place_of f)) (λ f e. grant-short len c p (place_of f) h))
-read_write-asked c p (Some ValueByName) len name =
+read_write-asked d c p (Some ValueByName) len name =
     if_found-short len (found_of p.symbols name) (λ f. value_act p len (place_of f)) (λ f e. value-short len p len (place_of f) (λ h. omega arith))
-read_write-asked c p (Some InfoByName) len name =
+read_write-asked d c p (Some InfoByName) len name =
     least-short len 12 len invalid_size _
     (λ h. if_found-short len (found_of p.symbols name) (λ f. fixed_data (info_of f)) (λ f e. short_fixed len (info_of f) h))
-read_write-asked c p (Some ExtendedInfoByName) len name =
-    if_found-short len (found_of p.symbols name) (λ f. fixed_reply len (entry_bytes (entry_of_part f))) (λ f e. fixed-asked len (entry_bytes (entry_of_part f)))
-read_write-asked c p g len name = short_refusal len _
+read_write-asked d c p (Some ExtendedInfoByName) len name =
+    if_found-short len (found_of p.symbols name) (λ f. fixed_reply len (entry_bytes (entry_of_part d.profile.manner f))) (λ f e. fixed-asked len (entry_bytes (entry_of_part d.profile.manner f)))
+read_write-asked d c p g len name = short_refusal len _
 
 -- what an act gives
 pub length-given : (memory : List Block) (a : Act) → length (outcome_of memory a).bytes ≡ data_len a
@@ -217,14 +222,22 @@ read-act-asked d c k group offset len =
     short_more meant len _ (read_len-less d.profile.manner c k.port (answered_group READ group) offset len)
     (read-asked d c k.port (answered_group READ group) offset meant)
 
+type-asked : (len : ℕ) (o : Option TypeTree) → IsShort len (if_type o len)
+type-asked len None = short_refusal len symbol_not_found
+type-asked len (Some tree) =
+    let bytes = type_upload_bytes (entry_by_type tree ∷ []) in
+    short_if len _ (Refusal invalid_size) (fixed_reply len bytes) (short_refusal len invalid_size) (fixed-asked len bytes)
+
 pub read_write-act-asked : (d : Setup) (c : Client) (k : Asker) (group offset len : ℕ) (bytes : List ℕ)
     → IsShort len (act_of d c k (ReadWrite group offset len bytes))
 unfolding act_of plain_act
 read_write-act-asked d c k group offset len bytes =
     let name = name_in d.profile.manner (answered_group READ_WRITE group) bytes in
     let meant = value_len_in d.profile.manner k.port (answered_group READ_WRITE group) name len in
-    short_more meant len _ (value_len-less d.profile.manner k.port (answered_group READ_WRITE group) name len)
-    (read_write-asked c k.port (answered_group READ_WRITE group) meant name)
+    of_more (IsShort len) (more_read_write d.profile.manner d group len bytes) (read_write_group d c k.port (answered_group READ_WRITE group) meant name)
+    (read_write-more (IsShort len) d.profile.manner d group len bytes (type-asked len (tree_of_text d.plant.types (up_to_nul bytes))))
+    (short_more meant len _ (value_len-less d.profile.manner k.port (answered_group READ_WRITE group) name len)
+    (read_write-asked d c k.port (answered_group READ_WRITE group) meant name))
 
 pub no_more_than_asked : NoMoreThanAsked
 no_more_than_asked d c k memory = record {

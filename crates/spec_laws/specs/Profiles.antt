@@ -19,6 +19,7 @@ use Rattle.spec_machine.specs.Answers.{answered_group, WRITE, READ_WRITE}
 use Rattle.spec_machine.specs.Writes.{Asker, write_group}
 use Rattle.spec_machine.specs.ByName.{place_of}
 use Rattle.spec_machine.specs.Meanings.{meant_name}
+use Rattle.spec_machine.specs.MoreActs.{type_by_text, type_act}
 use Rattle.spec_machine.specs.Requests.{plain_act, act_of}
 use Rattle.spec_machine.specs.Sums.{sum_of_told_reads, sum_of_short_reads}
 use Rattle.spec_machine.specs.MoreSums.{sum_told_read, sum_short_read}
@@ -55,6 +56,11 @@ abbrev pub WideReadsByName : Type 0
 WideReadsByName = (d : Setup) (c : Client) (k : Asker) (offset len : ℕ) (name : List ℕ) (f : Found) → d.profile.manner ≡ Wide
     → found_of k.port.symbols (meant_name name) ≡ Some f
     → act_of d c k (ReadWrite value_by_name offset len name) ≡ reading_place k.port.number (place_of f) len
+
+-- Where the server is wide, a ReadWrite by the text of a type gives its entry.
+abbrev pub WideTypes : Type 0
+WideTypes = (d : Setup) (c : Client) (k : Asker) (offset len : ℕ) (text : List ℕ) → d.profile.manner ≡ Wide
+    → act_of d c k (ReadWrite type_by_text offset len text) ≡ type_act d.plant len text
 
 -- Where the server is wide, an addition in the context of a task is that without.
 abbrev pub WideModes : Type 0

@@ -12,7 +12,7 @@ ghost use Rattle.spec_laws.specs.Reachable.{EveryStateFits};
 ghost use Rattle.spec_laws.specs.Rising.{HandlesRise};
 ghost use Rattle.spec_laws.specs.RepliesFit.{NoMoreThanAsked, RepliesFit};
 ghost use Rattle.spec_laws.specs.Profiles.{KeepsProfile, StrictIsPlain, WritesArePlain};
-ghost use Rattle.spec_laws.specs.Profiles.{WideReadsByHandle, WideReadsByName, WideModes, StrictSums, WideSums};
+ghost use Rattle.spec_laws.specs.Profiles.{WideReadsByHandle, WideReadsByName, WideModes, WideTypes, StrictSums, WideSums};
 ghost use Rattle.spec_laws.specs.RightsLaws.{RoutesCountFirst, OthersShareOne, StrictKnowsRoutes};
 
 /// A client none of whose read or notified bytes another client writes is given, byte for byte, what it
@@ -92,7 +92,7 @@ pub fn replies_fit()
 
 /// A server keeps its profile over every log. To the strict one each request is what is written, and a write is so to
 /// both. To the wide one a Read by a live handle and a ReadWrite by a name read their value and no byte beside it, however
-/// much they ask, and an addition in the context of a task is that without.
+/// much they ask, an addition in the context of a task is that without, and a ReadWrite by the text of a type gives its entry.
 pub fn profiles_differ_in_meanings()
     ensures kept { KeepsProfile }
     ensures strict { StrictIsPlain }
@@ -100,6 +100,7 @@ pub fn profiles_differ_in_meanings()
     ensures by_handle { WideReadsByHandle }
     ensures by_name { WideReadsByName }
     ensures modes { WideModes }
+    ensures types { WideTypes }
 {}
 
 /// The strict server knows no sum besides those of every server; to the wide one the sums of reads that tell their

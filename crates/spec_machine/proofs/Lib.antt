@@ -25,8 +25,10 @@ mod PacketExamples
 mod EnumerationExamples
 mod BesideExamples
 mod WideExamples
+mod TypeByTextExamples
 mod OthersExamples
 pub mod Meanings
+pub mod MoreActs
 pub mod HandleStatuses
 pub mod TablesAgreed
 mod SumsInTurn

@@ -9,6 +9,7 @@ use Rattle.spec_plant.specs.Finding.{Found, found_of}
 use Rattle.spec_formats.specs.Codes.{general_device_error, invalid_group, invalid_size, symbol_not_found}
 use Rattle.spec_formats.specs.Groups.{Group, HandleByName, ValueByName, InfoByName, ExtendedInfoByName}
 use Rattle.spec_formats.specs.SymbolEntry.{entry_bytes}
+use Rattle.spec_machine.specs.World.{Setup}
 use Rattle.spec_machine.specs.Access.{WholeByte}
 use Rattle.spec_machine.specs.Handles.{live_count}
 use Rattle.spec_machine.specs.Client.{Place, names_of_place, Client, Grants}
@@ -55,15 +56,15 @@ if_found None act = Refusal symbol_not_found
 if_found (Some f) act = act f
 
 -- A handle and an info have a fixed length, which is looked at before the name.
-unfoldable pub read_write_group : Client → PlantPort → Option Group → ℕ → List ℕ → Act
-read_write_group c p (Some HandleByName) len name =
+unfoldable pub read_write_group : Setup → Client → PlantPort → Option Group → ℕ → List ℕ → Act
+read_write_group d c p (Some HandleByName) len name =
     if nat_lt len 4 then Refusal invalid_size
     else if_found (found_of p.symbols name) (λ f. grant_act c p (place_of f))
-read_write_group c p (Some ValueByName) len name =
+read_write_group d c p (Some ValueByName) len name =
     if_found (found_of p.symbols name) (λ f. value_act p len (place_of f))
-read_write_group c p (Some InfoByName) len name =
+read_write_group d c p (Some InfoByName) len name =
     if nat_lt len 12 then Refusal invalid_size
     else if_found (found_of p.symbols name) (λ f. fixed_data (info_of f))
-read_write_group c p (Some ExtendedInfoByName) len name =
-    if_found (found_of p.symbols name) (λ f. fixed_reply len (entry_bytes (entry_of_part f)))
-read_write_group c p group len name = Refusal invalid_group
+read_write_group d c p (Some ExtendedInfoByName) len name =
+    if_found (found_of p.symbols name) (λ f. fixed_reply len (entry_bytes (entry_of_part d.profile.manner f)))
+read_write_group d c p group len name = Refusal invalid_group

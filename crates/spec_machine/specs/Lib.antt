@@ -36,6 +36,9 @@ pub mod Reads
 pub mod Writes
 pub mod ByName
 pub mod Meanings
+pub mod Additions
+pub mod TypesByText
+pub mod MoreActs
 pub mod Requests
 pub mod Sums
 pub mod MoreSums

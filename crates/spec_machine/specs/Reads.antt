@@ -33,9 +33,9 @@ unfoldable pub read_group : Setup → Client → PlantPort → Option Group → 
 read_group d c p (Some (AreaSize area)) offset len =
     fixed_reply len (to_le_bytes w32 (size_in p.sizes area))
 read_group d c p (Some SymbolVersion) offset len = fixed_reply len (d.version ∷ [])
-read_group d c p (Some SymbolUpload) offset len = fixed_reply len (symbol_upload_of p)
-read_group d c p (Some UploadInfo) offset len = fixed_reply len (upload_info_of p)
+read_group d c p (Some SymbolUpload) offset len = fixed_reply len (symbol_upload_of d.profile.manner p)
+read_group d c p (Some UploadInfo) offset len = fixed_reply len (upload_info_of d.profile.manner p)
 read_group d c p (Some TypeUpload) offset len = type_upload_reply len (type_upload_of d.plant)
 read_group d c p (Some UploadInfoWithTypes) offset len =
-    fixed_reply len (upload_info_with_types_of d.plant p)
+    fixed_reply len (upload_info_with_types_of d.profile.manner d.plant p)
 read_group d c p group offset len = read_act (reach_of c p group offset len)
