@@ -34,7 +34,7 @@ use Rattle.spec_machine.specs.Decisions.{Decision, acts_in}
 use Rattle.spec_machine.specs.Packets.{Check, source_rights, checks_of, decide}
 use Rattle.spec_machine.specs.Replies.{performed}
 use Rattle.spec_machine.specs.Ticks.{signal_puts, world_after_tick}
-use Rattle.spec_machine.specs.Reloads.{world_after_reload}
+use Rattle.spec_machine.specs.Reloads.{next_version, world_after_reload}
 use Rattle.spec_machine.specs.AdsDevice.{reloading}
 use Rattle.spec_laws.specs.Isolation.{start_in}
 use Rattle.spec_laws.specs.Soundness.{Each, IsSoundPlant}
