@@ -16,7 +16,7 @@ use Rattle.spec_machine.specs.Piece.{with_received, packets_left, with_one_taken
 use Rattle.spec_machine.specs.Piece.{after_packet, after_packets, with_piece, end_of_piece, after_piece}
 use Rattle.spec_machine.specs.Moves.{with_gone, with_took, state_after_move, state_after}
 use Rattle.spec_machine.specs.Events.{after_client_outcome, moment_of_tick, connection_after_tick, connection_after_reload, after_reload, state_after_event}
-use Rattle.spec_machine.specs.World.{World, setup_of, name_at, first_memory}
+use Rattle.spec_machine.specs.World.{World, setup_of, name_at, first_memory, FIRST_VERSION}
 use Rattle.spec_machine.specs.Access.{Addressed, addressed_name}
 use Rattle.spec_machine.specs.Handles.{HandleStatus, Never, Released, Outdated, Live, live_or_outdated, Handle}
 use Rattle.spec_machine.specs.Handles.{status_after_reload, handle_after_reload, handles_after}
@@ -26,7 +26,7 @@ use Rattle.spec_machine.specs.Decisions.{Decision, acts_in}
 use Rattle.spec_machine.specs.Packets.{decide}
 use Rattle.spec_machine.specs.Replies.{performed}
 use Rattle.spec_machine.specs.Ticks.{signal_puts, world_after_tick, client_after_tick}
-use Rattle.spec_machine.specs.Reloads.{is_kept, world_after_reload, client_reloaded}
+use Rattle.spec_machine.specs.Reloads.{is_kept, next_version, world_after_reload, client_reloaded}
 use Rattle.spec_machine.specs.AdsDevice.{DescriptionReading, reloading, ads_device, server_step}
 use Rattle.spec_laws.specs.Isolation.{start_in}
 use Rattle.spec_laws.specs.Soundness.{Each, IsSoundPlant, ReadsAccepted}
@@ -73,7 +73,7 @@ handles-kept old new (h ∷ hs) e = (status-kept old new h.port h.status (e.0), 
 
 -- a byte of a kept part has a name of the new plant
 name-kept : (old new : Plant) → IsSoundPlant old → IsSoundPlant new → (n : ByteName) → is_kept old new n.port n.part ≡ true → IsNamed old n → IsNamed new n
-name-kept old new so sn n t h = subst (λ (l : ℕ). n.index < l) (kept-length old new so sn n.port n.part t) h
+name-kept old new so sn n t h = subst (λ (l : ℕ). n.index < l) (kept-length FIRST_VERSION old new so sn n.port n.part t) h
 
 part-kept : (old new : Plant) → IsSoundPlant old → IsSoundPlant new → (port : ℕ) (part : Part) → is_kept old new port part ≡ true
     → (as_ : List Addressed) → list_all (is_in_part port part) as_ ≡ true
@@ -203,7 +203,7 @@ piece-fits reading bytes x sound f =
 -- what every state keeps
 record Good (s : MachineState World Client) : Type 0 where
   sound : IsSoundPlant s.world.plant
-  memory : Alike s.world.memory (first_memory s.world.plant)
+  memory : Alike s.world.memory (first_memory FIRST_VERSION s.world.plant)
   all : Each (ConnFits s.world.plant) s.connections
 
 put_back-fits : (plant : Plant) (new : Connection Client) (ks : List (Connection Client))
@@ -248,7 +248,7 @@ exchange-good f goes fits s c (Some k) e g =
     let here = fits x g.sound (found-fits s.world.plant c s.connections k g.all e) in
     record {
       sound = subst IsSoundPlant back g.sound;
-      memory = alike_then (f x).world.memory s.world.memory _ y.memory (subst (λ q. Alike s.world.memory (first_memory q)) back g.memory);
+      memory = alike_then (f x).world.memory s.world.memory _ y.memory (subst (λ q. Alike s.world.memory (first_memory FIRST_VERSION q)) back g.memory);
       all = subst (λ q. Each (ConnFits q) (put_back (f x).connection s.connections)) back
           (put_back-fits s.world.plant (f x).connection s.connections here g.all);
     }
@@ -321,7 +321,7 @@ reload-good reading (Ok d) h s g =
     let sn = h d refl in
     record {
       sound = sn;
-      memory = reload-alike s.world.plant (plant_of d) g.sound sn s.world.memory g.memory;
+      memory = reload-alike (next_version s.world.version) s.world.plant (plant_of d) g.sound sn s.world.memory g.memory;
       all = map-fits s.world.plant (plant_of d) (connection_after_reload (ads_device reading) s.moment s.world new)
           (reload-fits reading s.moment s.world new g.sound sn) s.connections g.all;
     }
@@ -363,7 +363,7 @@ log-good reading h (m ∷ ms) s g = log-good reading h ms (state_after_move (ser
 
 -- what is named is there, in a memory that is alike
 
-watch-there : (plant : Plant) (m : List Block) → Alike m (first_memory plant)
+watch-there : (plant : Plant) (m : List Block) → Alike m (first_memory FIRST_VERSION plant)
     → (as_ : List Addressed) → Each (IsNamed plant) (map addressed_name as_) → Each (IsThereAt m) as_
 watch-there plant m a [] e = tt
 watch-there plant m a (x ∷ xs) e =
@@ -372,12 +372,12 @@ watch-there plant m a (x ∷ xs) e =
     let h = e.0 in
     (there_by_length m n (omega (arith, l, h)), watch-there plant m a xs (e.1))
 
-watches-there : (plant : Plant) (m : List Block) → Alike m (first_memory plant)
+watches-there : (plant : Plant) (m : List Block) → Alike m (first_memory FIRST_VERSION plant)
     → (ws : List (Watch (List Addressed))) → Each (WatchIn (IsNamed plant)) ws → Each (IsWatchThere m) ws
 watches-there plant m a [] e = tt
 watches-there plant m a (w ∷ ws) e = (watch-there plant m a w.watched (e.0), watches-there plant m a ws (e.1))
 
-each-there : (w : World) → Alike w.memory (first_memory w.plant) → (ks : List (Connection Client)) → Each (ConnFits w.plant) ks → Each (ConnectionFits w) ks
+each-there : (w : World) → Alike w.memory (first_memory FIRST_VERSION w.plant) → (ks : List (Connection Client)) → Each (ConnFits w.plant) ks → Each (ConnectionFits w) ks
 each-there w a [] e = tt
 each-there w a (k ∷ ks) e = (
   λ heard. record { handles = (e.0 heard).handles; watches = watches-there w.plant w.memory a k.client.watches (e.0 heard).watches },
@@ -398,4 +398,4 @@ pub every_state_fits : EveryStateFits
 every_state_fits reading h profile d signals accepted log =
     let sound = accepted_are_sound d (length signals) accepted in
     all-fits (state_after (server_step reading) (start_in profile d signals) log)
-    (log-good reading h log (start_in profile d signals) (record { sound = sound; memory = alike_itself (first_memory (plant_of d)); all = tt }))
+    (log-good reading h log (start_in profile d signals) (record { sound = sound; memory = alike_itself (first_memory FIRST_VERSION (plant_of d)); all = tt }))

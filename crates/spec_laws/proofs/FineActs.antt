@@ -21,7 +21,7 @@ use Rattle.spec_formats.specs.Request.{Request, ReadDeviceInfo, Read, Write, Rea
 use Rattle.spec_formats.specs.Request.{AddDeviceNotification, DeleteDeviceNotification, DeviceNotification}
 use Rattle.spec_formats.specs.Request.{ReadWrite}
 use Rattle.spec_machine.proofs.Emptied.{or_false}
-use Rattle.spec_machine.specs.World.{Setup, port_numbered, numbers_from, name_at, names_at}
+use Rattle.spec_machine.specs.World.{Setup, port_numbered, numbers_from, name_at, names_at, own_name, own_names, OWN_SIZE, VERSION_AT, FIRST_VERSION}
 use Rattle.spec_machine.specs.Access.{Addressed, WholeByte, addressed_name, Put}
 use Rattle.spec_machine.specs.Handles.{HandleStatus, Never, Released, Outdated, Live, Handle, handle_in, kept_status}
 use Rattle.spec_machine.specs.Watches.{Watch, Mode}
@@ -39,12 +39,12 @@ use Rattle.spec_machine.specs.Entries.{entry_of_part}
 use Rattle.spec_machine.specs.ByName.{MAX_NUMBER}
 use Rattle.spec_machine.specs.Meanings.{up_to_nul, meant_by}
 use Rattle.spec_machine.specs.TypesByText.{tree_of_text, entry_by_type}
-use Rattle.spec_machine.specs.MoreActs.{if_type}
+use Rattle.spec_machine.specs.MoreActs.{if_type, states_reach, version_reach}
 use Rattle.spec_machine.proofs.MoreActs.{act-cases}
-use Rattle.spec_machine.specs.Requests.{MAX_WATCHES, next_watch, add_watch, add_reached, add_act, plain_act, act_of}
+use Rattle.spec_machine.specs.Requests.{MAX_WATCHES, next_watch, add_watch, add_reached, add_of_reach, add_act, plain_act, act_of}
 use Rattle.spec_laws.specs.Soundness.{Each, IsSoundSymbol, IsSoundPlant}
 use Rattle.spec_laws.specs.Reachable.{IsPlaced, IsPlacedStatus, IsPlacedHandle}
-use Rattle.spec_laws.proofs.FirstMemory.{IsNamed, port_sound, symbol-named, area-named}
+use Rattle.spec_laws.proofs.FirstMemory.{IsNamed, first-own, port_sound, symbol-named, area-named}
 
 -- a port of the plant that is asked
 pub record IsAsked (plant : Plant) (p : PlantPort) : Type 0 where
@@ -309,11 +309,10 @@ add_reached-fine plant c k mode len cycle (Ok places) h =
     let w : Watch (List Addressed) = next_watch c k mode cycle places in
     act_if plant (len == 0) (Refusal invalid_size) (add_watch c w) (act_refusal plant invalid_size) (watch-fine plant c w (h.named places refl))
 
-add-fine : (plant : Plant) (c : Client) (k : Asker) (g : Option Group) (offset len cycle : ℕ) (mode : Option Mode)
-    → FineReach plant (reach_of c k.port g offset len) → FineAct plant (add_act c k g offset len cycle mode)
-add-fine plant c k g offset len cycle None h = act_refusal plant _
-add-fine plant c k g offset len cycle (Some mode) h =
-    act_if plant _ _ _ (act_refusal plant _) (add_reached-fine plant c k mode len cycle (reach_of c k.port g offset len) h)
+add-fine : (plant : Plant) (c : Client) (k : Asker) (len cycle : ℕ) (mode : Option Mode) (r : Result (List Addressed) ℕ)
+    → FineReach plant r → FineAct plant (add_of_reach c k len cycle mode r)
+add-fine plant c k len cycle None r h = act_refusal plant _
+add-fine plant c k len cycle (Some mode) r h = act_if plant _ _ _ (act_refusal plant _) (add_reached-fine plant c k mode len cycle r h)
 
 plain-fine : (plant : Plant) (d : Setup) (c : Client) (k : Asker) → IsAsked plant k.port
     → Each (IsPlacedHandle plant) c.handles → (r : Request) → FineAct plant (plain_act d c k r)
@@ -324,7 +323,7 @@ plain-fine plant d c k i e (Write group offset bytes) = write_group-fine plant c
 plain-fine plant d c k i e ReadState = act_reading plant _
 plain-fine plant d c k i e (WriteControl ads device bytes) = control-fine plant k ads device
 plain-fine plant d c k i e (AddDeviceNotification group offset len mode delay cycle) =
-    add-fine plant c k (answered_group _ group) offset len cycle _ (reach-fine plant c k.port i e (answered_group _ group) offset len)
+    add-fine plant c k len cycle _ (reach_of c k.port (answered_group _ group) offset len) (reach-fine plant c k.port i e (answered_group _ group) offset len)
 plain-fine plant d c k i e (DeleteDeviceNotification handle) = act_if plant _ _ _ (act_changing plant [] (Deletes handle) tt) (act_refusal plant _)
 plain-fine plant d c k i e (DeviceNotification bytes) = act_fixed plant _
 plain-fine plant d c k i e (ReadWrite group offset len bytes) = read_write-fine plant d c k.port i (answered_group _ group) len bytes
@@ -333,9 +332,39 @@ type-fine : (plant : Plant) (len : ℕ) (o : Option TypeTree) → FineAct plant 
 type-fine plant len None = act_refusal plant symbol_not_found
 type-fine plant len (Some tree) = upload-fine plant len (type_upload_bytes (entry_by_type tree ∷ []))
 
+-- a port's own bytes have names of the plant
+
+own-fine : (plant : Plant) (p : PlantPort) → IsAsked plant p → (first len : ℕ) → first + len ≤ OWN_SIZE
+    → FineReach plant (Ok (map WholeByte (own_names p.number first len)))
+unfolding own_names
+own-fine plant p i first len u =
+    let long = first-own FIRST_VERSION p.number p plant.ports i.found in
+    fine_ok plant _ (names-fine (IsNamed plant) (own_name p.number) len first (λ k low high. omega (arith, long, u, high)))
+
+states-fine : (plant : Plant) (p : PlantPort) → IsAsked plant p → (offset len : ℕ) → FineReach plant (states_reach p.number offset len)
+states-fine plant p i offset len =
+    elim (cases_Bool (nat_lt VERSION_AT offset)) [
+      | inl t ↦ rw t (fine_err plant _)
+      | inr t ↦ elim (cases_Bool (nat_lt VERSION_AT (offset + len))) [
+        | inl u ↦ rw (t, u) (fine_err plant _)
+        | inr u ↦ let l = ltb-false VERSION_AT (offset + len) u in rw (t, u) (own-fine plant p i offset len (omega (arith, l)))
+      ]
+    ]
+
+version-fine : (plant : Plant) (p : PlantPort) → IsAsked plant p → (len : ℕ) → FineReach plant (version_reach p.number len)
+version-fine plant p i len =
+    fine_if plant (len == 1) (Ok (map WholeByte (own_names p.number VERSION_AT 1))) (Err invalid_size)
+    (own-fine plant p i VERSION_AT 1 (omega arith)) (fine_err plant _)
+
 pub act-fine : (plant : Plant) (d : Setup) (c : Client) (k : Asker) → IsAsked plant k.port
     → Each (IsPlacedHandle plant) c.handles → (r : Request) → FineAct plant (act_of d c k r)
 act-fine plant d c k i e r =
     act-cases d c k (FineAct plant)
-    (record { types = λ len bytes. type-fine plant len (tree_of_text d.plant.types (up_to_nul bytes)) })
+    (record {
+      states = λ offset len. read-fine plant (states_reach k.port.number offset len);
+      watched_states = λ offset len cycle mode. add-fine plant c k len cycle mode (states_reach k.port.number offset len)
+          (states-fine plant k.port i offset len);
+      watched_version = λ len cycle mode. add-fine plant c k len cycle mode (version_reach k.port.number len) (version-fine plant k.port i len);
+      types = λ len bytes. type-fine plant len (tree_of_text d.plant.types (up_to_nul bytes));
+    })
     r (plain-fine plant d c k i e (meant_by d.profile c k.port r))

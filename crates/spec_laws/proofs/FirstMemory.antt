@@ -7,24 +7,24 @@ use Rattle.spec_plant.specs.Description.{Area, size_in}
 use Rattle.spec_plant.specs.World.{SymbolPart, AreaPart, StatePart, ByteName, PlantSymbol, PlantPort, Plant, lower_name, symbol_size, is_same_area, block_of}
 pub use Rattle.spec_plant.proofs.BlockLemmas.{there_by_length}
 pub use Rattle.spec_plant.proofs.SoundLemmas.{port_sound, symbol_sound, port_number}
-use Rattle.spec_machine.specs.World.{port_numbered, covers, name_among, name_at, first_blocks, first_memory}
+use Rattle.spec_machine.specs.World.{port_numbered, covers, name_among, name_at, first_blocks, first_memory, FIRST_VERSION, OWN_SIZE}
 use Rattle.spec_machine.specs.Writes.{symbol_named}
 pub use Rattle.spec_machine.proofs.FirstMemory.{first-symbol}
-use Rattle.spec_machine.proofs.FirstMemory.{first-states as states_first, first-area as area_first}
+use Rattle.spec_machine.proofs.FirstMemory.{first-own as own_first, first-area as area_first}
 use Rattle.spec_laws.specs.Soundness.{Each, IsSoundSymbol, IsSoundPlant}
 
--- the state words are four bytes
-pub first-states : (n : ℕ) (p : PlantPort) (ps : List PlantPort) → port_numbered n ps ≡ Some p → length (block_of (flat_map first_blocks ps) n StatePart) ≡ 4
-first-states n p ps e = ap length (states_first n p ps e)
+-- a port's own bytes are five
+pub first-own : (v n : ℕ) (p : PlantPort) (ps : List PlantPort) → port_numbered n ps ≡ Some p → length (block_of (flat_map (first_blocks v) ps) n StatePart) ≡ OWN_SIZE
+first-own v n p ps e = ap length (own_first v n p ps e)
 
 -- an area's block is as long as the area
-pub first-area : (n : ℕ) (a : Area) (p : PlantPort) (ps : List PlantPort) → port_numbered n ps ≡ Some p
-    → length (block_of (flat_map first_blocks ps) n (AreaPart a)) ≡ size_in p.sizes a
-first-area n a p ps e = ap length (area_first n a p ps e) ∙ length-replicate (size_in p.sizes a) 0
+pub first-area : (v n : ℕ) (a : Area) (p : PlantPort) (ps : List PlantPort) → port_numbered n ps ≡ Some p
+    → length (block_of (flat_map (first_blocks v) ps) n (AreaPart a)) ≡ size_in p.sizes a
+first-area v n a p ps e = ap length (area_first v n a p ps e) ∙ length-replicate (size_in p.sizes a) 0
 
 -- a name that a plant has: its byte is within its part
 abbrev pub IsNamed : Plant → ByteName → Type 0
-IsNamed plant n = n.index < length (block_of (first_memory plant) n.port n.part)
+IsNamed plant n = n.index < length (block_of (first_memory FIRST_VERSION plant) n.port n.part)
 
 -- the bytes of a symbol of the plant have names of it
 pub symbol-named : (plant : Plant) → IsSoundPlant plant → (n : ℕ) (p : PlantPort) (name : List ℕ) (s : PlantSymbol)
@@ -33,13 +33,13 @@ pub symbol-named : (plant : Plant) → IsSoundPlant plant → (n : ℕ) (p : Pla
 symbol-named plant sound n p name s e f i h =
     let port = port_sound plant.ports plant.ports n p sound e in
     let symbol = symbol_sound p p.symbols name s port.symbols f in
-    let len = ap length (first-symbol n name p s plant.ports e f) ∙ symbol.initial in
+    let len = ap length (first-symbol FIRST_VERSION n name p s plant.ports e f) ∙ symbol.initial in
     omega (arith, len, h)
 
 -- the name of each byte of an area is one of the plant
 among-named : (plant : Plant) → IsSoundPlant plant → (p : PlantPort) → port_numbered p.number plant.ports ≡ Some p → (a : Area) (i : ℕ)
     → i < size_in p.sizes a → (ss : List PlantSymbol) → Each (IsSoundSymbol p) ss → IsNamed plant (name_among p.number a i ss)
-among-named plant sound p e a i h [] s = let l = first-area p.number a p plant.ports e in omega (arith, l, h)
+among-named plant sound p e a i h [] s = let l = first-area FIRST_VERSION p.number a p plant.ports e in omega (arith, l, h)
 among-named plant sound p e a i h (x ∷ xs) s =
     elim (cases_Bool (covers a i x)) [
       | inr t ↦ rw t (among-named plant sound p e a i h xs (s.1))

@@ -19,7 +19,7 @@ use Rattle.spec_machine.specs.World.{World, world_in, first_memory}
 use Rattle.spec_machine.specs.Client.{Client}
 use Rattle.spec_machine.specs.Acts.{reads_of_act, writes_of_act, reads_of_acts, writes_of_acts}
 use Rattle.spec_machine.specs.Ticks.{signal_puts, world_after_tick}
-use Rattle.spec_machine.specs.Reloads.{is_kept, world_after_reload}
+use Rattle.spec_machine.specs.Reloads.{is_kept, next_version, world_after_reload}
 use Rattle.spec_machine.specs.AdsDevice.{DescriptionReading, reloading, ads_device, server_step}
 use Rattle.spec_machine.specs.Projection.{is_event_of, is_move_of, projection_of, acts_of_move, acts_of_log, acts_by_others, reads_of, writes_by_others}
 use Rattle.spec_machine.proofs.Growth.{connection_after_tick-grows, connection_after_reload-grows}
@@ -95,7 +95,7 @@ reload-own reading R c (Ok d) a m x y ls e =
     record {
       world = refl;
       moment = refl;
-      memory = reload_memory-agree R (is_kept a.world.plant (plant_of d)) a.world.memory m (first_memory (plant_of d)) e.memory;
+      memory = reload_memory-agree R (is_kept a.world.plant (plant_of d)) a.world.memory m (first_memory (next_version a.world.version) (plant_of d)) e.memory;
       connection = mapped R c f h a.connections ls number other_number (λ k i. reload-agree reading a.moment a.world w m v.memory k) e.connection e.watches;
       watches = mapped-in R c f a.connections number (λ k i. reload-watches reading R a.moment a.world w k i) e.watches;
     }

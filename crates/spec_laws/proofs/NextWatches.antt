@@ -26,9 +26,9 @@ use Rattle.spec_machine.specs.Writes.{Asker, write_act, write_group, control_act
 use Rattle.spec_machine.specs.ByName.{MAX_NUMBER, place_of, grant_act, value_act, info_of, if_found, read_write_group}
 use Rattle.spec_machine.specs.Meanings.{up_to_nul, meant_by}
 use Rattle.spec_machine.specs.TypesByText.{tree_of_text}
-use Rattle.spec_machine.specs.MoreActs.{if_type}
+use Rattle.spec_machine.specs.MoreActs.{if_type, states_reach, version_reach}
 use Rattle.spec_machine.proofs.MoreActs.{act-cases}
-use Rattle.spec_machine.specs.Requests.{MAX_WATCHED, MAX_WATCHES, next_watch, add_watch, add_reached, add_act, plain_act, act_of}
+use Rattle.spec_machine.specs.Requests.{MAX_WATCHED, MAX_WATCHES, next_watch, add_watch, add_reached, add_of_reach, add_act, plain_act, act_of}
 
 abbrev pub NextEffect : Client → Effect → Type 0
 NextEffect c NoEffect = Unit {0}
@@ -115,11 +115,11 @@ add_reached-next c k mode len cycle (Ok places) =
     (next_refusal c no_more_notifications) (next_changing c (to_le_bytes w32 w.handle) (Adds w) refl) in
     next_if c (len == 0) (Refusal invalid_size) (add_watch c w) (next_refusal c invalid_size) added
 
-add-next : (c : Client) (k : Asker) (g : Option Group) (offset len cycle : ℕ) (mode : Option Mode) → NextAct c (add_act c k g offset len cycle mode)
-add-next c k g offset len cycle None = next_refusal c mode_not_supported
-add-next c k g offset len cycle (Some mode) =
-    next_if c (nat_lt MAX_WATCHED len) (Refusal watch_too_big) (add_reached c k mode len cycle (reach_of c k.port g offset len))
-    (next_refusal c watch_too_big) (add_reached-next c k mode len cycle (reach_of c k.port g offset len))
+add-next : (c : Client) (k : Asker) (len cycle : ℕ) (mode : Option Mode) (r : Result (List Addressed) ℕ) → NextAct c (add_of_reach c k len cycle mode r)
+add-next c k len cycle None r = next_refusal c mode_not_supported
+add-next c k len cycle (Some mode) r =
+    next_if c (nat_lt MAX_WATCHED len) (Refusal watch_too_big) (add_reached c k mode len cycle r)
+    (next_refusal c watch_too_big) (add_reached-next c k mode len cycle r)
 
 control-next : (c : Client) (k : Asker) (ads device : ℕ) → NextAct c (control_act k ads device)
 unfolding control_act
@@ -132,7 +132,7 @@ plain-next d c k (Read group offset len) = read_group-next d c k.port (answered_
 plain-next d c k (Write group offset bytes) = write_group-next c k (answered_group _ group) offset bytes
 plain-next d c k ReadState = next_reading c _
 plain-next d c k (WriteControl ads device bytes) = control-next c k ads device
-plain-next d c k (AddDeviceNotification group offset len mode delay cycle) = add-next c k (answered_group _ group) offset len cycle _
+plain-next d c k (AddDeviceNotification group offset len mode delay cycle) = add-next c k len cycle _ (reach_of c k.port (answered_group _ group) offset len)
 plain-next d c k (DeleteDeviceNotification handle) = next_if c _ _ _ (next_changing c [] (Deletes handle) tt) (next_refusal c _)
 plain-next d c k (DeviceNotification bytes) = next_fixed c _
 plain-next d c k (ReadWrite group offset len bytes) = read_write-next d c k.port (answered_group _ group) len bytes
@@ -144,5 +144,10 @@ type-next c len (Some tree) = search (next_if, next_refusal, next_fixed)
 pub act-next : (d : Setup) (c : Client) (k : Asker) (r : Request) → NextAct c (act_of d c k r)
 act-next d c k r =
     act-cases d c k (NextAct c)
-    (record { types = λ len bytes. type-next c len (tree_of_text d.plant.types (up_to_nul bytes)) })
+    (record {
+      states = λ offset len. read-next c (states_reach k.port.number offset len);
+      watched_states = λ offset len cycle mode. add-next c k len cycle mode (states_reach k.port.number offset len);
+      watched_version = λ len cycle mode. add-next c k len cycle mode (version_reach k.port.number len);
+      types = λ len bytes. type-next c len (tree_of_text d.plant.types (up_to_nul bytes));
+    })
     r (plain-next d c k (meant_by d.profile c k.port r))

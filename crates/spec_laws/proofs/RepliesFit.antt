@@ -36,9 +36,9 @@ use Rattle.spec_machine.specs.Writes.{Asker, write_act, release_act, write_group
 use Rattle.spec_machine.specs.ByName.{place_of, grant_act, value_act, info_of, read_write_group}
 use Rattle.spec_machine.specs.Meanings.{up_to_nul, meant_by}
 use Rattle.spec_machine.specs.TypesByText.{tree_of_text, entry_by_type}
-use Rattle.spec_machine.specs.MoreActs.{if_type}
+use Rattle.spec_machine.specs.MoreActs.{if_type, states_reach, version_reach}
 use Rattle.spec_machine.proofs.MoreActs.{act-cases}
-use Rattle.spec_machine.specs.Requests.{next_watch, add_watch, add_reached, add_act, plain_act, act_of}
+use Rattle.spec_machine.specs.Requests.{next_watch, add_watch, add_reached, add_of_reach, add_act, plain_act, act_of}
 use Rattle.spec_machine.specs.Sums.{SumRequest, sum_of_reads, sum_of_writes, sum_of_read_writes, given_in_turn}
 use Rattle.spec_machine.specs.Decisions.{Decision, NoAnswer, EndConnection, AmsError, Perform, refuse}
 use Rattle.spec_machine.specs.SumPackets.{acts_of, decide_parts, decide_single}
@@ -56,7 +56,7 @@ use Rattle.spec_laws.proofs.FirstMemory.{port_number}
 use Rattle.spec_laws.proofs.FineActs.{IsAsked, kept-placed, found-placed}
 use Rattle.spec_laws.proofs.Modest.{IsModestPort, IsModestPlant, accepted_are_modest, found_has, placed-small, entry-short, every_plant}
 use Rattle.spec_laws.proofs.ShortActs.{IsShort, short_if, short_refusal, short_fixed, short_reading}
-use Rattle.spec_laws.proofs.ShortActs.{short_writing, short_changing, fixed-within, reach-short, read-short}
+use Rattle.spec_laws.proofs.ShortActs.{short_writing, short_changing, fixed-within, reach-short, read-short, states-short}
 use Rattle.spec_laws.proofs.ShortActs.{value-short, if_found-short, grant-short, least-short, given-short}
 use Rattle.spec_laws.proofs.ShortSums.{IsPackedShort, reads-packed, writes-packed, read_writes-packed, more-packed, unrefused-short}
 use Rattle.spec_laws.proofs.ShortReplies.{payload-short, IsShortHeader, MaybeShort, header-short, response-short}
@@ -121,10 +121,10 @@ add_reached-limit c k mode len cycle (Ok places) =
     short_if greatest_len (len == 0) (Refusal invalid_size) (add_watch c (next_watch c k mode cycle places)) (short_refusal greatest_len invalid_size)
     (short_if greatest_len _ (Refusal _) _ (short_refusal greatest_len _) (short_changing greatest_len _ _ (omega arith)))
 
-add-limit : (c : Client) (k : Asker) (g : Option Group) (offset len cycle : ℕ) (mode : Option Mode) → IsShort greatest_len (add_act c k g offset len cycle mode)
-add-limit c k g offset len cycle None = short_refusal greatest_len _
-add-limit c k g offset len cycle (Some mode) =
-    short_if greatest_len _ _ _ (short_refusal greatest_len _) (add_reached-limit c k mode len cycle (reach_of c k.port g offset len))
+add-limit : (c : Client) (k : Asker) (len cycle : ℕ) (mode : Option Mode) (r : Result (List Addressed) ℕ)
+    → IsShort greatest_len (add_of_reach c k len cycle mode r)
+add-limit c k len cycle None r = short_refusal greatest_len _
+add-limit c k len cycle (Some mode) r = short_if greatest_len _ _ _ (short_refusal greatest_len _) (add_reached-limit c k mode len cycle r)
 
 read_write-limit : (d : Setup) (c : Client) (p : PlantPort) → IsKnown d.plant c p
     → (g : Option Group) (len : ℕ) (name : List ℕ) → IsShort greatest_len (read_write_group d c p g len name)
@@ -152,7 +152,7 @@ plain-limit d c k i (Read group offset len) = read-limit d c k.port i (answered_
 plain-limit d c k i (Write group offset bytes) = write_group-limit greatest_len c k (answered_group _ group) offset bytes
 plain-limit d c k i ReadState = short_reading greatest_len (map WholeByte (state_names k.port)) (omega arith)
 plain-limit d c k i (WriteControl ads device bytes) = control-limit greatest_len k ads device
-plain-limit d c k i (AddDeviceNotification group offset len mode delay cycle) = add-limit c k (answered_group _ group) offset len cycle _
+plain-limit d c k i (AddDeviceNotification group offset len mode delay cycle) = add-limit c k len cycle _ (reach_of c k.port (answered_group _ group) offset len)
 plain-limit d c k i (DeleteDeviceNotification handle) =
     short_if greatest_len _ _ _ (short_changing greatest_len [] (Deletes handle) (omega arith)) (short_refusal greatest_len _)
 plain-limit d c k i (DeviceNotification bytes) = short_fixed greatest_len [] (omega arith)
@@ -162,10 +162,19 @@ type-limit : (len : ℕ) (o : Option TypeTree) → IsShort greatest_len (if_type
 type-limit len None = short_refusal greatest_len symbol_not_found
 type-limit len (Some tree) = upload-short len (type_upload_bytes (entry_by_type tree ∷ []))
 
+states-limit : (port offset len : ℕ) → IsShort greatest_len (read_act (states_reach port offset len))
+states-limit port offset len =
+    read-short greatest_len (states_reach port offset len) (states-short greatest_len port offset len (λ h. omega (arith, h)))
+
 act-limit : (d : Setup) (c : Client) (k : Asker) → IsKnown d.plant c k.port → (r : Request) → IsShort greatest_len (act_of d c k r)
 act-limit d c k i r =
     act-cases d c k (IsShort greatest_len)
-    (record { types = λ len bytes. type-limit len (tree_of_text d.plant.types (up_to_nul bytes)) })
+    (record {
+      states = λ offset len. states-limit k.port.number offset len;
+      watched_states = λ offset len cycle mode. add-limit c k len cycle mode (states_reach k.port.number offset len);
+      watched_version = λ len cycle mode. add-limit c k len cycle mode (version_reach k.port.number len);
+      types = λ len bytes. type-limit len (tree_of_text d.plant.types (up_to_nul bytes));
+    })
     r (plain-limit d c k i (meant_by d.profile c k.port r))
 
 -- how many bytes a decision gives

@@ -15,7 +15,7 @@ use Rattle.spec_formats.specs.Groups.{SymbolUpload, UploadInfo, TypeUpload, Uplo
 use Rattle.spec_formats.specs.Ranges.{greatest_len, byte_range, bit_range, range_in}
 use Rattle.spec_formats.specs.Request.{Read, ReadWrite}
 use Rattle.spec_formats.specs.SymbolEntry.{entry_bytes}
-use Rattle.spec_machine.specs.World.{Setup, numbers_from, name_at, names_at}
+use Rattle.spec_machine.specs.World.{Setup, numbers_from, name_at, names_at, own_name, own_names, VERSION_AT}
 use Rattle.spec_machine.specs.Access.{Addressed, WholeByte, Put, value_at}
 use Rattle.spec_machine.specs.Handles.{HandleStatus, Never, Released, Outdated, Live, kept_status}
 use Rattle.spec_machine.specs.Client.{Place, Client, Effect}
@@ -29,8 +29,8 @@ use Rattle.spec_machine.specs.Writes.{Asker}
 use Rattle.spec_machine.specs.ByName.{place_of, grant_act, value_act, info_of, if_found, read_write_group}
 use Rattle.spec_machine.specs.Meanings.{read_len_in, value_len_in, up_to_nul, name_in}
 use Rattle.spec_machine.specs.TypesByText.{tree_of_text, entry_by_type}
-use Rattle.spec_machine.specs.MoreActs.{if_type, more_read_write}
-use Rattle.spec_machine.proofs.MoreActs.{of_more, read_write-more}
+use Rattle.spec_machine.specs.MoreActs.{if_type, states_reach, more_read, more_read_write}
+use Rattle.spec_machine.proofs.MoreActs.{of_more, read-more, read_write-more}
 use Rattle.spec_machine.specs.Requests.{plain_act, act_of}
 use Rattle.spec_machine.proofs.Meanings.{read_len-less, value_len-less}
 use Rattle.spec_laws.specs.RepliesFit.{NoMoreThanAsked}
@@ -146,6 +146,21 @@ reach-short most c p (Some (AreaBit a)) offset len h i j = bit-short most p a of
 reach-short most c p (Some ValueByHandle) offset len h i j = status-short most p.number (kept_status c.handles offset p.number) len j
 reach-short most c p g offset len h i j = reach_err most _
 
+pub states-short : (most port offset len : ℕ) → (len ≤ VERSION_AT → len ≤ most) → IsShortReach most (states_reach port offset len)
+unfolding own_names
+states-short most port offset len h =
+    elim (cases_Bool (nat_lt VERSION_AT offset)) [
+      | inl t ↦ rw t (reach_err most _)
+      | inr t ↦ elim (cases_Bool (nat_lt VERSION_AT (offset + len))) [
+        | inl u ↦ rw (t, u) (reach_err most _)
+        | inr u ↦
+            let within = ltb-false VERSION_AT (offset + len) u in
+            let l = h (omega (arith, within)) in
+            let e = length-names (own_name port) len offset in
+            rw (t, u) (record { short = omega (arith, l, e) })
+      ]
+    ]
+
 pub read-short : (most : ℕ) (r : Result (List Addressed) ℕ) → IsShortReach most r → IsShort most (read_act r)
 read-short most (Err code) h = short_refusal most code
 read-short most (Ok places) h = short_reading most places h.short
@@ -219,8 +234,11 @@ pub read-act-asked : (d : Setup) (c : Client) (k : Asker) (group offset len : �
 unfolding act_of plain_act
 read-act-asked d c k group offset len =
     let meant = read_len_in d.profile.manner c k.port (answered_group READ group) offset len in
-    short_more meant len _ (read_len-less d.profile.manner c k.port (answered_group READ group) offset len)
-    (read-asked d c k.port (answered_group READ group) offset meant)
+    of_more (IsShort len) (more_read d.profile.manner k.port.number group offset len) (read_group d c k.port (answered_group READ group) offset meant)
+    (read-more (IsShort len) d.profile.manner k.port.number group offset len
+    (read-short len (states_reach k.port.number offset len) (states-short len k.port.number offset len (λ h. omega arith))))
+    (short_more meant len _ (read_len-less d.profile.manner c k.port (answered_group READ group) offset len)
+    (read-asked d c k.port (answered_group READ group) offset meant))
 
 type-asked : (len : ℕ) (o : Option TypeTree) → IsShort len (if_type o len)
 type-asked len None = short_refusal len symbol_not_found

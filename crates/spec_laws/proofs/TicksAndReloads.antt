@@ -1,20 +1,21 @@
 -- What ticks and reloads do to a connection in two worlds that agree on what it reads.
 use Rattle.std.proofs.Common.{◌≡◌, ℕ, List, [], ◌∷◌, ◌++◌, Bool, true, false, cond, refl, sym, ◌∙◌, ap, subst, inl, inr}
-use Rattle.std.specs.Prelude.{Some, None, slice_get, option_map, filter_map, if◌then◌else◌}
+use Rattle.std.specs.Prelude.{Some, None, slice_get, get_or, option_map, filter_map, if◌then◌else◌}
 use Rattle.std.specs.List.{cons_option}
-use Rattle.std.proofs.lemmas.Bool.{cases_Bool}
-use Rattle.spec_plant.specs.World.{ByteName, Block, is_block_of, block_of, byte_at}
+use Rattle.std.proofs.lemmas.Bool.{cases_Bool, cases_eq}
+use Rattle.spec_plant.specs.World.{Part, SymbolPart, AreaPart, StatePart, ByteName, Block, is_block_of, block_of, byte_at, with_nth_byte}
+use Rattle.spec_plant.proofs.BlockLemmas.{nth-same, nth-other}
 use Rattle.spec_machine.specs.Device.{Produced, ClientOutcome}
 use Rattle.spec_machine.specs.Connection.{Connection, is_deaf}
 use Rattle.spec_machine.specs.Piece.{with_client}
 use Rattle.spec_machine.specs.Events.{after_client_outcome, connection_after_tick, connection_after_reload}
-use Rattle.spec_machine.specs.World.{World}
+use Rattle.spec_machine.specs.World.{World, VERSION_AT}
 use Rattle.spec_machine.specs.Access.{Addressed, values_at}
 use Rattle.spec_machine.specs.Watches.{Watch, is_due, is_sent, after_check, checked_watch, samples_of, watch_after_reload, watches_after_reload}
 use Rattle.spec_machine.specs.Client.{Client, Kept, are_kept, kept_bytes, client_after_reload}
 use Rattle.spec_machine.specs.Stamps.{frames_of_samples, samples_at, watches_after_tick}
 use Rattle.spec_machine.specs.Ticks.{client_after_tick}
-use Rattle.spec_machine.specs.Reloads.{is_kept, block_after_reload, memory_after_reload, client_reloaded}
+use Rattle.spec_machine.specs.Reloads.{is_kept, kept_block_bytes, block_after_reload, memory_after_reload, client_reloaded}
 use Rattle.spec_machine.specs.AdsDevice.{DescriptionReading, ads_device}
 use Rattle.spec_laws.proofs.Memory.{Agree, IsBlock, is_block-true}
 use Rattle.spec_laws.proofs.Footprints.{Each, values-agree}
@@ -109,6 +110,22 @@ reload-watches reading R now old new k e = go (is_deaf k)
     go true = e
     go false = subst (WatchesIn R) (sym (outcome-client o k)) (kept-in R (is_kept old.plant new.plant) k.client.watches e)
 
+-- a byte of a part after a reload follows from that byte before
+kept_byte : (part : Part) (xs ys first : List ℕ) (i : ℕ) → slice_get xs i ≡ slice_get ys i
+    → slice_get (kept_block_bytes part xs first) i ≡ slice_get (kept_block_bytes part ys first) i
+kept_byte (SymbolPart name) xs ys first i e = e
+kept_byte (AreaPart area) xs ys first i e = e
+kept_byte StatePart xs ys first i e =
+    elim (cases_eq VERSION_AT i) [
+      | inl q ↦
+          let P : ℕ → Type 0 = λ j. slice_get xs j ≡ slice_get ys j → slice_get (with_nth_byte xs VERSION_AT f) j ≡ slice_get (with_nth_byte ys VERSION_AT f) j in
+          subst P q (λ d. nth-same VERSION_AT f xs ∙ ap (option_map f) d ∙ sym (nth-same VERSION_AT f ys)) e
+      | inr ne ↦ nth-other VERSION_AT i f xs (λ q. ne (sym q)) ∙ e ∙ sym (nth-other VERSION_AT i f ys (λ q. ne (sym q)))
+    ]
+  where
+    f : ℕ → ℕ
+    f was = get_or first VERSION_AT 0
+
 block-at : (kept : Kept) (m w : List Block) (n : ByteName) (b : Block) → IsBlock n.port n.part b → byte_at m n ≡ byte_at w n
     → slice_get (block_after_reload kept m b).bytes n.index ≡ slice_get (block_after_reload kept w b).bytes n.index
 unfolding byte_at
@@ -116,7 +133,7 @@ block-at kept m w n b i e =
     elim (cases_Bool (kept b.port b.part)) [
       | inl t ↦
           let f : slice_get (block_of m b.port b.part) n.index ≡ slice_get (block_of w b.port b.part) n.index = rw (i.same_port, i.same_part) e in
-          rw t f
+          rw t (kept_byte b.part (block_of m b.port b.part) (block_of w b.port b.part) b.bytes n.index f)
       | inr t ↦ rw t refl
     ]
 

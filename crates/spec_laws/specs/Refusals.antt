@@ -13,7 +13,7 @@ use Rattle.spec_machine.specs.Device.{DescriptionFault}
 use Rattle.spec_machine.specs.Connection.{Connection, connection_of}
 use Rattle.spec_machine.specs.MachineState.{MachineState}
 use Rattle.spec_machine.specs.Moves.{state_after_move, state_after}
-use Rattle.spec_machine.specs.Profile.{Profile}
+use Rattle.spec_machine.specs.Manner.{Manner, Strict, Wide}
 use Rattle.spec_machine.specs.World.{World, Setup, setup_of}
 use Rattle.spec_machine.specs.Handles.{HandleStatus, Never, Released, Outdated, Live, kept_status}
 use Rattle.spec_machine.specs.Watches.{Mode}
@@ -23,6 +23,7 @@ use Rattle.spec_machine.specs.Answers.{answered_group, READ, WRITE}
 use Rattle.spec_machine.specs.Answers.{ADD_DEVICE_NOTIFICATION}
 use Rattle.spec_machine.specs.Writes.{Asker, may_write}
 use Rattle.spec_machine.specs.Meanings.{mode_in}
+use Rattle.spec_machine.specs.MoreActs.{is_own_group}
 use Rattle.spec_machine.specs.Requests.{MAX_WATCHED, mode_of, act_of}
 use Rattle.spec_machine.specs.Decisions.{Decision, NoAnswer, EndConnection, AmsError, Perform}
 use Rattle.spec_machine.specs.Packets.{decide}
@@ -98,17 +99,21 @@ pub record RefusesHandle (d : Setup) (c : Client) (k : Asker) (handle code : ℕ
 abbrev pub IsRefused : Act → Type 0
 IsRefused a = (code : ℕ) × (a ≡ Refusal code)
 
+-- a group that additions do not have
+abbrev pub IsUnwatched : Manner → ℕ → Type 0
+IsUnwatched Strict group = answered_group ADD_DEVICE_NOTIFICATION group ≡ None
+IsUnwatched Wide group = (answered_group ADD_DEVICE_NOTIFICATION group ≡ None) × (is_own_group group ≡ false)
+
 -- an addition of a mode that the server does not know, of too many bytes or of none, or of a group that additions do not
 -- have
-abbrev pub IsBadAddition : Profile → ℕ → ℕ → ℕ → Type 0
-IsBadAddition profile group len number =
-    (mode_of (mode_in profile.manner number) ≡ None) ⊎ ((MAX_WATCHED < len) ⊎ ((len ≡ 0)
-    ⊎ (answered_group ADD_DEVICE_NOTIFICATION group ≡ None)))
+abbrev pub IsBadAddition : Manner → ℕ → ℕ → ℕ → Type 0
+IsBadAddition manner group len number =
+    (mode_of (mode_in manner number) ≡ None) ⊎ ((MAX_WATCHED < len) ⊎ ((len ≡ 0) ⊎ IsUnwatched manner group))
 
 -- Such an addition is refused, and so touches no name.
 abbrev pub BadAdditionsAreRefused : Type 0
 BadAdditionsAreRefused = (d : Setup) (c : Client) (k : Asker)
-    (group offset len number delay cycle : ℕ) → IsBadAddition d.profile group len number
+    (group offset len number delay cycle : ℕ) → IsBadAddition d.profile.manner group len number
     → IsRefused (act_of d c k (AddDeviceNotification group offset len number delay cycle))
 
 -- any access by such a handle, whatever is asked and whatever is answered

@@ -6,7 +6,7 @@ use Rattle.spec_plant.specs.Description.{Area, Inputs, Outputs, Memory, Process,
 use Rattle.spec_plant.specs.World.{Block, Part, SymbolPart, AreaPart, StatePart, PlantSymbol, PlantPort, lower_name, block_of}
 use Rattle.spec_plant.specs.Named.{port_numbered, symbol_named}
 use Rattle.spec_plant.specs.Sound.{Each}
-use Rattle.spec_machine.specs.World.{first_area_block, first_symbol_block, first_blocks, state_bytes, RUN}
+use Rattle.spec_machine.specs.World.{first_area_block, first_symbol_block, first_blocks, own_bytes, RUN}
 
 abbrev area_blocks : PlantPort → List Block
 area_blocks p = map (first_area_block p) (Inputs ∷ Outputs ∷ Memory ∷ Process ∷ [])
@@ -24,28 +24,28 @@ symbol_blocks-port : (p : PlantPort) (ss : List PlantSymbol) (rest : List Block)
 symbol_blocks-port p [] rest e = e
 symbol_blocks-port p (s ∷ ss) rest e = (refl, symbol_blocks-port p ss rest e)
 
-first_blocks-port : (p : PlantPort) → Each (λ (b : Block). b.port ≡ p.number) (first_blocks p)
-first_blocks-port p = (refl, symbol_blocks-port p p.symbols (area_blocks p) (refl, (refl, (refl, (refl, tt)))))
+first_blocks-port : (v : ℕ) (p : PlantPort) → Each (λ (b : Block). b.port ≡ p.number) (first_blocks v p)
+first_blocks-port v p = (refl, symbol_blocks-port p p.symbols (area_blocks p) (refl, (refl, (refl, (refl, tt)))))
 
 -- the blocks of a port among those of all
-of_port : (n : ℕ) (part : Part) (p : PlantPort) (ps : List PlantPort) → port_numbered n ps ≡ Some p
-    → (rest : List Block) × (block_of (flat_map first_blocks ps) n part ≡ block_of (first_blocks p ++ rest) n part) × (p.number ≡ n)
-of_port n part p [] e = cc
-of_port n part p (q ∷ qs) e =
+of_port : (v n : ℕ) (part : Part) (p : PlantPort) (ps : List PlantPort) → port_numbered n ps ≡ Some p
+    → (rest : List Block) × (block_of (flat_map (first_blocks v) ps) n part ≡ block_of (first_blocks v p ++ rest) n part) × (p.number ≡ n)
+of_port v n part p [] e = cc
+of_port v n part p (q ∷ qs) e =
     elim (cases_Bool (q.number == n)) [
       | inl t ↦
           let f : Some q ≡ Some p = rw t at e in
           let g : q ≡ p = cc in (
-            flat_map first_blocks qs,
-            ap (λ (x : PlantPort). block_of (first_blocks x ++ flat_map first_blocks qs) n part) g,
+            flat_map (first_blocks v) qs,
+            ap (λ (x : PlantPort). block_of (first_blocks v x ++ flat_map (first_blocks v) qs) n part) g,
             sym
                 (ap (λ (x : PlantPort). x.number) g) ∙ eqb-true q.number n t,
           )
       | inr t ↦
           let f : port_numbered n qs ≡ Some p = rw t at e in
-          let r = of_port n part p qs f in
+          let r = of_port v n part p qs f in
           let ne : q.number ≢ n = λ s. false≢true (sym t ∙ eq-eqb q.number n s) in
-          (r.0, skip_port n part q.number ne (first_blocks q) (flat_map first_blocks qs) (first_blocks-port q) ∙ r.1, r.2)
+          (r.0, skip_port n part q.number ne (first_blocks v q) (flat_map (first_blocks v) qs) (first_blocks-port v q) ∙ r.1, r.2)
     ]
 
 symbol-at : (p : PlantPort) (name : List ℕ) (s : PlantSymbol) (ss : List PlantSymbol) (rest : List Block) → symbol_named name ss ≡ Some s
@@ -59,20 +59,20 @@ symbol-at p name s (x ∷ xs) rest e =
     ]
 
 -- a symbol begins with its initial bytes
-pub first-symbol : (n : ℕ) (name : List ℕ) (p : PlantPort) (s : PlantSymbol) (ps : List PlantPort) → port_numbered n ps ≡ Some p
-    → symbol_named name p.symbols ≡ Some s → block_of (flat_map first_blocks ps) n (SymbolPart name) ≡ s.initial
-first-symbol n name p s ps e f =
-    let r = of_port n (SymbolPart name) p ps e in
+pub first-symbol : (v n : ℕ) (name : List ℕ) (p : PlantPort) (s : PlantSymbol) (ps : List PlantPort) → port_numbered n ps ≡ Some p
+    → symbol_named name p.symbols ≡ Some s → block_of (flat_map (first_blocks v) ps) n (SymbolPart name) ≡ s.initial
+first-symbol v n name p s ps e f =
+    let r = of_port v n (SymbolPart name) p ps e in
     let same = eq-eqb p.number p.number refl in
-    let P : ℕ → Type 0 = λ m. block_of (first_blocks p ++ r.0) m (SymbolPart name) ≡ s.initial in
+    let P : ℕ → Type 0 = λ m. block_of (first_blocks v p ++ r.0) m (SymbolPart name) ≡ s.initial in
     r.1 ∙ subst P (r.2) (rw (same, append_assoc (map (first_symbol_block p) p.symbols) (area_blocks p) (r.0))
     (symbol-at p name s p.symbols (area_blocks p ++ r.0) f))
 
--- the state words are those of a port that runs
-pub first-states : (n : ℕ) (p : PlantPort) (ps : List PlantPort) → port_numbered n ps ≡ Some p
-    → block_of (flat_map first_blocks ps) n StatePart ≡ state_bytes RUN 0
-first-states n p ps e =
-    let r = of_port n StatePart p ps e in
+-- the own bytes are those of a port that runs, with the version
+pub first-own : (v n : ℕ) (p : PlantPort) (ps : List PlantPort) → port_numbered n ps ≡ Some p
+    → block_of (flat_map (first_blocks v) ps) n StatePart ≡ own_bytes RUN 0 v
+first-own v n p ps e =
+    let r = of_port v n StatePart p ps e in
     let same = eq-eqb p.number n (r.2) in
     r.1 ∙ rw same refl
 
@@ -88,12 +88,12 @@ area-at p Memory rest = let same = eq-eqb p.number p.number refl in rw same refl
 area-at p Process rest = let same = eq-eqb p.number p.number refl in rw same refl
 
 -- an area's block is zeros
-pub first-area : (n : ℕ) (a : Area) (p : PlantPort) (ps : List PlantPort) → port_numbered n ps ≡ Some p
-    → block_of (flat_map first_blocks ps) n (AreaPart a) ≡ replicate (size_in p.sizes a) 0
-first-area n a p ps e =
-    let r = of_port n (AreaPart a) p ps e in
+pub first-area : (v n : ℕ) (a : Area) (p : PlantPort) (ps : List PlantPort) → port_numbered n ps ≡ Some p
+    → block_of (flat_map (first_blocks v) ps) n (AreaPart a) ≡ replicate (size_in p.sizes a) 0
+first-area v n a p ps e =
+    let r = of_port v n (AreaPart a) p ps e in
     let same = eq-eqb p.number p.number refl in
-    let P : ℕ → Type 0 = λ m. block_of (first_blocks p ++ r.0) m (AreaPart a) ≡ replicate (size_in p.sizes a) 0 in
+    let P : ℕ → Type 0 = λ m. block_of (first_blocks v p ++ r.0) m (AreaPart a) ≡ replicate (size_in p.sizes a) 0 in
     r.1 ∙ subst P (r.2)
     (rw (same, append_assoc (map (first_symbol_block p) p.symbols) (area_blocks p) (r.0), skip_symbols p a p.symbols (area_blocks p ++ r.0))
     (area-at p a (r.0)))

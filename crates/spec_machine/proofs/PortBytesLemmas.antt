@@ -8,11 +8,11 @@ use Rattle.spec_plant.specs.World.{ByteName, Block, PlantPort, byte_at, byte_or_
 use Rattle.spec_plant.specs.Named.{AreNamedApart}
 use Rattle.spec_plant.specs.Sound.{Each}
 use Rattle.spec_plant.proofs.BlockLemmas.{byte_at-same, byte_at-other, nth-same, nth-other, nth-length, cases_name}
-use Rattle.spec_machine.specs.World.{numbers_from, name_at, names_at, state_bytes}
+use Rattle.spec_machine.specs.World.{numbers_from, name_at, names_at, own_name, own_names, own_bytes}
 use Rattle.spec_machine.specs.Access.{WholeByte, addressed_name, values_at, with_bit, Put, puts_of, byte_after, memory_after_put, memory_after_puts}
 use Rattle.spec_machine.specs.AreaNames.{IsOneByte}
-use Rattle.spec_machine.specs.PortBytes.{PortBytes, start_in, state_name, Holds}
-use Rattle.spec_machine.specs.PortLaws.{ReadsImage, ReadsBit, ReadsStates, WritesImage, WritesBit, IsAtAnotherPort, LeavesOtherPorts}
+use Rattle.spec_machine.specs.PortBytes.{PortBytes, start_in, Holds}
+use Rattle.spec_machine.specs.PortLaws.{ReadsImage, ReadsBit, ReadsStates, ReadsOwn, WritesImage, WritesBit, IsAtAnotherPort, LeavesOtherPorts}
 use Rattle.spec_machine.proofs.AreaNames.{names_are_one_to_one, names_are_of_areas}
 use Rattle.spec_machine.proofs.ImageLemmas.{written, written-nothing, written-first, one_place, area_within, same_place}
 
@@ -42,9 +42,28 @@ reads_bit memory p b area offset bit h u = ap (λ o. (unwrap_or o 0 / 2 ^ bit) %
 
 pub reads_states : ReadsStates
 reads_states memory p b h =
-    let byte : (k : ℕ) → k < 4 → byte_or_zero memory (state_name p k) ≡ unwrap_or (slice_get (state_bytes b.ads b.device) k) 0
-    = λ k u. ap (λ o. unwrap_or o 0) (h.states k u) in
+    let byte : (k : ℕ) → k < 5 → byte_or_zero memory (own_name p.number k) ≡ unwrap_or (slice_get (own_bytes b.ads b.device b.version) k) 0
+    = λ k u. ap (λ o. unwrap_or o 0) (h.own k u) in
     rw (byte 0 (omega arith), byte 1 (omega arith), byte 2 (omega arith), byte 3 (omega arith)) refl
+
+-- a port's own bytes that are read one behind another
+own_run : (memory : List Block) (p : PlantPort) (b : PortBytes) → Holds memory p b → (len first : ℕ) → first + len ≤ 5
+    → values_at memory (map WholeByte (map (own_name p.number) (numbers_from first len))) ≡ take len (drop first (own_bytes b.ads b.device b.version))
+unfolding numbers_from
+own_run memory p b h zero first u = refl
+own_run memory p b h (suc len) first u =
+    let bytes : List ℕ = own_bytes b.ads b.device b.version in
+    let inside : first < length bytes = omega (arith, u) in
+    let head : byte_or_zero memory (own_name p.number first) ≡ get_or bytes first 0 = ap (λ o. unwrap_or o 0) (h.own first (omega (arith, u)))
+    ∙ unwrap_or-slice_get bytes first 0 in
+    let next : first + 1 ≡ suc first = omega arith in
+    let rest = own_run memory p b h len (first + 1) (omega (arith, u)) ∙ ap (λ n. take len (drop n bytes)) next in
+    ap (λ x. x ∷ values_at memory (map WholeByte (map (own_name p.number) (numbers_from (first + 1) len)))) head
+    ∙ ap (λ xs. get_or bytes first 0 ∷ xs) rest ∙ sym (ap (take (suc len)) (drop-cons bytes first 0 inside))
+
+pub reads_own : ReadsOwn
+unfolding own_names
+reads_own memory p b first len h u = own_run memory p b h len first u
 
 -- one byte of an area is changed
 changed : (memory : List Block) (p : PlantPort) (b : PortBytes) (area : Area) (offset : ℕ) (f : ℕ → ℕ) → AreNamedApart p.symbols → Holds memory p b
@@ -64,7 +83,7 @@ changed memory p b area offset f apart h u =
             let differ : start_in p.sizes other + i ≢ at_ = λ q. ne (one_name other i (one_place p.sizes area other offset i u v (sym q))) in
             byte_at-other memory n (name_at p other i) f ne ∙ h.areas other i v ∙ sym (nth-other at_ (start_in p.sizes other + i) f b.image differ)
       ];
-      states = λ k v. byte_at-other memory n (state_name p k) f (λ e. (names_are_of_areas p area offset).part (ap (λ (x : ByteName). x.part) e)) ∙ h.states k v;
+      own = λ k v. byte_at-other memory n (own_name p.number k) f (λ e. (names_are_of_areas p area offset).part (ap (λ (x : ByteName). x.part) e)) ∙ h.own k v;
     }
   where
     one_name : (other : Area) (i : ℕ) → IsOneByte area other offset i → name_at p area offset ≡ name_at p other i
@@ -115,7 +134,7 @@ pub holds_along : (memory after : List Block) (p : PlantPort) (b : PortBytes) �
 holds_along memory after p b same h = record {
   long = h.long;
   areas = λ area offset u. same (name_at p area offset) (names_are_of_areas p area offset).port ∙ h.areas area offset u;
-  states = λ k u. same (state_name p k) refl ∙ h.states k u;
+  own = λ k u. same (own_name p.number k) refl ∙ h.own k u;
 }
 
 puts-other : (p : PlantPort) (puts : List Put) (memory : List Block) → Each (IsAtAnotherPort p) puts → (n : ByteName) → n.port ≡ p.number

@@ -1,11 +1,11 @@
--- Ranges that are watched are moved as the names of their bytes.
+-- What is watched is moved as the names of its bytes.
 use Rattle.std.proofs.Common.{◌≡◌, ℕ, zero, suc, ◌+◌, ◌-◌, ◌<◌, ◌≤◌, List, [], ◌∷◌, map, Bool, true, false, refl, sym, ◌∙◌, ap, subst, inl, inr, arith}
 use Rattle.std.specs.Prelude.{Option, Some, None, slice_get, ◌==◌, ◌&&◌, nat_le, nat_lt, is_some}
-use Rattle.std.specs.List.{list_all}
+use Rattle.std.specs.List.{list_all, list_any}
 use Rattle.std.specs.Option.{option_map_or}
 use Rattle.std.proofs.lemmas.Bool.{cases_Bool, and_parts, and_from, eqb-true, eq-eqb, leb-true, ltb-true, le-leb, lt-ltb, false≢true}
 use Rattle.spec_plant.specs.Description.{Area, size_in}
-use Rattle.spec_plant.specs.World.{Plant, PlantPort, PlantSymbol, Part, SymbolPart, AreaPart, ByteName, symbol_size, lower_name, is_same_area, is_same_part}
+use Rattle.spec_plant.specs.World.{Plant, PlantPort, PlantSymbol, Part, SymbolPart, AreaPart, StatePart, ByteName, symbol_size, lower_name, is_same_area, is_same_part}
 use Rattle.spec_plant.specs.Named.{port_numbered, symbol_named}
 use Rattle.spec_plant.specs.Sound.{Each, IsSoundSymbol, IsSoundPort, IsSoundPlant}
 use Rattle.spec_plant.proofs.BlockLemmas.{same_area-true, same_area-refl, same_part-true, same_part-refl, tells_names_apart}
@@ -13,17 +13,17 @@ use Rattle.spec_plant.proofs.SoundLemmas.{each-get, port_sound, port_number}
 use Rattle.spec_plant.proofs.CoveringLemmas.{stands_at}
 use Rattle.spec_plant.proofs.SameSizes.{same_type-size}
 use Rattle.spec_formats.specs.Ranges.{Range, Bytes, Bit, Size}
-use Rattle.spec_machine.specs.World.{numbers_from, name_at, names_at, symbol_names}
+use Rattle.spec_machine.specs.World.{numbers_from, name_at, names_at, symbol_names, own_name, own_names, OWN_SIZE}
 use Rattle.spec_machine.specs.Access.{Addressed, WholeByte, OneBit}
 use Rattle.spec_machine.specs.Client.{Kept, is_in_part, are_kept, kept_bytes}
 use Rattle.spec_machine.specs.Reloads.{is_kept, is_kept_part}
 use Rattle.spec_machine.specs.HandleLaws.{AgreeingPlaces}
 use Rattle.spec_machine.specs.AreaNames.{is_covered}
 use Rattle.spec_machine.specs.NumberedPlaces.{NumberedPlace, KeptSymbol, IsEntryOf, is_entry_of_symbol, entry_of_symbol, AreKeptSymbols}
-use Rattle.spec_machine.specs.WatchedRanges.{is_same_addressed, are_same_addressed, is_range_at, is_same_range, has_bytes, entry_of_bytes, bytes_of_entry}
-use Rattle.spec_machine.specs.WatchedRanges.{bit_of_entry, moved_range, RangesMoveAlike}
+use Rattle.spec_machine.specs.WatchedRanges.{is_same_addressed, are_same_addressed, is_range_at, is_watched_at, is_same_watched, has_bytes, entry_of_bytes, bytes_of_entry}
+use Rattle.spec_machine.specs.WatchedRanges.{Watched, InArea, Own, bit_of_entry, moved_watched, numbers_of, WatchedMoveAlike}
 use Rattle.spec_machine.proofs.AreaNames.{tiles_give_names, spans_give_names}
-use Rattle.spec_machine.proofs.Reloaded.{IsCoveredBy, covered_by}
+use Rattle.spec_machine.proofs.Reloaded.{IsCoveredBy, covered_by, part-kept}
 use Rattle.spec_machine.proofs.WritableBytes.{run-nth}
 use Rattle.spec_machine.proofs.PlacesMoved.{entry_is_kept, found_entry}
 
@@ -63,6 +63,10 @@ all_in_part port name (k ∷ ks) =
     let p = eq-eqb port port refl in
     let q = same_part-refl (SymbolPart name) in
     rw (p, q) (all_in_part port name ks)
+
+all_own : (port : ℕ) (ks : List ℕ) → list_all (is_in_part port StatePart) (map WholeByte (map (own_name port) ks)) ≡ true
+all_own port [] = refl
+all_own port (k ∷ ks) = let p = eq-eqb port port refl in rw p (all_own port ks)
 
 symbol_kept : (kept : Kept) (port : ℕ) (name : List ℕ) (first len : ℕ) → kept port (SymbolPart name) ≡ true → 0 < len
     → are_kept kept (map WholeByte (symbol_names port name first len)) ≡ true
@@ -297,23 +301,23 @@ kept_has_entry old new kept port p area first (suc len) so are found some t =
 
 -- the law, for bytes and for a bit
 
--- what a range of a port names
-record IsRangeOf (ports : List PlantPort) (port : ℕ) (watched : List Addressed) (range : Range) : Type 0 where
+-- what is watched at a port
+record IsWatchedOf (ports : List PlantPort) (port : ℕ) (named : List Addressed) (watched : Watched) : Type 0 where
   at_port : PlantPort
   port_found : port_numbered port ports ≡ Some at_port
-  is_range : is_range_at watched range at_port ≡ true
+  is_watched : is_watched_at named watched at_port ≡ true
 
-range_parts : (ports : List PlantPort) (port : ℕ) (watched : List Addressed) (range : Range) → is_same_range ports port watched range ≡ true
-    → IsRangeOf ports port watched range
-range_parts ports port watched range t = go (port_numbered port ports) refl t
+watched_parts : (ports : List PlantPort) (port : ℕ) (named : List Addressed) (watched : Watched) → is_same_watched ports port named watched ≡ true
+    → IsWatchedOf ports port named watched
+watched_parts ports port named watched t = go (port_numbered port ports) refl t
   where
-    go : (o : Option PlantPort) → port_numbered port ports ≡ o → option_map_or (is_range_at watched range) o false ≡ true → IsRangeOf ports port watched range
+    go : (o : Option PlantPort) → port_numbered port ports ≡ o → option_map_or (is_watched_at named watched) o false ≡ true → IsWatchedOf ports port named watched
     go None e u = absurd (false≢true u)
-    go (Some p) e u = record { at_port = p; port_found = e; is_range = u }
+    go (Some p) e u = record { at_port = p; port_found = e; is_watched = u }
 
-range_from : (ports : List PlantPort) (port : ℕ) (watched : List Addressed) (range : Range) (p : PlantPort) → port_numbered port ports ≡ Some p
-    → is_range_at watched range p ≡ true → is_same_range ports port watched range ≡ true
-range_from ports port watched range p e t = ap (λ o. option_map_or (is_range_at watched range) o false) e ∙ t
+watched_from : (ports : List PlantPort) (port : ℕ) (named : List Addressed) (watched : Watched) (p : PlantPort) → port_numbered port ports ≡ Some p
+    → is_watched_at named watched p ≡ true → is_same_watched ports port named watched ≡ true
+watched_from ports port named watched p e t = ap (λ o. option_map_or (is_watched_at named watched) o false) e ∙ t
 
 bytes_of_range : (watched : List Addressed) (area : Area) (offset len : ℕ) (p : PlantPort) → is_range_at watched (Bytes area offset len) p ≡ true
     → (0 < len) × (watched ≡ map WholeByte (names_at p area offset len))
@@ -329,20 +333,20 @@ bit_of_range watched area offset bit p t =
     let names : List Addressed = OneBit (name_at p area offset) bit ∷ [] in
     are_same-true watched names ((and_parts (nat_lt offset (size_in p.sizes area)) (are_same_addressed watched names) t).1)
 
-bytes_alike : (old new : Plant) (kept : List KeptSymbol) → IsSoundPlant old → IsSoundPlant new → AreKeptSymbols old new kept
+bytes_alike : (old new : Plant) (kept : List KeptSymbol) (numbers : List ℕ) → IsSoundPlant old → IsSoundPlant new → AreKeptSymbols old new kept
     → (port : ℕ) (watched : List Addressed) (area : Area) (offset len : ℕ)
-    → is_same_range old.ports port watched (Bytes area offset len) ≡ true
-    → AgreeingPlaces (is_same_range new.ports) port (kept_bytes (is_kept old new) port watched) (moved_range kept port (Bytes area offset len))
-bytes_alike old new kept so sn are port watched area offset len t = go (entry_of_bytes kept port area offset len) refl (are_kept (is_kept old new) watched) refl
+    → is_same_watched old.ports port watched (InArea (Bytes area offset len)) ≡ true
+    → AgreeingPlaces (is_same_watched new.ports) port (kept_bytes (is_kept old new) port watched) (moved_watched kept numbers port (InArea (Bytes area offset len)))
+bytes_alike old new kept numbers so sn are port watched area offset len t = go (entry_of_bytes kept port area offset len) refl (are_kept (is_kept old new) watched) refl
   where
-    i : IsRangeOf old.ports port watched (Bytes area offset len)
-    i = range_parts old.ports port watched (Bytes area offset len) t
+    i : IsWatchedOf old.ports port watched (InArea (Bytes area offset len))
+    i = watched_parts old.ports port watched (InArea (Bytes area offset len)) t
 
     some : 0 < len
-    some = (bytes_of_range watched area offset len i.at_port i.is_range).0
+    some = (bytes_of_range watched area offset len i.at_port i.is_watched).0
 
     names : watched ≡ map WholeByte (names_at i.at_port area offset len)
-    names = (bytes_of_range watched area offset len i.at_port i.is_range).1
+    names = (bytes_of_range watched area offset len i.at_port i.is_watched).1
 
     kept_watched : are_kept (is_kept old new) watched ≡ are_kept (is_kept old new) (map WholeByte (names_at i.at_port area offset len))
     kept_watched = ap (are_kept (is_kept old new)) names
@@ -351,7 +355,7 @@ bytes_alike old new kept so sn are port watched area offset len t = go (entry_of
     moved_to e f = let both =
         found_bytes old new port area offset len kept are.each e f in moved old new port i.at_port area offset len e so sn i.port_found both.0 both.1
 
-    there : (e : KeptSymbol) → IsMoved old new port i.at_port area offset len e → is_same_range new.ports port watched (bytes_of_entry offset len e) ≡ true
+    there : (e : KeptSymbol) → IsMoved old new port i.at_port area offset len e → is_same_watched new.ports port watched (InArea (bytes_of_entry offset len e)) ≡ true
     there e m =
         let first : ℕ = e.after.first + (offset - e.before.first) in
         let watched_is : watched ≡ map WholeByte (names_at m.at_port e.after.area first len) = names ∙ ap (map WholeByte) m.names in
@@ -359,11 +363,11 @@ bytes_alike old new kept so sn are port watched area offset len t = go (entry_of
         = ap (are_same_addressed watched) (sym watched_is) ∙ are_same-refl watched in
         let a = lt-ltb 0 len some in
         let b = le-leb (first + len) (size_in m.at_port.sizes e.after.area) m.within in
-        range_from new.ports port watched (bytes_of_entry offset len e) m.at_port m.port_found
+        watched_from new.ports port watched (InArea (bytes_of_entry offset len e)) m.at_port m.port_found
         (and_from (nat_lt 0 len && nat_le (first + len) (size_in m.at_port.sizes e.after.area)) _ (and_from (nat_lt 0 len) _ a b) same)
 
     go : (o : Option KeptSymbol) → entry_of_bytes kept port area offset len ≡ o → (k : Bool) → are_kept (is_kept old new) watched ≡ k
-        → AgreeingPlaces (is_same_range new.ports) port (kept_bytes (is_kept old new) port watched) (moved_range kept port (Bytes area offset len))
+        → AgreeingPlaces (is_same_watched new.ports) port (kept_bytes (is_kept old new) port watched) (moved_watched kept numbers port (InArea (Bytes area offset len)))
     go (Some e) f true g = rw (g, f) (there e (moved_to e f))
     go (Some e) f false g = absurd (false≢true (sym g ∙ kept_watched ∙ (moved_to e f).kept some))
     go None f true g =
@@ -375,20 +379,20 @@ single : (p : PlantPort) (area : Area) (offset : ℕ) → names_at p area offset
 unfolding names_at numbers_from
 single p area offset = refl
 
-bit_alike : (old new : Plant) (kept : List KeptSymbol) → IsSoundPlant old → IsSoundPlant new → AreKeptSymbols old new kept
+bit_alike : (old new : Plant) (kept : List KeptSymbol) (numbers : List ℕ) → IsSoundPlant old → IsSoundPlant new → AreKeptSymbols old new kept
     → (port : ℕ) (watched : List Addressed) (area : Area) (offset bit : ℕ)
-    → is_same_range old.ports port watched (Bit area offset bit) ≡ true
-    → AgreeingPlaces (is_same_range new.ports) port (kept_bytes (is_kept old new) port watched) (moved_range kept port (Bit area offset bit))
-bit_alike old new kept so sn are port watched area offset bit t = go (entry_of_bytes kept port area offset 1) refl (are_kept (is_kept old new) watched) refl
+    → is_same_watched old.ports port watched (InArea (Bit area offset bit)) ≡ true
+    → AgreeingPlaces (is_same_watched new.ports) port (kept_bytes (is_kept old new) port watched) (moved_watched kept numbers port (InArea (Bit area offset bit)))
+bit_alike old new kept numbers so sn are port watched area offset bit t = go (entry_of_bytes kept port area offset 1) refl (are_kept (is_kept old new) watched) refl
   where
-    i : IsRangeOf old.ports port watched (Bit area offset bit)
-    i = range_parts old.ports port watched (Bit area offset bit) t
+    i : IsWatchedOf old.ports port watched (InArea (Bit area offset bit))
+    i = watched_parts old.ports port watched (InArea (Bit area offset bit)) t
 
     some : 0 < 1
     some = omega arith
 
     names : watched ≡ OneBit (name_at i.at_port area offset) bit ∷ []
-    names = bit_of_range watched area offset bit i.at_port i.is_range
+    names = bit_of_range watched area offset bit i.at_port i.is_watched
 
     kept_watched : are_kept (is_kept old new) watched ≡ are_kept (is_kept old new) (map WholeByte (names_at i.at_port area offset 1))
     kept_watched = ap (are_kept (is_kept old new)) names ∙ sym (ap (λ ns. are_kept (is_kept old new) (map WholeByte ns)) (single i.at_port area offset))
@@ -401,7 +405,7 @@ bit_alike old new kept so sn are port watched area offset bit t = go (entry_of_b
     first_of n [] = n
     first_of n (m ∷ ms) = m
 
-    there : (e : KeptSymbol) → IsMoved old new port i.at_port area offset 1 e → is_same_range new.ports port watched (bit_of_entry offset bit e) ≡ true
+    there : (e : KeptSymbol) → IsMoved old new port i.at_port area offset 1 e → is_same_watched new.ports port watched (InArea (bit_of_entry offset bit e)) ≡ true
     there e m =
         let first : ℕ = e.after.first + (offset - e.before.first) in
         let head : name_at i.at_port area offset ≡ name_at m.at_port e.after.area first
@@ -411,11 +415,11 @@ bit_alike old new kept so sn are port watched area offset bit t = go (entry_of_b
         = ap (are_same_addressed watched) (sym watched_is) ∙ are_same-refl watched in
         let within = m.within in
         let a = lt-ltb first (size_in m.at_port.sizes e.after.area) (omega (arith, within)) in
-        range_from new.ports port watched (bit_of_entry offset bit e) m.at_port m.port_found
+        watched_from new.ports port watched (InArea (bit_of_entry offset bit e)) m.at_port m.port_found
         (and_from (nat_lt first (size_in m.at_port.sizes e.after.area)) _ a same)
 
     go : (o : Option KeptSymbol) → entry_of_bytes kept port area offset 1 ≡ o → (k : Bool) → are_kept (is_kept old new) watched ≡ k
-        → AgreeingPlaces (is_same_range new.ports) port (kept_bytes (is_kept old new) port watched) (moved_range kept port (Bit area offset bit))
+        → AgreeingPlaces (is_same_watched new.ports) port (kept_bytes (is_kept old new) port watched) (moved_watched kept numbers port (InArea (Bit area offset bit)))
     go (Some e) f true g = rw (g, f) (there e (moved_to e f))
     go (Some e) f false g = absurd (false≢true (sym g ∙ kept_watched ∙ (moved_to e f).kept some))
     go None f true g =
@@ -423,8 +427,83 @@ bit_alike old new kept so sn are port watched area offset bit t = go (entry_of_b
         ∙ kept_has_entry old new kept port i.at_port area offset 1 so are i.port_found some (sym kept_watched ∙ g)))
     go None f false g = rw (g, f) tt
 
-pub ranges_move_alike : RangesMoveAlike
-ranges_move_alike old new kept so sn are port watched (Bytes area offset len) t = bytes_alike old new kept so sn are port watched area offset len t
-ranges_move_alike old new kept so sn are port watched (Bit area offset bit) t = bit_alike old new kept so sn are port watched area offset bit t
-ranges_move_alike old new kept so sn are port watched (Size area) t =
-    let i = range_parts old.ports port watched (Size area) t in absurd (false≢true i.is_range)
+-- a port's own bytes
+
+own_kept : (kept : Kept) (port first len : ℕ) → kept port StatePart ≡ true → 0 < len → are_kept kept (map WholeByte (own_names port first len)) ≡ true
+unfolding own_names numbers_from
+own_kept kept port first zero t h = absurd (omega (arith, h))
+own_kept kept port first (suc len) t h = and_from (kept port StatePart) _ t (all_own port (numbers_from (first + 1) len))
+
+own_not_kept : (kept : Kept) (port first len : ℕ) → kept port StatePart ≡ false → are_kept kept (map WholeByte (own_names port first len)) ≡ false
+unfolding own_names numbers_from
+own_not_kept kept port first zero t = refl
+own_not_kept kept port first (suc len) t = rw t refl
+
+-- a number is among those of ports exactly where a port is found by it
+number_there : (port : ℕ) (ps : List PlantPort) → list_any (λ n. n == port) (numbers_of ps) ≡ is_some (port_numbered port ps)
+number_there port [] = refl
+number_there port (p ∷ ps) =
+    elim (cases_Bool (p.number == port)) [
+      | inl t ↦ rw t refl
+      | inr t ↦ rw t (number_there port ps)
+    ]
+
+own_parts : (named : List Addressed) (first len : ℕ) (p : PlantPort) → is_watched_at named (Own first len) p ≡ true
+    → (0 < len) × (first + len ≤ OWN_SIZE) × (named ≡ map WholeByte (own_names p.number first len))
+own_parts named first len p t =
+    let names : List Addressed = map WholeByte (own_names p.number first len) in
+    let outer = and_parts (nat_lt 0 len && nat_le (first + len) OWN_SIZE) (are_same_addressed named names) t in
+    let inner = and_parts (nat_lt 0 len) (nat_le (first + len) OWN_SIZE) (outer.0) in
+    (ltb-true 0 len (inner.0), leb-true (first + len) OWN_SIZE (inner.1), are_same-true named names (outer.1))
+
+own_alike : (old new : Plant) (kept : List KeptSymbol) (port : ℕ) (named : List Addressed) (first len : ℕ)
+    → is_same_watched old.ports port named (Own first len) ≡ true
+    → AgreeingPlaces (is_same_watched new.ports) port (kept_bytes (is_kept old new) port named)
+    (moved_watched kept (numbers_of new.ports) port (Own first len))
+own_alike old new kept port named first len t = go (port_numbered port new.ports) refl
+  where
+    i : IsWatchedOf old.ports port named (Own first len)
+    i = watched_parts old.ports port named (Own first len) t
+
+    p : PlantPort
+    p = i.at_port
+
+    parts : (0 < len) × (first + len ≤ OWN_SIZE) × (named ≡ map WholeByte (own_names p.number first len))
+    parts = own_parts named first len p i.is_watched
+
+    names : named ≡ map WholeByte (own_names port first len)
+    names = parts.2 ∙ ap (λ n. map WholeByte (own_names n first len)) (port_number port old.ports p i.port_found)
+
+    there : (o : Option PlantPort) → port_numbered port new.ports ≡ o → list_any (λ n. n == port) (numbers_of new.ports) ≡ is_some o
+    there o e = number_there port new.ports ∙ ap (λ (x : Option PlantPort). is_some x) e
+
+    state : (o : Option PlantPort) → port_numbered port new.ports ≡ o → is_kept old new port StatePart ≡ is_kept_part StatePart (Some p) o
+    state o e = part-kept old new port StatePart (Some p) o i.port_found e
+
+    go : (o : Option PlantPort) → port_numbered port new.ports ≡ o
+        → AgreeingPlaces (is_same_watched new.ports) port (kept_bytes (is_kept old new) port named)
+        (moved_watched kept (numbers_of new.ports) port (Own first len))
+    go None e =
+        let f = there None e in
+        let g = ap (are_kept (is_kept old new)) names ∙ own_not_kept (is_kept old new) port first len (state None e) in
+        rw (f, g) tt
+    go (Some q) e =
+        let f = there (Some q) e in
+        let g = ap (are_kept (is_kept old new)) names ∙ own_kept (is_kept old new) port first len (state (Some q) e) (parts.0) in
+        let names_new : named ≡ map WholeByte (own_names q.number first len)
+        = names ∙ ap (λ n. map WholeByte (own_names n first len)) (sym (port_number port new.ports q e)) in
+        let same : are_same_addressed named (map WholeByte (own_names q.number first len)) ≡ true
+        = ap (are_same_addressed named) (sym names_new) ∙ are_same-refl named in
+        let is_it : is_watched_at named (Own first len) q ≡ true
+        = and_from (nat_lt 0 len && nat_le (first + len) OWN_SIZE) _
+        (and_from (nat_lt 0 len) _ (lt-ltb 0 len (parts.0)) (le-leb (first + len) OWN_SIZE (parts.1))) same in
+        rw (f, g) (watched_from new.ports port named (Own first len) q e is_it)
+
+pub watched_move_alike : WatchedMoveAlike
+watched_move_alike old new kept so sn are port named (InArea (Bytes area offset len)) t =
+    bytes_alike old new kept (numbers_of new.ports) so sn are port named area offset len t
+watched_move_alike old new kept so sn are port named (InArea (Bit area offset bit)) t =
+    bit_alike old new kept (numbers_of new.ports) so sn are port named area offset bit t
+watched_move_alike old new kept so sn are port named (InArea (Size area)) t =
+    let i = watched_parts old.ports port named (InArea (Size area)) t in absurd (false≢true i.is_watched)
+watched_move_alike old new kept so sn are port named (Own first len) t = own_alike old new kept port named first len t

@@ -1,27 +1,27 @@
 -- The bytes of a port in a new world, and after a reload.
 use Rattle.std.proofs.Common.{◌≡◌, ℕ, zero, suc, ◌+◌, ◌-◌, ◌<◌, List, [], ◌∷◌, length, replicate, true, false, refl, sym, ◌∙◌, ap, inl, inr, arith}
-use Rattle.std.specs.Prelude.{Option, Some, None, slice_get}
+use Rattle.std.specs.Prelude.{Option, Some, None, slice_get, option_map}
 use Rattle.std.specs.List.{list_any}
 use Rattle.std.proofs.lemmas.Bool.{cases_Bool, false≢true}
 use Rattle.spec_plant.specs.Description.{Area, size_in}
 use Rattle.spec_plant.specs.World.{Block, Part, SymbolPart, AreaPart, StatePart, ByteName, PlantSymbol, PlantPort, Plant, lower_name, symbol_size, is_block_of}
-use Rattle.spec_plant.specs.World.{block_of, byte_at}
+use Rattle.spec_plant.specs.World.{block_of, byte_at, with_nth_byte}
 use Rattle.spec_plant.specs.SameTypes.{is_same_type}
 use Rattle.spec_plant.specs.Covering.{covers}
 use Rattle.spec_plant.specs.Named.{port_numbered, symbol_named}
 use Rattle.spec_plant.specs.Sound.{AreApart, IsSoundSymbol, IsSoundPort, IsSoundPlant}
-use Rattle.spec_plant.proofs.BlockLemmas.{is_block-true}
+use Rattle.spec_plant.proofs.BlockLemmas.{is_block-true, nth-same, nth-other}
 use Rattle.spec_plant.proofs.SoundLemmas.{each-get, port_sound, symbol_sound, port_number, symbol_at}
 use Rattle.spec_plant.proofs.CoveringLemmas.{stands_at, covers_from}
 use Rattle.spec_plant.proofs.SameSizes.{same_type-size}
-use Rattle.spec_machine.specs.World.{name_at, state_bytes, RUN, first_memory}
+use Rattle.spec_machine.specs.World.{name_at, own_name, own_bytes, VERSION_AT, RUN, first_memory}
 use Rattle.spec_machine.specs.Client.{Kept}
-use Rattle.spec_machine.specs.Reloads.{is_kept_symbol, is_kept_part, is_kept, memory_after_reload}
+use Rattle.spec_machine.specs.Reloads.{is_kept_symbol, is_kept_part, is_kept, kept_block_bytes, memory_after_reload}
 use Rattle.spec_machine.specs.AreaNames.{name_in_symbol, name_in_gap, is_covered}
-use Rattle.spec_machine.specs.PortBytes.{PortBytes, image_byte, state_name, Holds}
+use Rattle.spec_machine.specs.PortBytes.{PortBytes, image_byte, Holds}
 use Rattle.spec_machine.specs.PortLaws.{IsFirstImage, IsReloadedImage, BeginsWithFirstImage, ReloadsImage, ReloadsNewPort}
 use Rattle.spec_machine.proofs.AreaNames.{tiles_give_names}
-use Rattle.spec_machine.proofs.FirstMemory.{first-symbol, first-states, first-area}
+use Rattle.spec_machine.proofs.FirstMemory.{first-symbol, first-own, first-area}
 
 -- the symbol that stands at a byte
 pub record IsCoveredBy (area : Area) (offset : ℕ) (symbols : List PlantSymbol) : Type 0 where
@@ -74,45 +74,45 @@ zeros (suc n) (suc i) h = zeros n i (omega (arith, h))
 
 -- in a new world
 
-first_symbol : (plant : Plant) (p : PlantPort) (n : ℕ) (s : PlantSymbol) (k : ℕ) → IsSoundPlant plant → port_numbered p.number plant.ports ≡ Some p
+first_symbol : (version : ℕ) (plant : Plant) (p : PlantPort) (n : ℕ) (s : PlantSymbol) (k : ℕ) → IsSoundPlant plant → port_numbered p.number plant.ports ≡ Some p
     → slice_get p.symbols n ≡ Some s
-    → byte_at (first_memory plant) (name_in_symbol p.number s k) ≡ slice_get s.initial k
+    → byte_at (first_memory version plant) (name_in_symbol p.number s k) ≡ slice_get s.initial k
 unfolding byte_at
-first_symbol plant p n s k sound found g =
+first_symbol version plant p n s k sound found g =
     let port = port_sound plant.ports plant.ports p.number p sound found in
     let own = each-get (IsSoundSymbol p) p.symbols n s port.symbols g in
-    ap (λ xs. slice_get xs k) (first-symbol p.number (lower_name s) p s plant.ports found own.found)
+    ap (λ xs. slice_get xs k) (first-symbol version p.number (lower_name s) p s plant.ports found own.found)
 
-first_gap : (plant : Plant) (p : PlantPort) (area : Area) (offset : ℕ) → port_numbered p.number plant.ports ≡ Some p → offset < size_in p.sizes area
-    → byte_at (first_memory plant) (name_in_gap p.number area offset) ≡ Some 0
+first_gap : (version : ℕ) (plant : Plant) (p : PlantPort) (area : Area) (offset : ℕ) → port_numbered p.number plant.ports ≡ Some p → offset < size_in p.sizes area
+    → byte_at (first_memory version plant) (name_in_gap p.number area offset) ≡ Some 0
 unfolding byte_at
-first_gap plant p area offset found u = ap (λ xs. slice_get xs offset) (first-area p.number area p plant.ports found) ∙ zeros (size_in p.sizes area) offset u
+first_gap version plant p area offset found u = ap (λ xs. slice_get xs offset) (first-area version p.number area p plant.ports found) ∙ zeros (size_in p.sizes area) offset u
 
-first_state : (plant : Plant) (p : PlantPort) (k : ℕ) → port_numbered p.number plant.ports ≡ Some p
-    → byte_at (first_memory plant) (state_name p k) ≡ slice_get (state_bytes RUN 0) k
+first_own : (version : ℕ) (plant : Plant) (p : PlantPort) (k : ℕ) → port_numbered p.number plant.ports ≡ Some p
+    → byte_at (first_memory version plant) (own_name p.number k) ≡ slice_get (own_bytes RUN 0 version) k
 unfolding byte_at
-first_state plant p k found = ap (λ xs. slice_get xs k) (first-states p.number p plant.ports found)
+first_own version plant p k found = ap (λ xs. slice_get xs k) (first-own version p.number p plant.ports found)
 
-first_tiles : (plant : Plant) (p : PlantPort) (image : List ℕ) → IsSoundPlant plant → port_numbered p.number plant.ports ≡ Some p → IsFirstImage p image
-    → StandByTiles (first_memory plant) p image
-first_tiles plant p image sound found f = record {
-  symbols = λ n s k g u. first_symbol plant p n s k sound found g ∙ sym (f.symbols n s k g u);
-  gaps = λ area offset u c. first_gap plant p area offset found u ∙ sym (f.gaps area offset u c);
+first_tiles : (version : ℕ) (plant : Plant) (p : PlantPort) (image : List ℕ) → IsSoundPlant plant → port_numbered p.number plant.ports ≡ Some p → IsFirstImage p image
+    → StandByTiles (first_memory version plant) p image
+first_tiles version plant p image sound found f = record {
+  symbols = λ n s k g u. first_symbol version plant p n s k sound found g ∙ sym (f.symbols n s k g u);
+  gaps = λ area offset u c. first_gap version plant p area offset found u ∙ sym (f.gaps area offset u c);
 }
 
 pub begins_with_first_image : BeginsWithFirstImage
-begins_with_first_image plant p image sound found f =
+begins_with_first_image version plant p image sound found f =
     let port = port_sound plant.ports plant.ports p.number p sound found in
     record {
       long = f.long;
-      areas = by_tiles (first_memory plant) p image port.bytes (first_tiles plant p image sound found f);
-      states = λ k u. first_state plant p k found;
+      areas = by_tiles (first_memory version plant) p image port.bytes (first_tiles version plant p image sound found f);
+      own = λ k u. first_own version plant p k found;
     }
 
 -- after a reload
 
 reloaded-kept : (kept : Kept) (old : List Block) (port : ℕ) (part : Part) (new : List Block) → kept port part ≡ true → 0 < length (block_of new port part)
-    → block_of (memory_after_reload kept old new) port part ≡ block_of old port part
+    → block_of (memory_after_reload kept old new) port part ≡ kept_block_bytes part (block_of old port part) (block_of new port part)
 unfolding memory_after_reload
 reloaded-kept kept old port part [] t h = absurd (omega (arith, h))
 reloaded-kept kept old port part (b ∷ bs) t h =
@@ -121,7 +121,7 @@ reloaded-kept kept old port part (b ∷ bs) t h =
           let i = is_block-true port part b u in
           let same : kept b.port b.part ≡ true = ap (λ n. kept n b.part) i.same_port ∙ ap (kept port) i.same_part ∙ t in
           let found : block_of old b.port b.part ≡ block_of old port part = ap (λ n. block_of old n b.part) i.same_port ∙ ap (block_of old port) i.same_part in
-          rw (same, u) found
+          rw (same, u) (ap (λ q. kept_block_bytes q (block_of old b.port b.part) b.bytes) i.same_part ∙ ap (λ xs. kept_block_bytes part xs b.bytes) found)
       | inr u ↦
           let g = rw u at h in
           let rest = reloaded-kept kept old port part bs t g in
@@ -149,11 +149,13 @@ reloaded-new kept old port part (b ∷ bs) t =
           ]
     ]
 
--- a byte of a part that is kept, and of one that is not
-byte-kept : (kept : Kept) (old new : List Block) (n : ByteName) → kept n.port n.part ≡ true → 0 < length (block_of new n.port n.part)
-    → byte_at (memory_after_reload kept old new) n ≡ byte_at old n
+-- a byte of a symbol that is kept, and of a part that is not
+symbol-kept : (kept : Kept) (old new : List Block) (port : ℕ) (name : List ℕ) (k : ℕ) → kept port (SymbolPart name) ≡ true
+    → 0 < length (block_of new port (SymbolPart name))
+    → byte_at (memory_after_reload kept old new) (record { port = port; part = SymbolPart name; index = k })
+    ≡ byte_at old (record { port = port; part = SymbolPart name; index = k })
 unfolding byte_at
-byte-kept kept old new n t h = ap (λ xs. slice_get xs n.index) (reloaded-kept kept old n.port n.part new t h)
+symbol-kept kept old new port name k t h = ap (λ xs. slice_get xs k) (reloaded-kept kept old port (SymbolPart name) new t h)
 
 byte-new : (kept : Kept) (old new : List Block) (n : ByteName) → kept n.port n.part ≡ false → byte_at (memory_after_reload kept old new) n ≡ byte_at new n
 unfolding byte_at
@@ -183,11 +185,11 @@ old_byte memory was b ports port name s k sound same found u h =
     name_with : ℕ → Part → ℕ → ByteName
     name_with n part i = record { port = n; part = part; index = i }
 
-symbol_reloaded : (old new : Plant) (memory : List Block) (was p : PlantPort) (b : PortBytes) (image : List ℕ) → IsSoundPlant old → IsSoundPlant new
+symbol_reloaded : (version : ℕ) (old new : Plant) (memory : List Block) (was p : PlantPort) (b : PortBytes) (image : List ℕ) → IsSoundPlant old → IsSoundPlant new
     → port_numbered p.number old.ports ≡ Some was → port_numbered p.number new.ports ≡ Some p → Holds memory was b → IsReloadedImage was b.image p image
     → (n : ℕ) (t : PlantSymbol) (k : ℕ) → slice_get p.symbols n ≡ Some t → k < symbol_size t
-    → byte_at (memory_after_reload (is_kept old new) memory (first_memory new)) (name_in_symbol p.number t k) ≡ image_byte p.sizes image t.area (t.offset + k)
-symbol_reloaded old new memory was p b image so sn eo en h r n t k g u = go (symbol_named (lower_name t) was.symbols) refl
+    → byte_at (memory_after_reload (is_kept old new) memory (first_memory version new)) (name_in_symbol p.number t k) ≡ image_byte p.sizes image t.area (t.offset + k)
+symbol_reloaded version old new memory was p b image so sn eo en h r n t k g u = go (symbol_named (lower_name t) was.symbols) refl
   where
     name : ByteName
     name = name_in_symbol p.number t k
@@ -204,16 +206,16 @@ symbol_reloaded old new memory was p b image so sn eo en h r n t k g u = go (sym
         ∙ ap (λ x. is_kept_symbol x (symbol_named (lower_name t) p.symbols)) e ∙ ap (is_kept_symbol o) own.found
 
     fresh : (o : Option PlantSymbol) → symbol_named (lower_name t) was.symbols ≡ o → is_kept_symbol o (Some t) ≡ false
-        → byte_at (memory_after_reload (is_kept old new) memory (first_memory new)) name ≡ image_byte p.sizes image t.area (t.offset + k)
+        → byte_at (memory_after_reload (is_kept old new) memory (first_memory version new)) name ≡ image_byte p.sizes image t.area (t.offset + k)
     fresh o e f =
-        byte-new (is_kept old new) memory (first_memory new) name (kept_is o e ∙ f) ∙ first_symbol new p n t k sn en g
+        byte-new (is_kept old new) memory (first_memory version new) name (kept_is o e ∙ f) ∙ first_symbol version new p n t k sn en g
         ∙ sym (r.first n t k g (ap (λ x. is_kept_symbol x (Some t)) e ∙ f) u)
 
-    some : 0 < length (block_of (first_memory new) p.number (SymbolPart (lower_name t)))
-    some = let l = ap length (first-symbol p.number (lower_name t) p t new.ports en own.found) ∙ own.initial in omega (arith, l, u)
+    some : 0 < length (block_of (first_memory version new) p.number (SymbolPart (lower_name t)))
+    some = let l = ap length (first-symbol version p.number (lower_name t) p t new.ports en own.found) ∙ own.initial in omega (arith, l, u)
 
     go : (o : Option PlantSymbol) → symbol_named (lower_name t) was.symbols ≡ o
-        → byte_at (memory_after_reload (is_kept old new) memory (first_memory new)) name ≡ image_byte p.sizes image t.area (t.offset + k)
+        → byte_at (memory_after_reload (is_kept old new) memory (first_memory version new)) name ≡ image_byte p.sizes image t.area (t.offset + k)
     go None e = fresh None e refl
     go (Some s) e =
         elim (cases_Bool (is_same_type s.type t.type)) [
@@ -221,49 +223,73 @@ symbol_reloaded old new memory was p b image so sn eo en h r n t k g u = go (sym
           | inl f ↦
               let size = same_type-size s.type t.type f in
               let was_sound = port_sound old.ports old.ports p.number was so eo in
-              byte-kept (is_kept old new) memory (first_memory new) name (kept_is (Some s) e ∙ f) some
+              symbol-kept (is_kept old new) memory (first_memory version new) p.number (lower_name t) k (kept_is (Some s) e ∙ f) some
               ∙ old_byte memory was b old.ports p.number (lower_name t) s k was_sound (port_number p.number old.ports was eo) e (omega (arith, size, u)) h
               ∙ sym (r.kept n s t k g e f u)
         ]
 
-gap_reloaded : (old new : Plant) (memory : List Block) (p : PlantPort) (area : Area) (offset : ℕ) (o : Option PlantPort) → port_numbered p.number old.ports ≡ o
+gap_reloaded : (version : ℕ) (old new : Plant) (memory : List Block) (p : PlantPort) (area : Area) (offset : ℕ) (o : Option PlantPort) → port_numbered p.number old.ports ≡ o
     → port_numbered p.number new.ports ≡ Some p → offset < size_in p.sizes area
-    → byte_at (memory_after_reload (is_kept old new) memory (first_memory new)) (name_in_gap p.number area offset) ≡ Some 0
-gap_reloaded old new memory p area offset o eo en u =
-    byte-new (is_kept old new) memory (first_memory new) (name_in_gap p.number area offset) (part-kept old new p.number (AreaPart area) o (Some p) eo en
-    ∙ never o) ∙ first_gap new p area offset en u
+    → byte_at (memory_after_reload (is_kept old new) memory (first_memory version new)) (name_in_gap p.number area offset) ≡ Some 0
+gap_reloaded version old new memory p area offset o eo en u =
+    byte-new (is_kept old new) memory (first_memory version new) (name_in_gap p.number area offset) (part-kept old new p.number (AreaPart area) o (Some p) eo en
+    ∙ never o) ∙ first_gap version new p area offset en u
   where
     never : (x : Option PlantPort) → is_kept_part (AreaPart area) x (Some p) ≡ false
     never None = refl
     never (Some q) = refl
 
+-- the own bytes of a port that was there: its state words, and the new version
+own_reloaded : (version : ℕ) (old new : Plant) (memory : List Block) (was p : PlantPort) (b : PortBytes) → port_numbered p.number old.ports ≡ Some was
+    → port_numbered p.number new.ports ≡ Some p → was.number ≡ p.number → Holds memory was b → (k : ℕ) → k < 5
+    → byte_at (memory_after_reload (is_kept old new) memory (first_memory version new)) (own_name p.number k) ≡ slice_get (own_bytes b.ads b.device version) k
+unfolding byte_at
+own_reloaded version old new memory was p b eo en number h k u =
+    let first = first-own version p.number p new.ports en in
+    let some : 0 < length (block_of (first_memory version new) p.number StatePart) = let l = ap length first in omega (arith, l) in
+    let kept = reloaded-kept (is_kept old new) memory p.number StatePart (first_memory version new)
+    (part-kept old new p.number StatePart (Some was) (Some p) eo en) some in
+    ap (λ xs. slice_get xs k) (kept ∙ ap (kept_block_bytes StatePart words) first) ∙ word k u
+  where
+    words : List ℕ
+    words = block_of memory p.number StatePart
+
+    old_word : (i : ℕ) → i < 5 → slice_get words i ≡ slice_get (own_bytes b.ads b.device b.version) i
+    old_word i v = ap (λ n. slice_get (block_of memory n StatePart) i) (sym number) ∙ h.own i v
+
+    -- each but the version is as before
+    same : (i : ℕ) → i < 4 → slice_get (with_nth_byte words VERSION_AT (λ was. version)) i ≡ slice_get (own_bytes b.ads b.device b.version) i
+    same i v = nth-other VERSION_AT i (λ was. version) words (λ e. omega (arith, e, v)) ∙ old_word i (omega (arith, v))
+
+    word : (i : ℕ) → i < 5 → slice_get (with_nth_byte words VERSION_AT (λ was. version)) i ≡ slice_get (own_bytes b.ads b.device version) i
+    word zero v = same 0 (omega arith)
+    word (suc zero) v = same 1 (omega arith)
+    word (suc (suc zero)) v = same 2 (omega arith)
+    word (suc (suc (suc zero))) v = same 3 (omega arith)
+    word (suc (suc (suc (suc zero)))) v = nth-same VERSION_AT (λ was. version) words ∙ ap (option_map (λ was. version)) (old_word 4 (omega arith))
+    word (suc (suc (suc (suc (suc i))))) v = absurd (omega (arith, v))
+
 pub reloads_image : ReloadsImage
-reloads_image old new memory was p b image so sn eo en h r =
+reloads_image version old new memory was p b image so sn eo en h r =
     let port = port_sound new.ports new.ports p.number p sn en in
-    let after : List Block = memory_after_reload (is_kept old new) memory (first_memory new) in
+    let after : List Block = memory_after_reload (is_kept old new) memory (first_memory version new) in
     let number = port_number p.number old.ports was eo in
-    let words : 0 < length (block_of (first_memory new) p.number StatePart) = let l = ap length (first-states p.number p new.ports en) in omega (arith, l) in
     record {
       long = r.long;
       areas = by_tiles after p image port.bytes (record {
-        symbols = symbol_reloaded old new memory was p b image so sn eo en h r;
-        gaps = λ area offset u c. gap_reloaded old new memory p area offset (Some was) eo en u ∙ sym (r.gaps area offset u c);
+        symbols = symbol_reloaded version old new memory was p b image so sn eo en h r;
+        gaps = λ area offset u c. gap_reloaded version old new memory p area offset (Some was) eo en u ∙ sym (r.gaps area offset u c);
       });
-      states = λ k u.
-          byte-kept (is_kept old new) memory (first_memory new) (state_name p k) (part-kept old new p.number StatePart (Some was) (Some p) eo en) words
-          ∙ ap (λ n. byte_at memory (state_of n k)) (sym number) ∙ h.states k u;
+      own = own_reloaded version old new memory was p b eo en number h;
     }
-  where
-    state_of : ℕ → ℕ → ByteName
-    state_of n k = record { port = n; part = StatePart; index = k }
 
 pub reloads_new_port : ReloadsNewPort
-reloads_new_port old new memory p image sn eo en f =
+reloads_new_port version old new memory p image sn eo en f =
     let port = port_sound new.ports new.ports p.number p sn en in
-    let after : List Block = memory_after_reload (is_kept old new) memory (first_memory new) in
+    let after : List Block = memory_after_reload (is_kept old new) memory (first_memory version new) in
     let fresh : (n : ByteName) → is_kept old new n.port n.part ≡ false
-    → byte_at after n ≡ byte_at (first_memory new) n = λ n t. byte-new (is_kept old new) memory (first_memory new) n t in
-    let tiles = first_tiles new p image sn en f in
+    → byte_at after n ≡ byte_at (first_memory version new) n = λ n t. byte-new (is_kept old new) memory (first_memory version new) n t in
+    let tiles = first_tiles version new p image sn en f in
     record {
       long = f.long;
       areas = by_tiles after p image port.bytes (record {
@@ -272,5 +298,5 @@ reloads_new_port old new memory p image sn eo en f =
         gaps = λ area offset u c. fresh (name_in_gap p.number area offset) (part-kept old new p.number (AreaPart area) None (Some p) eo en)
             ∙ tiles.gaps area offset u c;
       });
-      states = λ k u. fresh (state_name p k) (part-kept old new p.number StatePart None (Some p) eo en) ∙ first_state new p k en;
+      own = λ k u. fresh (own_name p.number k) (part-kept old new p.number StatePart None (Some p) eo en) ∙ first_own version new p k en;
     }

@@ -50,8 +50,11 @@ add_reached c k mode len cycle (Err code) = Refusal code
 add_reached c k mode len cycle (Ok watched) =
     if len == 0 then Refusal invalid_size else add_watch c (next_watch c k mode cycle watched)
 
+-- where these are what is to be watched, or the code that refuses it
+abbrev pub add_of_reach : Client → Asker → ℕ → ℕ → Option Mode → Result (List Addressed) ℕ → Act
+add_of_reach c k len cycle None reached = Refusal mode_not_supported
+add_of_reach c k len cycle (Some mode) reached =
+    if nat_lt MAX_WATCHED len then Refusal watch_too_big else add_reached c k mode len cycle reached
+
 abbrev pub add_act : Client → Asker → Option Group → ℕ → ℕ → ℕ → Option Mode → Act
-add_act c k group offset len cycle None = Refusal mode_not_supported
-add_act c k group offset len cycle (Some mode) =
-    if nat_lt MAX_WATCHED len then Refusal watch_too_big
-    else add_reached c k mode len cycle (reach_of c k.port group offset len)
+add_act c k group offset len cycle mode = add_of_reach c k len cycle mode (reach_of c k.port group offset len)

@@ -1,13 +1,13 @@
--- The bytes of a port as an image of its four areas, one behind another, and its two state words; and that they are
--- what stands under the names of these bytes.
+-- The bytes of a port as an image of its four areas, one behind another, its two state words and its version; and that
+-- they are what stands under the names of these bytes.
 use Rattle.std.specs.Prelude.{◌≡◌, ℕ, ◌+◌, ◌<◌, List, [], ◌∷◌, ◌++◌, length, take, drop, slice_get, Option}
 use Rattle.std.specs.Prelude.{if◌then◌else◌}
 use Rattle.std.specs.Int.{w64, to_le_bytes}
 use Rattle.signals.specs.Wave.{Wave, value_of}
 use Rattle.spec_plant.specs.Description.{Area, Inputs, Outputs, Memory, Process, Sizes, size_in}
-use Rattle.spec_plant.specs.World.{PlantPort, PlantSymbol, symbol_size, StatePart, ByteName, Block, byte_at}
+use Rattle.spec_plant.specs.World.{PlantPort, PlantSymbol, symbol_size, Block, byte_at}
 use Rattle.spec_plant.specs.Accepted.{image_size}
-use Rattle.spec_machine.specs.World.{name_at, state_bytes}
+use Rattle.spec_machine.specs.World.{name_at, own_name, own_bytes, OWN_SIZE}
 use Rattle.spec_machine.specs.Ticks.{has_signal}
 
 -- where an area begins in an image
@@ -22,6 +22,7 @@ pub record PortBytes : Type 0 where
   pub image : List ℕ
   pub ads : ℕ
   pub device : ℕ
+  pub version : ℕ
 
 -- the byte of an image at an offset of an area
 abbrev pub image_byte : Sizes → List ℕ → Area → ℕ → Option ℕ
@@ -36,17 +37,13 @@ abbrev pub with_image_bytes : Sizes → List ℕ → Area → ℕ → List ℕ �
 with_image_bytes sizes image area offset bytes = let at_ = start_in sizes area + offset in
     take at_ image ++ (bytes ++ drop (at_ + length bytes) image)
 
--- the name of a byte of the state words
-abbrev pub state_name : PlantPort → ℕ → ByteName
-state_name p k = record { port = p.number; part = StatePart; index = k }
-
 -- These are the bytes of the port: each byte of the image stands under the name of its offset in its area, and so do
--- those of the state words.
+-- the port's own.
 pub record Holds (memory : List Block) (p : PlantPort) (b : PortBytes) : Type 0 where
   pub long : length b.image ≡ image_size p.sizes
   pub areas : (area : Area) (offset : ℕ) → offset < size_in p.sizes area
       → byte_at memory (name_at p area offset) ≡ image_byte p.sizes b.image area offset
-  pub states : (k : ℕ) → k < 4 → byte_at memory (state_name p k) ≡ slice_get (state_bytes b.ads b.device) k
+  pub own : (k : ℕ) → k < OWN_SIZE → byte_at memory (own_name p.number k) ≡ slice_get (own_bytes b.ads b.device b.version) k
 
 -- the image after a step of a signal: the first symbol that it writes has the low bytes of its value
 abbrev pub image_after_signal : Sizes → ℕ → ℕ → List PlantSymbol → List ℕ → List ℕ

@@ -1,5 +1,5 @@
 -- What reads, writes, controls, steps of signals and reloads are of the bytes of a port.
-use Rattle.std.specs.Prelude.{◌≡◌, ◌≢◌, ℕ, ◌+◌, ◌/◌, ◌%◌, ◌^◌, ◌<◌, ◌≤◌, List, [], ◌∷◌, length, map, min}
+use Rattle.std.specs.Prelude.{◌≡◌, ◌≢◌, ℕ, ◌+◌, ◌/◌, ◌%◌, ◌^◌, ◌<◌, ◌≤◌, List, [], ◌∷◌, length, take, drop, map, min}
 use Rattle.std.specs.Prelude.{true, false, Some, None, slice_get, unwrap_or}
 use Rattle.spec_plant.specs.Description.{Area, size_in}
 use Rattle.spec_plant.specs.World.{Plant, PlantPort, PlantSymbol, symbol_size, lower_name, Block, with_nth_byte}
@@ -7,7 +7,7 @@ use Rattle.spec_plant.specs.Accepted.{image_size}
 use Rattle.spec_plant.specs.SameTypes.{is_same_type}
 use Rattle.spec_plant.specs.Named.{port_numbered, symbol_named, AreNamedApart, AreNumberedApart}
 use Rattle.spec_plant.specs.Sound.{Each, IsSoundPlant}
-use Rattle.spec_machine.specs.World.{World, name_at, names_at, state_names, state_bytes, RUN, first_memory}
+use Rattle.spec_machine.specs.World.{World, name_at, names_at, own_names, own_bytes, OWN_SIZE, state_names, state_bytes, RUN, first_memory}
 use Rattle.spec_machine.specs.Access.{WholeByte, OneBit, addressed_name, value_at, values_at, with_bit}
 use Rattle.spec_machine.specs.Access.{Put, puts_of, memory_after_puts}
 use Rattle.spec_machine.specs.Ticks.{world_after_tick}
@@ -28,6 +28,11 @@ ReadsBit = (memory : List Block) (p : PlantPort) (b : PortBytes) (area : Area) (
     → Holds memory p b → offset < size_in p.sizes area
     → value_at memory (OneBit (name_at p area offset) bit)
     ≡ (unwrap_or (image_byte p.sizes b.image area offset) 0 / 2 ^ bit) % 2
+
+-- The own bytes of a port that are read are those of the port.
+abbrev pub ReadsOwn : Type 0
+ReadsOwn = (memory : List Block) (p : PlantPort) (b : PortBytes) (first len : ℕ) → Holds memory p b → first + len ≤ OWN_SIZE
+    → values_at memory (map WholeByte (own_names p.number first len)) ≡ take len (drop first (own_bytes b.ads b.device b.version))
 
 -- The state words that are read are those of the port.
 abbrev pub ReadsStates : Type 0
@@ -93,22 +98,23 @@ pub record IsReloadedImage (was : PlantPort) (old : List ℕ) (p : PlantPort) (i
 
 -- A port begins with its first image, and runs.
 abbrev pub BeginsWithFirstImage : Type 0
-BeginsWithFirstImage = (plant : Plant) (p : PlantPort) (image : List ℕ)
+BeginsWithFirstImage = (version : ℕ) (plant : Plant) (p : PlantPort) (image : List ℕ)
     → IsSoundPlant plant → port_numbered p.number plant.ports ≡ Some p → IsFirstImage p image
-    → Holds (first_memory plant) p (record { image = image; ads = RUN; device = 0 })
+    → Holds (first_memory version plant) p (record { image = image; ads = RUN; device = 0; version = version })
 
--- After a reload a port that was there has the reloaded image, and its state words.
+-- After a reload a port that was there has the reloaded image, its state words, and the version of the reload.
 abbrev pub ReloadsImage : Type 0
-ReloadsImage = (old new : Plant) (memory : List Block) (was p : PlantPort) (b : PortBytes) (image : List ℕ)
+ReloadsImage = (version : ℕ) (old new : Plant) (memory : List Block) (was p : PlantPort) (b : PortBytes) (image : List ℕ)
     → IsSoundPlant old → IsSoundPlant new
     → port_numbered p.number old.ports ≡ Some was → port_numbered p.number new.ports ≡ Some p
     → Holds memory was b → IsReloadedImage was b.image p image
-    → Holds (memory_after_reload (is_kept old new) memory (first_memory new)) p (record b { image = image })
+    → Holds (memory_after_reload (is_kept old new) memory (first_memory version new)) p
+    (record b { image = image; version = version })
 
 -- A port that was not there begins as in a new world.
 abbrev pub ReloadsNewPort : Type 0
-ReloadsNewPort = (old new : Plant) (memory : List Block) (p : PlantPort) (image : List ℕ)
+ReloadsNewPort = (version : ℕ) (old new : Plant) (memory : List Block) (p : PlantPort) (image : List ℕ)
     → IsSoundPlant new
     → port_numbered p.number old.ports ≡ None → port_numbered p.number new.ports ≡ Some p → IsFirstImage p image
-    → Holds (memory_after_reload (is_kept old new) memory (first_memory new)) p
-    (record { image = image; ads = RUN; device = 0 })
+    → Holds (memory_after_reload (is_kept old new) memory (first_memory version new)) p
+    (record { image = image; ads = RUN; device = 0; version = version })

@@ -18,7 +18,7 @@ use Rattle.spec_machine.specs.Answers.{ADD_DEVICE_NOTIFICATION}
 use Rattle.spec_machine.specs.Reads.{read_group}
 use Rattle.spec_machine.specs.Writes.{Asker, write_group, control_act}
 use Rattle.spec_machine.specs.ByName.{read_write_group}
-pub use Rattle.spec_machine.specs.Additions.{mode_of, MAX_WATCHED, MAX_WATCHES, next_watch, add_watch, add_reached, add_act}
+pub use Rattle.spec_machine.specs.Additions.{mode_of, MAX_WATCHED, MAX_WATCHES, next_watch, add_watch, add_reached, add_of_reach, add_act}
 use Rattle.spec_machine.specs.Meanings.{meant_by}
 use Rattle.spec_machine.specs.MoreActs.{more_act}
 

@@ -58,10 +58,17 @@ abbrev pub symbol_names : ℕ → List ℕ → ℕ → ℕ → List ByteName
 symbol_names port symbol first len =
     map (λ k. record { port = port; part = SymbolPart symbol; index = k }) (numbers_from first len)
 
--- the names of a port's two state words: ADS state 2, device state 2
+-- the name of one of a port's own bytes
+abbrev pub own_name : ℕ → ℕ → ByteName
+own_name port k = record { port = port; part = StatePart; index = k }
+
+-- the names of so many of a port's own bytes, from one of them on: ADS state 2, device state 2, version 1
+unfoldable pub own_names : ℕ → ℕ → ℕ → List ByteName
+own_names port first len = map (own_name port) (numbers_from first len)
+
+-- the names of a port's two state words
 abbrev pub state_names : PlantPort → List ByteName
-state_names p =
-    map (λ k. record { port = p.number; part = StatePart; index = k }) (0 ∷ 1 ∷ 2 ∷ 3 ∷ [])
+state_names p = map (own_name p.number) (0 ∷ 1 ∷ 2 ∷ 3 ∷ [])
 
 -- the ADS states that a controller may be set to
 abbrev pub RUN : ℕ
@@ -73,7 +80,18 @@ STOP = 6
 abbrev pub state_bytes : ℕ → ℕ → List ℕ
 state_bytes ads device = to_le_bytes w16 ads ++ to_le_bytes w16 device
 
--- what a description begins with: each port runs, symbols have their initial bytes, gaps are zeros.
+-- a port's own bytes: its state words, and behind them the version of its symbols
+abbrev pub own_bytes : ℕ → ℕ → ℕ → List ℕ
+own_bytes ads device version = state_bytes ads device ++ version ∷ []
+
+-- at which of them the version stands, and how many there are
+abbrev pub VERSION_AT : ℕ
+VERSION_AT = 4
+
+abbrev pub OWN_SIZE : ℕ
+OWN_SIZE = 5
+
+-- what a description begins with, for a version: each port runs, symbols have their initial bytes, gaps are zeros.
 -- The block of an area is as long as the area, and is used where no symbol stands.
 abbrev pub first_area_block : PlantPort → Area → Block
 first_area_block p area =
@@ -83,26 +101,30 @@ abbrev pub first_symbol_block : PlantPort → PlantSymbol → Block
 first_symbol_block p s =
     record { port = p.number; part = SymbolPart (lower_name s); bytes = s.initial }
 
-abbrev pub first_state_block : PlantPort → Block
-first_state_block p = record { port = p.number; part = StatePart; bytes = state_bytes RUN 0 }
+abbrev pub first_state_block : ℕ → PlantPort → Block
+first_state_block version p = record { port = p.number; part = StatePart; bytes = own_bytes RUN 0 version }
 
-abbrev pub first_blocks : PlantPort → List Block
-first_blocks p =
-    first_state_block p
+abbrev pub first_blocks : ℕ → PlantPort → List Block
+first_blocks version p =
+    first_state_block version p
     ∷ (map (first_symbol_block p) p.symbols
     ++ map (first_area_block p) (Inputs ∷ Outputs ∷ Memory ∷ Process ∷ []))
 
-abbrev pub first_memory : Plant → List Block
-first_memory plant = flat_map first_blocks plant.ports
+abbrev pub first_memory : ℕ → Plant → List Block
+first_memory version plant = flat_map (first_blocks version) plant.ports
+
+-- the version of the symbols that a server begins with
+abbrev pub FIRST_VERSION : ℕ
+FIRST_VERSION = 1
 
 -- the world of an accepted description, behind a server of this profile
 abbrev pub world_in : Profile → Description → List Wave → World
 world_in profile d signals = record {
   profile = profile;
   plant = plant_of d;
-  version = 1;
+  version = FIRST_VERSION;
   signals = signals;
-  memory = first_memory (plant_of d);
+  memory = first_memory FIRST_VERSION (plant_of d);
 }
 
 -- the same behind the strict server, without a right for others

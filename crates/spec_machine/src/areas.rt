@@ -3,13 +3,13 @@
 ghost use Rattle.spec_machine.specs.AreaNames.{TilesGiveNames, SpansGiveNames, NamesAreOneToOne};
 ghost use Rattle.spec_machine.specs.AreaNames.{NamesAreOfAreas};
 ghost use Rattle.spec_machine.specs.AreaContent.{ContentIsOfTiles, ReadsContent, WritesContent};
-ghost use Rattle.spec_machine.specs.PortLaws.{ReadsImage, ReadsBit, ReadsStates};
+ghost use Rattle.spec_machine.specs.PortLaws.{ReadsImage, ReadsBit, ReadsStates, ReadsOwn};
 ghost use Rattle.spec_machine.specs.PortLaws.{WritesImage, WritesBit, SetsStates, LeavesOtherPorts};
 ghost use Rattle.spec_machine.specs.PortLaws.{StepsSignals, BeginsWithFirstImage, ReloadsImage};
 ghost use Rattle.spec_machine.specs.PortLaws.{ReloadsNewPort};
 ghost use Rattle.spec_machine.specs.NumberedPlaces.{FoundPlacesAreSame, SamePlacesHaveSameBytes};
 ghost use Rattle.spec_machine.specs.NumberedPlaces.{PlacesMoveAlike};
-ghost use Rattle.spec_machine.specs.WatchedRanges.{RangesMoveAlike};
+ghost use Rattle.spec_machine.specs.WatchedRanges.{WatchedMoveAlike};
 ghost use Rattle.spec_machine.specs.WorldBytes.{AreasAreAtTheirPorts, WritesOnePort, TicksAllPorts};
 ghost use Rattle.spec_machine.specs.WritableBytes.{WritesBySymbols, WritesInSymbol};
 
@@ -35,6 +35,7 @@ pub fn reads_are_of_the_image()
     ensures bytes { ReadsImage }
     ensures bit { ReadsBit }
     ensures states { ReadsStates }
+    ensures own { ReadsOwn }
 {}
 
 /// What is written under the names of a port's bytes stands in its image from then on, and a control sets its state
@@ -71,7 +72,7 @@ pub fn numbers_move_as_names()
     ensures found { FoundPlacesAreSame }
     ensures bytes { SamePlacesHaveSameBytes }
     ensures places { PlacesMoveAlike }
-    ensures ranges { RangesMoveAlike }
+    ensures watched { WatchedMoveAlike }
 {}
 
 /// What is written at one port leaves the bytes of all others, and a tick steps all signals at all ports.

@@ -5,7 +5,7 @@ use Rattle.spec_plant.specs.Description.{Description}
 use Rattle.spec_plant.specs.Trees.{trees_of, trees_behind}
 use Rattle.spec_plant.specs.Sizes.{type_size, members_end, type_align, greatest_align}
 use Rattle.spec_plant.specs.World.{plant_of, Block, SymbolPart, byte_at, with_byte}
-use Rattle.spec_machine.specs.World.{first_memory, numbers_from}
+use Rattle.spec_machine.specs.World.{first_memory, FIRST_VERSION, numbers_from}
 use Rattle.spec_store.specs.BodyText.{StoredEntry}
 use Rattle.type_layout.specs.Forms.{form_of}
 use Rattle.spec_persistent.specs.Persistent.{body_of, entries_of_ports}
@@ -13,7 +13,7 @@ use Rattle.spec_persistent.specs.Stored.{description_with_stored}
 use Rattle.spec_plant.proofs.Plant.{count_symbol, title_symbol, symbols_with, description_with, plant, plant2}
 
 abbrev memory_of : Description → List Block
-memory_of d = first_memory (plant_of d)
+memory_of d = first_memory FIRST_VERSION (plant_of d)
 
 -- the entry of a title
 abbrev title_entry : ℕ → List ℕ → List ℕ → List ℕ → StoredEntry

@@ -31,7 +31,7 @@ use Rattle.spec_machine.specs.Reads.{read_act, read_group}
 use Rattle.spec_machine.specs.Requests.{plain_act, act_of}
 use Rattle.spec_machine.specs.SumLaws.{Party, single_outcome}
 use Rattle.spec_machine.specs.Writes.{Asker}
-use Rattle.spec_machine.specs.Reloads.{is_kept, memory_after_reload, world_after_reload, client_reloaded}
+use Rattle.spec_machine.specs.Reloads.{is_kept, kept_block_bytes, next_version, memory_after_reload, world_after_reload, client_reloaded}
 use Rattle.spec_machine.specs.AdsDevice.{reloading}
 use Rattle.spec_machine.proofs.Find.{connection_of-map}
 use Rattle.spec_machine.proofs.Growth.{connection_after_reload-grows}
@@ -50,7 +50,7 @@ use Rattle.spec_promises.proofs.Lives.{after_one}
 
 -- the bytes of a part that is kept, and that has some
 reloaded : (kept : Kept) (old : List Block) (port : ℕ) (part : Part) (new : List Block) → kept port part ≡ true → 0 < length (block_of new port part)
-    → block_of (memory_after_reload kept old new) port part ≡ block_of old port part
+    → block_of (memory_after_reload kept old new) port part ≡ kept_block_bytes part (block_of old port part) (block_of new port part)
 unfolding memory_after_reload
 reloaded kept old port part [] t h = absurd (omega (arith, h))
 reloaded kept old port part (b ∷ bs) t h =
@@ -59,7 +59,7 @@ reloaded kept old port part (b ∷ bs) t h =
           let i = is_block-true port part b u in
           let same : kept b.port b.part ≡ true = ap (λ n. kept n b.part) i.same_port ∙ ap (kept port) i.same_part ∙ t in
           let found : block_of old b.port b.part ≡ block_of old port part = ap (λ n. block_of old n b.part) i.same_port ∙ ap (block_of old port) i.same_part in
-          rw (same, u) found
+          rw (same, u) (ap (λ q. kept_block_bytes q (block_of old b.port b.part) b.bytes) i.same_part ∙ ap (λ xs. kept_block_bytes part xs b.bytes) found)
       | inr u ↦
           let g = rw u at h in
           let rest = reloaded kept old port part bs t g in
@@ -139,17 +139,17 @@ reads-place d k p handle len place live =
     ap (λ s. outcome_of p.memory (read_act (addressed_by_status k.port.number s meant))) live
     ∙ ap (read_of_place p.memory k.port.number place) (meant-len d.profile.manner p.client k.port handle len place live)
 
-place-kept : (old new : Plant) (m : List Block) → IsSoundPlant old → IsSoundPlant new → (port : ℕ) (place : Place) → IsPlaced old port place
+place-kept : (version : ℕ) (old new : Plant) (m : List Block) → IsSoundPlant old → IsSoundPlant new → (port : ℕ) (place : Place) → IsPlaced old port place
     → is_kept old new port (SymbolPart place.symbol) ≡ true → (len : ℕ)
-    → read_of_place (memory_after_reload (is_kept old new) m (first_memory new)) port place len ≡ read_of_place m port place len
-place-kept old new m so sn port place i t len =
+    → read_of_place (memory_after_reload (is_kept old new) m (first_memory version new)) port place len ≡ read_of_place m port place len
+place-kept version old new m so sn port place i t len =
     elim (cases_Bool (nat_lt place.len len)) [
       | inl u ↦ rw u refl
       | inr u ↦
           let l = ltb-false place.len len u in
           let ends = i.ends in
-          let long = kept-length old new so sn port (SymbolPart place.symbol) t in
-          let values = values-kept (is_kept old new) m (first_memory new) port place.symbol t len place.first
+          let long = kept-length version old new so sn port (SymbolPart place.symbol) t in
+          let values = values-kept (is_kept old new) m (first_memory version new) port place.symbol t len place.first
           (λ j low high. let n = symbol-named old so port i.asked place.symbol i.symbol i.port_found i.symbol_found j (omega (arith, l, ends, high)) in
           omega (arith, n, long)) in
           rw u (ap outcome values)
@@ -227,7 +227,7 @@ reads-as-before s (Ok d) sound w fits c k l asker later h handle live live_later
     let after : kept_status l.client.handles handle later.port.number ≡ Live stays.place = ap (kept_status l.client.handles handle) h.same_port ∙ status
     ∙ stays.later in
     same-reading (setup_of s.world) (setup_of new) s.world.memory new.memory k.client l.client asker later handle len stays.place refl h.same_port stays.live after
-    (place-kept s.world.plant (plant_of d) s.world.memory w.sound (sound d refl) port stays.place placed stays.is_kept
+    (place-kept (next_version s.world.version) s.world.plant (plant_of d) s.world.memory w.sound (sound d refl) port stays.place placed stays.is_kept
     (len_of_place s.world.profile.manner stays.place len))
 
 pub each_keeps_handles : EachKeepsHandles

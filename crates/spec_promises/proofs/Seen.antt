@@ -22,7 +22,7 @@ use Rattle.spec_machine.specs.MachineState.{MachineState, Exchange, exchange_of,
 use Rattle.spec_machine.specs.Piece.{with_received, packets_left, with_one_taken, with_client, with_piece, after_outcome, after_packet, after_piece}
 use Rattle.spec_machine.specs.Moves.{with_gone, with_took, state_after_move, state_after}
 use Rattle.spec_machine.specs.Events.{after_reload, state_after_event}
-use Rattle.spec_machine.specs.World.{World, Setup, setup_of, port_numbered, first_memory}
+use Rattle.spec_machine.specs.World.{World, Setup, setup_of, port_numbered, first_memory, FIRST_VERSION}
 use Rattle.spec_machine.specs.Access.{Addressed, addressed_name}
 use Rattle.spec_machine.specs.Watches.{Watch}
 use Rattle.spec_machine.specs.Client.{Client}
@@ -34,7 +34,7 @@ use Rattle.spec_machine.specs.Decisions.{Decision, acts_in}
 use Rattle.spec_machine.specs.Packets.{Check, source_rights, checks_of, decide}
 use Rattle.spec_machine.specs.Replies.{performed}
 use Rattle.spec_machine.specs.Ticks.{signal_puts, world_after_tick}
-use Rattle.spec_machine.specs.Reloads.{world_after_reload}
+use Rattle.spec_machine.specs.Reloads.{next_version, world_after_reload}
 use Rattle.spec_machine.specs.AdsDevice.{reloading}
 use Rattle.spec_laws.specs.Isolation.{start_in}
 use Rattle.spec_laws.specs.Soundness.{Each, IsSoundPlant}
@@ -55,7 +55,7 @@ use Rattle.spec_server.proofs.ServerProofs.{reads_descriptions}
 -- in every state the plant is sound, and its parts have their bytes
 pub record Whole (w : World) : Type 0 where
   pub sound : IsSoundPlant w.plant
-  pub memory : Alike w.memory (first_memory w.plant)
+  pub memory : Alike w.memory (first_memory FIRST_VERSION w.plant)
 
 exchange-whole : (f : Exchange World Client → Exchange World Client) → ((x : Exchange World Client) → Goes x (f x))
     → (s : MachineState World Client) (o : Option (Connection Client))
@@ -67,7 +67,7 @@ exchange-whole f goes s (Some k) w =
     let back = sym g.plant in
     record {
       sound = subst IsSoundPlant back w.sound;
-      memory = alike_then (f x).world.memory s.world.memory _ g.memory (subst (λ q. Alike s.world.memory (first_memory q)) back w.memory);
+      memory = alike_then (f x).world.memory s.world.memory _ g.memory (subst (λ q. Alike s.world.memory (first_memory FIRST_VERSION q)) back w.memory);
     }
 
 reload-whole : (r : Result Description DescriptionFault)
@@ -77,7 +77,7 @@ unfolding world_after_reload
 reload-whole (Err fault) h s w = w
 reload-whole (Ok d) h s w =
     let sound = h d refl in
-    record { sound = sound; memory = reload-alike s.world.plant (plant_of d) w.sound sound s.world.memory w.memory }
+    record { sound = sound; memory = reload-alike (next_version s.world.version) s.world.plant (plant_of d) w.sound sound s.world.memory w.memory }
 
 event-whole : (s : MachineState World Client) (e : Event) → Whole s.world
     → Whole (state_after_event server_device s e).world
@@ -117,12 +117,12 @@ pub every_state_whole : (profile : Profile) (d : Description) (waves : List Wave
     → Whole (state_after server (start_in profile d waves) log).world
 every_state_whole profile d waves accepted log =
     log-whole log (start_in profile d waves)
-    (record { sound = accepted_are_sound d (length waves) accepted; memory = alike_itself (first_memory (plant_of d)) })
+    (record { sound = accepted_are_sound d (length waves) accepted; memory = alike_itself (first_memory FIRST_VERSION (plant_of d)) })
 
 -- what a request finds
 pub record Sees (a : Asked) : Type 0 where
   pub asked : IsAsked a.setup.plant a.asker.port
-  pub memory : Alike a.before.memory (first_memory a.setup.plant)
+  pub memory : Alike a.before.memory (first_memory FIRST_VERSION a.setup.plant)
   pub client : FitsPlant a.setup.plant a.before.client
 
 one-alike : (a : Act) (m : List Block) → Alike (memory_after m a) m
@@ -130,7 +130,7 @@ unfolding memory_after_acts
 one-alike a m = acts-alike (a ∷ []) m
 
 in_turn-sees : (d : Setup) (k : Asker) → IsAsked d.plant k.port → (rs : List Request) (p : Party)
-    → Alike p.memory (first_memory d.plant) → FitsPlant d.plant p.client
+    → Alike p.memory (first_memory FIRST_VERSION d.plant) → FitsPlant d.plant p.client
     → Each Sees (asked_in_turn d k p rs)
 unfolding asked_in_turn client_after_acts
 in_turn-sees d k i [] p m f = tt
@@ -140,10 +140,10 @@ in_turn-sees d k i (r ∷ rs) p m f =
     let fits : FitsPlant d.plant next.client = acts-fit d.plant (a ∷ []) p.client f (act-fine d.plant d p.client k i f.handles r, tt) in (
       record { asked = i; memory = m; client = f },
       in_turn-sees d k i rs next
-          (alike_then next.memory p.memory (first_memory d.plant) (one-alike a p.memory) m) fits,
+          (alike_then next.memory p.memory (first_memory FIRST_VERSION d.plant) (one-alike a p.memory) m) fits,
     )
 
-passed-sees : (d : Setup) (p : Party) → IsSoundPlant d.plant → Alike p.memory (first_memory d.plant) → FitsPlant d.plant p.client
+passed-sees : (d : Setup) (p : Party) → IsSoundPlant d.plant → Alike p.memory (first_memory FIRST_VERSION d.plant) → FitsPlant d.plant p.client
     → (source : AmsAddress) (rights : Option Rights) (number : ℕ) (port : Option PlantPort) → port_numbered number d.plant.ports ≡ port
     → (request : Option Request)
     → Each Sees (asked_of_question d p (question source rights port request))
@@ -155,7 +155,7 @@ passed-sees d p sound m f source (Some rights) number (Some port) e None = tt
 passed-sees d p sound m f source (Some rights) number None e request = tt
 passed-sees d p sound m f source None number port e request = tt
 
-header-sees : (d : Setup) (p : Party) → IsSoundPlant d.plant → Alike p.memory (first_memory d.plant) → FitsPlant d.plant p.client
+header-sees : (d : Setup) (p : Party) → IsSoundPlant d.plant → Alike p.memory (first_memory FIRST_VERSION d.plant) → FitsPlant d.plant p.client
     → (payload : List ℕ) (o : Option AmsHeader) → Each Sees (asked_of_question d p (question_in d payload o))
 header-sees d p sound m f payload None = tt
 header-sees d p sound m f payload (Some h) = go (list_any (λ (c : Check). c.stops) (checks_of d h payload))
@@ -169,7 +169,7 @@ header-sees d p sound m f payload (Some h) = go (list_any (λ (c : Check). c.sto
 -- what a packet finds
 record Fine (x : Exchange World Client) : Type 0 where
   sound : IsSoundPlant x.world.plant
-  memory : Alike x.world.memory (first_memory x.world.plant)
+  memory : Alike x.world.memory (first_memory FIRST_VERSION x.world.plant)
   client : FitsPlant x.world.plant x.connection.client
 
 packet-sees : (packet : List ℕ) (x : Exchange World Client) → Fine x → Each Sees (asked_of_packet packet x)
@@ -195,7 +195,7 @@ packet-fine packet x f = go x.connection.closing
     go true = f
     go false = record {
       sound = f.sound;
-      memory = alike_then o.world.memory x.world.memory (first_memory x.world.plant) (acts-alike (acts_in decision) x.world.memory) f.memory;
+      memory = alike_then o.world.memory x.world.memory (first_memory FIRST_VERSION x.world.plant) (acts-alike (acts_in decision) x.world.memory) f.memory;
       client = subst (FitsPlant x.world.plant) (sym (answer-client o.answer (with_client o.client (with_one_taken x.connection))))
           (acts-fit x.world.plant (acts_in decision) x.connection.client f.client
           (decide-fine (setup_of x.world) x.connection.client packet f.sound f.client).acts);
@@ -211,7 +211,7 @@ packets-see (p ∷ ps) x f =
     (packets-see ps y (packet-fine p x f))
 
 -- what is there has a name of the plant
-bytes-named : (plant : Plant) (m : List Block) → Alike m (first_memory plant) → (as_ : List Addressed) → Each (IsThereAt m) as_
+bytes-named : (plant : Plant) (m : List Block) → Alike m (first_memory FIRST_VERSION plant) → (as_ : List Addressed) → Each (IsThereAt m) as_
     → Each (IsNamed plant) (map addressed_name as_)
 bytes-named plant m a [] e = tt
 bytes-named plant m a (x ∷ xs) e =
@@ -221,7 +221,7 @@ bytes-named plant m a (x ∷ xs) e =
     let same = a.same n.port n.part in
     (omega (arith, l, same), bytes-named plant m a xs (e.1))
 
-watches-named : (plant : Plant) (m : List Block) → Alike m (first_memory plant) → (ws : List (Watch (List Addressed))) → Each (IsWatchThere m) ws
+watches-named : (plant : Plant) (m : List Block) → Alike m (first_memory FIRST_VERSION plant) → (ws : List (Watch (List Addressed))) → Each (IsWatchThere m) ws
     → Each (WatchIn (IsNamed plant)) ws
 watches-named plant m a [] e = tt
 watches-named plant m a (w ∷ ws) e = (bytes-named plant m a w.watched (e.0), watches-named plant m a ws (e.1))
