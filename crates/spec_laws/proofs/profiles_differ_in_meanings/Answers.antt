@@ -1,4 +1,4 @@
-use Rattle.spec_laws.proofs.Profiles.{keeps_profile, strict_is_plain, writes_are_plain, wide_reads_by_handle, wide_reads_by_name, wide_modes}
+use Rattle.spec_laws.proofs.Profiles.{keeps_profile, strict_is_plain, writes_are_plain, wide_reads_by_handle, wide_reads_by_name, wide_modes, wide_types}
 use Rattle.spec_laws.proofs.profiles_differ_in_meanings.Goals as goal
 
 pub returns-clause-kept : goal.returns-clause-kept
@@ -18,3 +18,6 @@ returns-clause-by_name c = wide_reads_by_name
 
 pub returns-clause-modes : goal.returns-clause-modes
 returns-clause-modes c = wide_modes
+
+pub returns-clause-types : goal.returns-clause-types
+returns-clause-types c = wide_types
