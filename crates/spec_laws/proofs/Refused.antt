@@ -179,10 +179,10 @@ bad_additions_are_refused d c k group offset len number delay cycle bad = go d.p
     -- a group that is watched is bad by its mode or its length
     known : (m : Option Mode) (r : Result (List Addressed) ℕ) → (IsUnwatched Wide group → ⊥)
         → (m ≡ None) ⊎ ((MAX_WATCHED < len) ⊎ ((len ≡ 0) ⊎ IsUnwatched Wide group)) → IsBad len m r
-    known m r no (inl e) = inl e
-    known m r no (inr (inl l)) = inr (inl l)
-    known m r no (inr (inr (inl z))) = inr (inr (inl z))
-    known m r no (inr (inr (inr u))) = absurd (no u)
+    known m r watched (inl e) = inl e
+    known m r watched (inr (inl l)) = inr (inl l)
+    known m r watched (inr (inr (inl z))) = inr (inr (inl z))
+    known m r watched (inr (inr (inr u))) = absurd (watched u)
 
     other : (m : Option Mode) → (m ≡ None) ⊎ ((MAX_WATCHED < len) ⊎ ((len ≡ 0) ⊎ (answered_group ADD_DEVICE_NOTIFICATION group ≡ None))) → IsBad len m reached
     other m (inl e) = inl e

@@ -28,7 +28,7 @@ use Rattle.spec_machine.specs.Client.{Place, Client, Deletes}
 use Rattle.spec_machine.specs.Acts.{Refusal, fixed_data, outcomes_of}
 use Rattle.spec_machine.specs.Answers.{answered_group}
 use Rattle.spec_machine.specs.Reach.{reach_of}
-use Rattle.spec_machine.specs.Reads.{fixed_reply, type_upload_reply, read_group}
+use Rattle.spec_machine.specs.Reads.{fixed_reply, read_act, type_upload_reply, read_group}
 use Rattle.std.specs.Int.{w32, to_le_bytes}
 use Rattle.spec_formats.specs.SymbolEntry.{entry_bytes}
 use Rattle.spec_machine.specs.Entries.{symbol_upload_of, type_upload_of, upload_info_of, upload_info_with_types_of, entry_of_part}
