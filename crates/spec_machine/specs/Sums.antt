@@ -123,14 +123,18 @@ sum_of_short_reads n bytes = record {
   form = OfReadWrites;
 }
 
--- additions of notifications, whose results tell their handles
-abbrev pub sum_of_additions : ℕ → List ℕ → SumRequest
-sum_of_additions n bytes = record {
-  data_len = addition_width n bytes * n;
+-- additions of notifications, whose results tell their handles, where a head has this width
+abbrev pub additions_of_width : ℕ → ℕ → List ℕ → SumRequest
+additions_of_width width n bytes = record {
+  data_len = width * n;
   reply_len = 8 * n;
-  parts = addition_parts n (addition_width n bytes) bytes;
+  parts = addition_parts n width bytes;
   form = OfAdditions;
 }
+
+-- the same, where the data tells the width
+abbrev pub sum_of_additions : ℕ → List ℕ → SumRequest
+sum_of_additions n bytes = additions_of_width (addition_width n bytes) n bytes
 
 -- deletions of notifications
 abbrev pub sum_of_deletions : ℕ → List ℕ → SumRequest

@@ -5,3 +5,4 @@ pub mod StopLemmas
 pub mod RunningLemmas
 pub mod LaidLemmas
 pub mod ReadLemmas
+pub mod AdditionLemmas

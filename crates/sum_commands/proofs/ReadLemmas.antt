@@ -18,6 +18,9 @@ front_of-read form.ToldReads o reads = refl
 front_of-read form.ShortReads o reads = refl
 front_of-read form.Writes o reads = absurd (let no : false ≡ true = reads in cc)
 front_of-read form.ReadWrites o reads = absurd (let no : false ≡ true = reads in cc)
+front_of-read form.Additions o reads = absurd (let no : false ≡ true = reads in cc)
+front_of-read form.ShortAdditions o reads = absurd (let no : false ≡ true = reads in cc)
+front_of-read form.Deletions o reads = absurd (let no : false ≡ true = reads in cc)
 
 data_of-read : (form : Form) (group offset len : ℕ) (o : Outcome) → is_of_reads form ≡ true
     → o.bytes ++ replicate (zeros_of form (len - length o.bytes)) 0 ≡ data_of form (Read group offset len) o
@@ -26,6 +29,9 @@ data_of-read form.ToldReads group offset len o reads = refl
 data_of-read form.ShortReads group offset len o reads = append-nil o.bytes
 data_of-read form.Writes group offset len o reads = absurd (let no : false ≡ true = reads in cc)
 data_of-read form.ReadWrites group offset len o reads = absurd (let no : false ≡ true = reads in cc)
+data_of-read form.Additions group offset len o reads = absurd (let no : false ≡ true = reads in cc)
+data_of-read form.ShortAdditions group offset len o reads = absurd (let no : false ≡ true = reads in cc)
+data_of-read form.Deletions group offset len o reads = absurd (let no : false ≡ true = reads in cc)
 
 length-data_of-read : (form : Form) (group offset len : ℕ) (o : Outcome) → is_of_reads form ≡ true → length o.bytes ≤ len
     → length (data_of form (Read group offset len) o) ≤ len
@@ -38,6 +44,9 @@ length-data_of-read form.ToldReads group offset len o reads short =
 length-data_of-read form.ShortReads group offset len o reads short = short
 length-data_of-read form.Writes group offset len o reads short = absurd (let no : false ≡ true = reads in cc)
 length-data_of-read form.ReadWrites group offset len o reads short = absurd (let no : false ≡ true = reads in cc)
+length-data_of-read form.Additions group offset len o reads short = absurd (let no : false ≡ true = reads in cc)
+length-data_of-read form.ShortAdditions group offset len o reads short = absurd (let no : false ≡ true = reads in cc)
+length-data_of-read form.Deletions group offset len o reads short = absurd (let no : false ≡ true = reads in cc)
 
 -- a read ended so: its result and its data are those of its form
 pub record IsRead (form : Form) (group offset len : ℕ) (o : Outcome) (at : ℕ) (base out : List ℕ) : Type 0 where
@@ -75,6 +84,9 @@ read_width-front form.ToldReads reads = refl
 read_width-front form.ShortReads reads = refl
 read_width-front form.Writes reads = absurd (let no : false ≡ true = reads in cc)
 read_width-front form.ReadWrites reads = absurd (let no : false ≡ true = reads in cc)
+read_width-front form.Additions reads = absurd (let no : false ≡ true = reads in cc)
+read_width-front form.ShortAdditions reads = absurd (let no : false ≡ true = reads in cc)
+read_width-front form.Deletions reads = absurd (let no : false ≡ true = reads in cc)
 
 -- a part of such a sum is a read
 pub part_of-read : (form : Form) (heads written : List ℕ) → is_of_reads form ≡ true
@@ -84,3 +96,6 @@ part_of-read form.ToldReads heads written reads = refl
 part_of-read form.ShortReads heads written reads = refl
 part_of-read form.Writes heads written reads = absurd (let no : false ≡ true = reads in cc)
 part_of-read form.ReadWrites heads written reads = absurd (let no : false ≡ true = reads in cc)
+part_of-read form.Additions heads written reads = absurd (let no : false ≡ true = reads in cc)
+part_of-read form.ShortAdditions heads written reads = absurd (let no : false ≡ true = reads in cc)
+part_of-read form.Deletions heads written reads = absurd (let no : false ≡ true = reads in cc)

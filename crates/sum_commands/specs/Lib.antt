@@ -5,3 +5,4 @@ pub mod SumCommand
 pub mod Packing
 pub mod Served
 pub mod Reads
+pub mod Additions

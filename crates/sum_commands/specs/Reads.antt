@@ -11,6 +11,9 @@ is_of_reads form.Writes = false
 is_of_reads form.ReadWrites = false
 is_of_reads form.ToldReads = true
 is_of_reads form.ShortReads = true
+is_of_reads form.Additions = false
+is_of_reads form.ShortAdditions = false
+is_of_reads form.Deletions = false
 
 -- how long the result of a read is: only a sum of plain reads does not tell how many bytes were given
 abbrev pub read_width : Form → ℕ

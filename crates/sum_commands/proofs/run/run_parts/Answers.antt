@@ -50,6 +50,14 @@ run_first-requires-clause-room g c =
     let all = times-step (c.args.n - c.loop.counter) k (front_width form) more in
     omega (arith, c.loop.invariant.room, all)
 
+pub run_first-requires-clause-small : goal.run_first-requires-clause-small
+run_first-requires-clause-small g c =
+    let form = c.loop.rest.form in
+    let k = c.args.n - (c.loop.counter + 1) in
+    let more : c.args.n - c.loop.counter ≡ suc k = omega arith in
+    let all = times-step (c.args.n - c.loop.counter) k (front_width form) more in
+    omega (arith, c.loop.invariant.small, all)
+
 pub loop-preserved : goal.loop-preserved
 loop-preserved g c =
     let stands_for = g.P.PartService.stands_for in
