@@ -1,7 +1,7 @@
 -- What the server decides of a request of a call, and what its answer is read as.
 use Rattle.std.proofs.Common.{◌≡◌, ◌⊎◌, ℕ, zero, suc, ◌+◌, ◌<◌, ◌^◌, List, [], ◌∷◌, length, drop, Bool, true, false, not, refl, sym, ap, ◌∙◌, subst, inl, inr}
 use Rattle.std.proofs.Common.{arith}
-use Rattle.std.specs.Prelude.{Option, Some, None, is_none, Result, Ok, Err, map, ◌==◌, ◌||◌, ◌/◌, ◌%◌, nat_le, nat_lt, bytes_eq, if◌then◌else◌}
+use Rattle.std.specs.Prelude.{Option, Some, None, is_none, Result, Ok, Err, map, ◌==◌, ◌||◌, ◌/◌, ◌%◌, nat_le, nat_lt, bytes_eq, if◌then◌else◌, unwrap_or}
 use Rattle.std.specs.Int.{w32, to_le_bytes}
 use Rattle.std.proofs.lemmas.Bool.{cases_Bool, cond-true, cond-false, leb-false, eqb-true}
 use Rattle.std.proofs.lemmas.Nat.{from_le_bytes-to_le_bytes_4}
@@ -27,6 +27,7 @@ use Rattle.spec_machine.specs.Handles.{HandleStatus, Never, Released, Outdated, 
 use Rattle.spec_machine.specs.Reach.{addressed_by_range, addressed_in_place, addressed_by_status, reach_of}
 use Rattle.spec_machine.specs.Client.{Place, names_of_place, Client, client_after, Adds, NoEffect}
 use Rattle.spec_machine.specs.Decisions.{Decision, NoAnswer, EndConnection, AmsError, Perform, Single, refuse, acts_in}
+use Rattle.spec_machine.specs.Manner.{Manner}
 use Rattle.spec_machine.specs.Entries.{entry_of_part}
 use Rattle.spec_machine.specs.Packets.{Check, source_rights, checks_of, checked, decide_passed, decide_header}
 use Rattle.spec_machine.specs.Reads.{fixed_reply}
@@ -38,6 +39,7 @@ use Rattle.spec_machine.proofs.MoreActs.{of_more, add-more}
 use Rattle.spec_machine.specs.Sums.{SumRequest, sum_refusal, sum_of_reads, sum_of_writes, sum_of_read_writes, given_in_turn}
 use Rattle.spec_machine.specs.MoreSums.{more_sums}
 use Rattle.spec_machine.proofs.MoreSums.{more_sums-none}
+use Rattle.spec_machine.proofs.MoreActs.{more_read_write-none}
 use Rattle.spec_machine.specs.SumPackets.{acts_of, decide_parts, decide_read_write, decide_more, decide_request}
 use Rattle.spec_machine.specs.Watches.{Watch, Mode}
 use Rattle.spec_machine.specs.World.{Setup, port_numbered, numbers_from, name_at, names_at, own_name, own_names, VERSION_AT}
@@ -188,9 +190,9 @@ fixed_keeps len bytes = go (nat_lt len (length bytes))
     go true = refl
     go false = refl
 
-found_keeps : (len : ℕ) (o : Option Found) → effect_of (if_found o (λ f. fixed_reply len (entry_bytes (entry_of_part f)))) ≡ NoEffect
-found_keeps len None = refl
-found_keeps len (Some f) = fixed_keeps len (entry_bytes (entry_of_part f))
+found_keeps : (x : Manner) (len : ℕ) (o : Option Found) → effect_of (if_found o (λ f. fixed_reply len (entry_bytes (entry_of_part x f)))) ≡ NoEffect
+found_keeps x len None = refl
+found_keeps x len (Some f) = fixed_keeps len (entry_bytes (entry_of_part x f))
 
 entry_group : answered_group READ_WRITE 0xF009 ≡ Some ExtendedInfoByName
 unfolding answered_group group_of group_in
@@ -203,7 +205,9 @@ entry_act d c k offset len name =
     let g = answered_group READ_WRITE 0xF009 in
     let meant = name_in d.profile.manner g name in
     let room = value_len_in d.profile.manner k.port g meant len in
-    ap (λ (x : Option Group). effect_of (read_write_group c k.port x room meant)) entry_group ∙ found_keeps room (found_of k.port.symbols meant)
+    ap (λ o. effect_of (unwrap_or o (read_write_group d c k.port g room meant))) (more_read_write-none d.profile.manner d 0xF009 len name refl)
+    ∙ ap (λ (x : Option Group). effect_of (read_write_group d c k.port x room meant)) entry_group
+    ∙ found_keeps d.profile.manner room (found_of k.port.symbols meant)
 
 entry_decided : (d : Setup) (c : Client) (k : Asker) (offset len : ℕ) (name : List ℕ)
     → Keeps c (decide_request d c k (request.ReadWrite 0xF009 offset len name))

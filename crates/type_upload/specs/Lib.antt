@@ -1,4 +1,5 @@
 pub mod Entry
+pub mod Alone
 pub mod Places
 pub mod Layouts
 pub mod WrittenFields

@@ -22,7 +22,7 @@ fields_meant f = record {
 
 -- as short as the texts and dimensions of an accepted type are
 pub record IsShort (f : Fields) : Type 0 where
-  pub name : length f.name.now ≤ 255
+  pub name : length f.name.now ≤ 400
   pub kind : length f.kind.now ≤ 400
   pub comment : length f.comment.now ≤ 255
   pub dims : length f.dims.now ≤ 3

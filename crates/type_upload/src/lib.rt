@@ -1,6 +1,7 @@
 //! Type entries: what the type upload lists.
 #![tactic(auto)]
 
+mod alone;
 mod entry;
 mod fields;
 mod layouts;
@@ -10,6 +11,7 @@ mod reading;
 mod skipping;
 mod writing;
 
+pub use alone::{put_type_alone, put_type_at};
 pub use entry::TypeEntry;
 pub use reading::read_type;
 pub use writing::put_types;

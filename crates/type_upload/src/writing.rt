@@ -48,7 +48,7 @@ fn append_types(alloc: Global, types: &Types, out: &mut Octets) -> Result<(), No
 }
 
 // The entry of the type that stands behind the known ones, and its layout.
-fn append_type(
+pub(crate) fn append_type(
     alloc: Global,
     types: &Types,
     known: &[Layout],
