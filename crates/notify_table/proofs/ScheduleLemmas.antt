@@ -10,7 +10,7 @@ use Rattle.std.proofs.Math.Seq.{drop-cons}
 use Rattle.std.proofs.lemmas.List.Elements.{All-head, All-tail, All-get_or}
 use Rattle.std.proofs.lemmas.List.Edits.{get_or-remove_below, get_or-remove_above, length-remove, length-insert}
 use Rattle.slab.specs.Slab.{Slab, get, slab_len, Updates}
-use Rattle.spec_formats.specs.Ranges.{Range}
+use Rattle.spec_machine.specs.WatchedRanges.{Watched}
 use Rattle.spec_machine.specs.Watches.{Watch, is_due, is_due_after, is_sent, after_check}
 use Rattle.notify_table.specs.declared.turn.Turn.{Turn}
 use Rattle.notify_table.specs.Table.{handle_of, is_numbered}
@@ -29,7 +29,7 @@ first_passes p (y ∷ ys) x some is passes =
     let at_first : position_or_len p (y ∷ ys) ≡ 0 = rw first refl in
     rw (at_first, lt-ltb 0 (length (y ∷ ys)) (omega arith)) refl
 
-module _ (old new : Slab (Watch Range)) (key : ℕ) (slot : Option (Watch Range)) where
+module _ (old new : Slab (Watch Watched)) (key : ℕ) (slot : Option (Watch Watched)) where
   -- where the record of one key changes, the others are as they were
   pub same_watches : Updates old new key slot → (ts : List Turn) → All (λ t. key_of t ≢ key) ts
       → map (watch_at new) ts ≡ map (watch_at old) ts
@@ -41,16 +41,16 @@ module _ (old new : Slab (Watch Range)) (key : ℕ) (slot : Option (Watch Range)
 
   pub still_kept : Updates old new key slot → (ts : List Turn) → All (λ t. key_of t ≢ key) ts → All (IsKept old) ts → All (IsKept new) ts
   still_kept updates ts apart kept k d below =
-      subst (λ (s : Option (Watch Range)). Keeps s (get_or ts k d)) (sym (updates.others (key_of (get_or ts k d)) (apart k d below))) (kept k d below)
+      subst (λ (s : Option (Watch Watched)). Keeps s (get_or ts k d)) (sym (updates.others (key_of (get_or ts k d)) (apart k d below))) (kept k d below)
 
 -- a key that has no record is that of no turn
-pub vacant_apart : (records : Slab (Watch Range)) (key : ℕ) (ts : List Turn) → get records key ≡ None → All (IsKept records) ts
+pub vacant_apart : (records : Slab (Watch Watched)) (key : ℕ) (ts : List Turn) → get records key ≡ None → All (IsKept records) ts
     → All (λ t. key_of t ≢ key) ts
 vacant_apart records key ts vacant kept k d below same =
     false≢true (subst IsSome (ap (get records) same ∙ vacant) (kept k d below).there)
 
 -- a turn is put in for a record that was put in or has changed
-module _ (old new : Slab (Watch Range)) (w : Watch Range) (ts : List Turn) (place : ℕ) (t : Turn) where
+module _ (old new : Slab (Watch Watched)) (w : Watch Watched) (ts : List Turn) (place : ℕ) (t : Turn) where
   pub placed : Updates old new (key_of t) (Some w) → All (λ u. key_of u ≢ key_of t) ts
       → map (watch_at new) (insert ts place t) ≡ insert (map (watch_at old) ts) place w
   placed updates apart =
@@ -62,7 +62,7 @@ module _ (old new : Slab (Watch Range)) (w : Watch Range) (ts : List Turn) (plac
   scheduled_after updates stored apart kept once keeps in_turn = record {
     in_turn = in_turn;
     kept = All-insert (IsKept new) ts place t (still_kept old new (key_of t) (Some w) updates ts apart kept)
-        (subst (λ (s : Option (Watch Range)). Keeps s t) (sym updates.changed) keeps);
+        (subst (λ (s : Option (Watch Watched)). Keeps s t) (sym updates.changed) keeps);
     no_other = stored ∙ sym (length-insert_one ts place t);
     apart = OncePer-insert key_of ts place t once apart;
   }
@@ -88,13 +88,13 @@ in_turn-remove ts i within in_turn = record {
 }
 
 -- the notification at a place is that of the turn there
-pub nth_is : (records : Slab (Watch Range)) (ts : List Turn) (ws : List (Watch Range)) (i : ℕ) (t : Turn) → map (watch_at records) ts ≡ ws
+pub nth_is : (records : Slab (Watch Watched)) (ts : List Turn) (ws : List (Watch Watched)) (i : ℕ) (t : Turn) → map (watch_at records) ts ≡ ws
     → i < length ts → t ≡ get_or ts i t → nth_watch ws i ≡ watch_at records t
 nth_is records ts ws i t view within t_is =
     ap (λ us. nth_watch us i) (sym view) ∙ get_or-map (watch_at records) ts i t no_watch within ∙ ap (watch_at records) (sym t_is)
 
 -- one turn is taken out
-module _ (records new : Slab (Watch Range)) (ts us : List Turn) (ws : List (Watch Range)) (i : ℕ) (t : Turn) where
+module _ (records new : Slab (Watch Watched)) (ts us : List Turn) (ws : List (Watch Watched)) (i : ℕ) (t : Turn) where
   others_apart : AreScheduled records ts → i < length ts → t ≡ get_or ts i t → us ≡ remove ts i → All (λ u. key_of u ≢ key_of t) us
   others_apart scheduled within t_is us_is =
       rw us_is (λ k e below same. OncePer-others key_of ts i t scheduled.apart within k e below (same ∙ ap key_of t_is))
@@ -135,7 +135,7 @@ module _ (records new : Slab (Watch Range)) (ts us : List Turn) (ws : List (Watc
       ∙ rw (us_is, map-remove (watch_at records) ts i, view) refl
 
   -- its record is changed, and it stands elsewhere
-  pub changed_scheduled : (vs : List Turn) (place : ℕ) (u : Turn) (w : Watch Range) → AreScheduled records ts → i < length ts → t ≡ get_or ts i t
+  pub changed_scheduled : (vs : List Turn) (place : ℕ) (u : Turn) (w : Watch Watched) → AreScheduled records ts → i < length ts → t ≡ get_or ts i t
       → us ≡ remove ts i → vs ≡ insert us place u → key_of u ≡ key_of t → Updates records new (key_of t) (Some w)
       → slab_len new ≡ slab_len records → Keeps (Some w) u → AreInTurn vs → AreScheduled new vs
   changed_scheduled vs place u w scheduled within t_is us_is vs_is key_is updates no_more keeps in_turn =
@@ -145,7 +145,7 @@ module _ (records new : Slab (Watch Range)) (ts us : List Turn) (ws : List (Watc
       (rw key_is updates) (no_more ∙ others_left scheduled within us_is) (rw key_is apart)
       (others_kept scheduled us_is) (others_once scheduled within us_is) keeps in_turn_at)
 
-  pub changed_watches : (vs : List Turn) (place : ℕ) (u : Turn) (w : Watch Range) → map (watch_at records) ts ≡ ws → AreScheduled records ts
+  pub changed_watches : (vs : List Turn) (place : ℕ) (u : Turn) (w : Watch Watched) → map (watch_at records) ts ≡ ws → AreScheduled records ts
       → i < length ts → t ≡ get_or ts i t → us ≡ remove ts i → vs ≡ insert us place u → key_of u ≡ key_of t → Updates records new (key_of t) (Some w)
       → map (watch_at new) vs ≡ insert (remove ws i) place w
   changed_watches vs place u w view scheduled within t_is us_is vs_is key_is updates =
@@ -154,7 +154,7 @@ module _ (records new : Slab (Watch Range)) (ts us : List Turn) (ws : List (Watc
       rw (vs_is, here, us_is, map-remove (watch_at records) ts i, view) refl
 
 -- a turn is added with its record
-module _ (records new : Slab (Watch Range)) (ts vs : List Turn) (place : ℕ) (t : Turn) (w : Watch Range) where
+module _ (records new : Slab (Watch Watched)) (ts vs : List Turn) (place : ℕ) (t : Turn) (w : Watch Watched) where
   pub added_scheduled : AreScheduled records ts → get records (key_of t) ≡ None → Updates records new (key_of t) (Some w)
       → slab_len new ≡ slab_len records + 1 → vs ≡ insert ts place t → Keeps (Some w) t → AreInTurn vs → AreScheduled new vs
   added_scheduled scheduled vacant updates one_more vs_is keeps in_turn =
@@ -163,13 +163,13 @@ module _ (records new : Slab (Watch Range)) (ts vs : List Turn) (place : ℕ) (t
       let stored = one_more ∙ ap (λ n. n + 1) scheduled.no_other in
       rw vs_is (scheduled_after records new w ts place t updates stored apart scheduled.kept scheduled.apart keeps in_turn_at)
 
-  pub added_watches : (ws : List (Watch Range)) → map (watch_at records) ts ≡ ws → AreScheduled records ts → get records (key_of t) ≡ None
+  pub added_watches : (ws : List (Watch Watched)) → map (watch_at records) ts ≡ ws → AreScheduled records ts → get records (key_of t) ≡ None
       → Updates records new (key_of t) (Some w) → vs ≡ insert ts place t → map (watch_at new) vs ≡ insert ws place w
   added_watches ws view scheduled vacant updates vs_is =
       rw vs_is (placed records new w ts place t updates (vacant_apart records (key_of t) ts vacant scheduled.kept) ∙ rw view refl)
 
 -- how much room there is for records plays no part
-pub any_capacity : (records : Slab (Watch Range)) (capacity : ℕ) (ts : List Turn) → AreScheduled records ts
+pub any_capacity : (records : Slab (Watch Watched)) (capacity : ℕ) (ts : List Turn) → AreScheduled records ts
     → AreScheduled (record records { capacity = capacity }) ts
 any_capacity records capacity ts scheduled = record {
   in_turn = scheduled.in_turn;
@@ -179,7 +179,7 @@ any_capacity records capacity ts scheduled = record {
 }
 
 -- a checked notification keeps its handle
-pub Keeps-checked : (now : ℕ) (bytes : List ℕ) (slot : Option (Watch Range)) (t u : Turn) → Keeps slot t → handle_of_turn u ≡ handle_of_turn t
+pub Keeps-checked : (now : ℕ) (bytes : List ℕ) (slot : Option (Watch Watched)) (t u : Turn) → Keeps slot t → handle_of_turn u ≡ handle_of_turn t
     → u.next ≡ next_moment (after_check now bytes (watch_in slot)) → Keeps (Some (after_check now bytes (watch_in slot))) u
 Keeps-checked now bytes slot t u keeps handle next = record {
   there = refl;
@@ -201,13 +201,13 @@ due_as_moment now cycle (Some last) =
       | inr reached ↦ le-leb (max cycle 1) _ (omega arith) ∙ sym (le-leb (last + max cycle 1) now reached)
     ]
 
-pub due_as_turn : (now : ℕ) (slot : Option (Watch Range)) (t : Turn) → Keeps slot t → is_due now (watch_in slot) ≡ is_turn_due now t
+pub due_as_turn : (now : ℕ) (slot : Option (Watch Watched)) (t : Turn) → Keeps slot t → is_due now (watch_in slot) ≡ is_turn_due now t
 due_as_turn now slot t keeps =
     due_as_moment now (watch_in slot).cycle (watch_in slot).last ∙ ap (λ m. nat_le m now) (sym keeps.next_is)
 
 -- the due notifications are those of the due turns
-pub due_watches : (now : ℕ) (records : Slab (Watch Range)) (ts : List Turn) → All (IsKept records) ts
-    → map handle_of (filter (λ (w : Watch Range). is_due now w) (map (watch_at records) ts)) ≡ map handle_of_turn (filter (is_turn_due now) ts)
+pub due_watches : (now : ℕ) (records : Slab (Watch Watched)) (ts : List Turn) → All (IsKept records) ts
+    → map handle_of (filter (λ (w : Watch Watched). is_due now w) (map (watch_at records) ts)) ≡ map handle_of_turn (filter (is_turn_due now) ts)
 due_watches now records [] kept = refl
 due_watches now records (t ∷ ts) kept =
     let keeps = All-head (IsKept records) t ts kept in
@@ -219,7 +219,7 @@ due_watches now records (t ∷ ts) kept =
     ])
 
 -- a notification has the number of its turn
-pub position_of_turn : (handle : ℕ) (records : Slab (Watch Range)) (ts : List Turn) → All (IsKept records) ts
+pub position_of_turn : (handle : ℕ) (records : Slab (Watch Watched)) (ts : List Turn) → All (IsKept records) ts
     → position (λ t. nat_eq (handle_of_turn t) handle) ts ≡ position (is_numbered handle) (map (watch_at records) ts)
 position_of_turn handle records ts kept =
     rw (length-map ts (watch_at records), ← steps_before ts kept) refl
@@ -232,7 +232,7 @@ position_of_turn handle records ts kept =
         let rest = steps_before us (All-tail (IsKept records) u us all) in
         cc
 
-pub within_turns : (records : Slab (Watch Range)) (ts : List Turn) (ws : List (Watch Range)) (i : ℕ) → map (watch_at records) ts ≡ ws
+pub within_turns : (records : Slab (Watch Watched)) (ts : List Turn) (ws : List (Watch Watched)) (i : ℕ) → map (watch_at records) ts ≡ ws
     → i < length ws → i < length ts
 within_turns records ts ws i view within = omega (arith, length-map ts (watch_at records), ap length view)
 
@@ -241,17 +241,17 @@ pub put_into : (ts us vs : List Turn) (place : ℕ) (t : Turn) → us ≡ ts →
 put_into ts us vs place t same put = put ∙ ap (λ ws. insert ws place t) same
 
 -- a turn of a schedule has its record
-pub keeps_of : (records : Slab (Watch Range)) (ts : List Turn) (i : ℕ) (t : Turn) → AreScheduled records ts → i < length ts → t ≡ get_or ts i t
+pub keeps_of : (records : Slab (Watch Watched)) (ts : List Turn) (i : ℕ) (t : Turn) → AreScheduled records ts → i < length ts → t ≡ get_or ts i t
     → IsKept records t
 keeps_of records ts i t scheduled within t_is = subst (IsKept records) (sym t_is) (All-get_or (IsKept records) ts i t within scheduled.kept)
 
 -- a step through the notifications after a reload
-pub record IsStep (g : Watch Range → Option (Watch Range)) (old new : List (Watch Range)) (place next : ℕ) : Type 0 where
+pub record IsStep (g : Watch Watched → Option (Watch Watched)) (old new : List (Watch Watched)) (place next : ℕ) : Type 0 where
   pub within : next ≤ length new
   pub left : take next new ++ filter_map g (drop next new) ≡ take place old ++ filter_map g (drop place old)
   pub less : length new - next < length old - place
 
-pub settled : (g : Watch Range → Option (Watch Range)) (old new : List (Watch Range)) (place next : ℕ) → place < length old
+pub settled : (g : Watch Watched → Option (Watch Watched)) (old new : List (Watch Watched)) (place next : ℕ) → place < length old
     → IsSettled (g (nth_watch old place)) old new place next → IsStep g old new place next
 settled g old new place next within step = by_answer (g (nth_watch old place)) refl step
   where
@@ -270,7 +270,7 @@ settled g old new place next within step = by_answer (g (nth_watch old place)) r
     cell : drop place old ≡ nth_watch old place ∷ drop (suc place) old
     cell = drop-cons old place no_watch within
 
-    by_answer : (o : Option (Watch Range)) → g (nth_watch old place) ≡ o → IsSettled o old new place next → IsStep g old new place next
+    by_answer : (o : Option (Watch Watched)) → g (nth_watch old place) ≡ o → IsSettled o old new place next → IsStep g old new place next
     by_answer None ended (new_is, next_is) = record {
       within = rw (new_is, next_is) (omega (arith, shorter, within));
       left = rw (new_is, next_is, same_front, same_back, cell, ended) refl;

@@ -7,7 +7,7 @@ use Rattle.std.proofs.lemmas.Bool.{cases_Bool, cases_eq, or_right, eq-eqb, ne_eq
 use Rattle.std.proofs.lemmas.List.{map-id, length-take-le, get_or-take, get_or_default}
 use Rattle.std.proofs.lemmas.List.Elements.{All-head, All-tail}
 use Rattle.std.proofs.lemmas.List.Folds.{list_any-append, list_any_none}
-use Rattle.spec_formats.specs.Ranges.{Range}
+use Rattle.spec_machine.specs.WatchedRanges.{Watched}
 use Rattle.spec_machine.specs.Watches.{Watch, is_due, is_sent, checked_watch}
 use Rattle.notify_table.specs.Table.{WatchTable, handle_of, is_numbered, due_handles, checked_where}
 
@@ -15,12 +15,12 @@ or_false : (b : Bool) → (b || false) ≡ b
 or_false true = refl
 or_false false = refl
 
-module _ (now : ℕ) (found : Watch Range → List ℕ) where
+module _ (now : ℕ) (found : Watch Watched → List ℕ) where
   -- a notification after the checks of those with these handles, where each finds its bytes
-  abbrev pub checked_among : List ℕ → Watch Range → Watch Range
+  abbrev pub checked_among : List ℕ → Watch Watched → Watch Watched
   checked_among handles w = cond (list_any (λ h. nat_eq h w.handle) handles) (checked_watch now (found w) w) w
 
-  handle-checked_watch : (bytes : List ℕ) (w : Watch Range) → (checked_watch now bytes w).handle ≡ w.handle
+  handle-checked_watch : (bytes : List ℕ) (w : Watch Watched) → (checked_watch now bytes w).handle ≡ w.handle
   handle-checked_watch bytes w =
       elim (cases_Bool (is_due now w)) [
         | inl due ↦ elim (cases_Bool (is_sent bytes w)) [
@@ -30,7 +30,7 @@ module _ (now : ℕ) (found : Watch Range → List ℕ) where
         | inr early ↦ rw early refl
       ]
 
-  handle-checked_among : (handles : List ℕ) (w : Watch Range) → (checked_among handles w).handle ≡ w.handle
+  handle-checked_among : (handles : List ℕ) (w : Watch Watched) → (checked_among handles w).handle ≡ w.handle
   handle-checked_among handles w =
       elim (cases_Bool (list_any (λ h. nat_eq h w.handle) handles)) [
         | inl among ↦ rw among (handle-checked_watch (found w) w)
@@ -38,20 +38,20 @@ module _ (now : ℕ) (found : Watch Range → List ℕ) where
       ]
 
   -- before the first check
-  pub checked_none : (ws : List (Watch Range)) → map (checked_among []) ws ≡ ws
+  pub checked_none : (ws : List (Watch Watched)) → map (checked_among []) ws ≡ ws
   checked_none ws = map-id ws
 
   -- one more check
-  pub checked_one_more : (handle : ℕ) (bytes : List ℕ) (handles : List ℕ) (ws : List (Watch Range))
-      → list_any (λ h. nat_eq h handle) handles ≡ false → All (λ (w : Watch Range). w.handle ≡ handle → bytes ≡ found w) ws
+  pub checked_one_more : (handle : ℕ) (bytes : List ℕ) (handles : List ℕ) (ws : List (Watch Watched))
+      → list_any (λ h. nat_eq h handle) handles ≡ false → All (λ (w : Watch Watched). w.handle ≡ handle → bytes ≡ found w) ws
       → map (checked_where handle now bytes) (map (checked_among handles) ws) ≡ map (checked_among (handles ++ handle ∷ [])) ws
   checked_one_more handle bytes handles [] new finds = refl
   checked_one_more handle bytes handles (w ∷ ws) new finds =
-      let rest = checked_one_more handle bytes handles ws new (All-tail (λ (v : Watch Range). v.handle ≡ handle → bytes ≡ found v) w ws finds) in
+      let rest = checked_one_more handle bytes handles ws new (All-tail (λ (v : Watch Watched). v.handle ≡ handle → bytes ≡ found v) w ws finds) in
       let here : checked_where handle now bytes (checked_among handles w) ≡ checked_among (handles ++ handle ∷ []) w =
       elim (cases_eq w.handle handle) [
         | inl same ↦
-            let bytes_are = All-head (λ (v : Watch Range). v.handle ≡ handle → bytes ≡ found v) w ws finds same in
+            let bytes_are = All-head (λ (v : Watch Watched). v.handle ≡ handle → bytes ≡ found v) w ws finds same in
             let before : list_any (λ h. nat_eq h w.handle) handles ≡ false = rw same new in
             rw (
               list_any-append (λ h. nat_eq h w.handle) handles (handle ∷ []),
@@ -70,7 +70,7 @@ module _ (now : ℕ) (found : Watch Range → List ℕ) where
       cc
 
   -- one that was not checked yet is as it was
-  pub found_among : (handle : ℕ) (handles : List ℕ) (ws : List (Watch Range)) → list_any (λ h. nat_eq h handle) handles ≡ false
+  pub found_among : (handle : ℕ) (handles : List ℕ) (ws : List (Watch Watched)) → list_any (λ h. nat_eq h handle) handles ≡ false
       → find (is_numbered handle) (map (checked_among handles) ws) ≡ find (is_numbered handle) ws
   found_among handle handles [] new = refl
   found_among handle handles (w ∷ ws) new =
@@ -85,8 +85,8 @@ module _ (now : ℕ) (found : Watch Range → List ℕ) where
       ]
 
   -- a due notification is among those that are due
-  due_listed : (w : Watch Range) (ws : List (Watch Range)) (handles : List ℕ)
-      → ((v : ℕ) → list_any (λ h. nat_eq h v) (map handle_of (filter (λ (u : Watch Range). is_due now u) (w ∷ ws))) ≡ true → list_any
+  due_listed : (w : Watch Watched) (ws : List (Watch Watched)) (handles : List ℕ)
+      → ((v : ℕ) → list_any (λ h. nat_eq h v) (map handle_of (filter (λ (u : Watch Watched). is_due now u) (w ∷ ws))) ≡ true → list_any
       (λ h. nat_eq h v) handles ≡ true)
       → checked_among handles w ≡ checked_watch now (found w) w
   due_listed w ws handles covers =
@@ -100,10 +100,10 @@ module _ (now : ℕ) (found : Watch Range → List ℕ) where
         ]
       ]
 
-  checked_covered : (ws : List (Watch Range)) (handles : List ℕ)
-      → ((v : ℕ) → list_any (λ h. nat_eq h v) (map handle_of (filter (λ (u : Watch Range). is_due now u) ws)) ≡ true → list_any (λ h. nat_eq h v)
+  checked_covered : (ws : List (Watch Watched)) (handles : List ℕ)
+      → ((v : ℕ) → list_any (λ h. nat_eq h v) (map handle_of (filter (λ (u : Watch Watched). is_due now u) ws)) ≡ true → list_any (λ h. nat_eq h v)
       handles ≡ true)
-      → map (checked_among handles) ws ≡ map (λ (w : Watch Range). checked_watch now (found w) w) ws
+      → map (checked_among handles) ws ≡ map (λ (w : Watch Watched). checked_watch now (found w) w) ws
   checked_covered [] handles covers = refl
   checked_covered (w ∷ ws) handles covers =
       let here = due_listed w ws handles covers in
@@ -114,7 +114,7 @@ module _ (now : ℕ) (found : Watch Range → List ℕ) where
       cc
 
   -- all that are due are checked
-  pub checked_all : (t : WatchTable) → map (checked_among (due_handles now t)) t.watches ≡ map (λ (w : Watch Range). checked_watch now (found w) w) t.watches
+  pub checked_all : (t : WatchTable) → map (checked_among (due_handles now t)) t.watches ≡ map (λ (w : Watch Watched). checked_watch now (found w) w) t.watches
   checked_all t = checked_covered t.watches (due_handles now t) (λ v listed. listed)
 
 -- a handle is below those behind it

@@ -1,6 +1,6 @@
 -- Notifications by rising handle. Private: no public clause cites this file.
 use Rattle.std.specs.Prelude.{ℕ, zero, suc, ◌<◌, ◌≤◌, List, [], ◌++◌, ◌==◌, length, filter, All, IsSome}
-use Rattle.spec_formats.specs.Ranges.{Range}
+use Rattle.spec_machine.specs.WatchedRanges.{Watched}
 use Rattle.spec_machine.specs.Watches.{Watch}
 use Rattle.notify_table.specs.Table.{WatchTable, handle_of, watch_of_handle, IsWatchable}
 use Rattle.spec_machine.specs.Requests.{MAX_WATCHES}
@@ -16,14 +16,14 @@ abbrev pub HasNumber : {X : Type 0} → (X → ℕ) → ℕ → X → Type 0
 HasNumber n most x = (0 < n x) × (n x ≤ most)
 
 -- each live notification has a granted handle of its own; they are few, and each may be watched
-pub record AreGranted (watches : List (Watch Range)) (granted : ℕ) : Type 0 where
+pub record AreGranted (watches : List (Watch Watched)) (granted : ℕ) : Type 0 where
   pub within : All (HasNumber handle_of granted) watches
   pub once : OncePer handle_of watches
   pub few : length watches ≤ MAX_WATCHES
   pub watched : All IsWatchable watches
 
 -- what is live, and how many were granted
-abbrev pub table_from : List (Watch Range) → ℕ → WatchTable
+abbrev pub table_from : List (Watch Watched) → ℕ → WatchTable
 table_from watches granted = record { watches = by_number handle_of granted watches; additions = granted }
 
 abbrev pub IsLive : WatchTable → ℕ → Type 0

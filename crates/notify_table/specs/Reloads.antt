@@ -1,9 +1,10 @@
--- What a reload makes of what is watched, where the whole places of the kept symbols are known.
+-- What a reload makes of what is watched, where the whole places of the kept symbols and the numbers of the new ports are known.
 use Rattle.std.specs.Prelude.{ℕ, List, Bool, not, is_some, Option, None, option_map}
 use Rattle.spec_plant.specs.Description as plant
 use Rattle.spec_formats.specs.Header.{AmsAddress}
 use Rattle.spec_formats.specs.Ranges.{Range, Bytes, Bit, Size}
 use Rattle.spec_machine.specs.Watches.{Watch}
+use Rattle.spec_machine.specs.WatchedRanges.{Watched, InArea, Own, kept_own}
 use Rattle.type_layout.specs.Descriptions.{area_of}
 use Rattle.type_layout.specs.declared.port.Area.{Area}
 use Rattle.type_layout.specs.declared.port.Area.TheVariants as area
@@ -25,7 +26,7 @@ bytes_at len first = Bytes (area_of first.0) first.1 len
 abbrev pub bit_at : ℕ → Area × ℕ → Range
 bit_at bit byte = Bit (area_of byte.0) byte.1 bit
 
--- where what is watched lies after the reload: all its bytes, or the byte of its bit, are of one kept
+-- where bytes or a bit lie after the reload: all its bytes, or the byte of its bit, are of one kept
 -- symbol; else nowhere
 abbrev pub range_after : List KeptPlace → ℕ → Range → Option Range
 range_after kept port (Bytes area offset len) =
@@ -34,18 +35,23 @@ range_after kept port (Bit area offset bit) =
     option_map (bit_at bit) (moved_span kept port (value_of_area area) offset 1)
 range_after kept port (Size area) = None
 
+-- what is watched after the reload, where the new ports have these numbers
+abbrev pub watched_after : List KeptPlace → List ℕ → ℕ → Watched → Option Watched
+watched_after kept numbers port (InArea range) = option_map InArea (range_after kept port range)
+watched_after kept numbers port (Own first len) = kept_own numbers port first len
+
 -- what is told of a notification that ended
 pub record EndedWatch : Type 0 where
   pub handle : ℕ
   pub port : ℕ
   pub address : AmsAddress
 
-abbrev pub end_of : Watch Range → EndedWatch
+abbrev pub end_of : Watch Watched → EndedWatch
 end_of w = record { handle = w.handle; port = w.port; address = w.address }
 
 abbrev pub ended_meant : Ended → EndedWatch
 ended_meant e = record { handle = e.handle; port = e.port; address = address_of e.to }
 
 -- a reload ends the notification
-abbrev pub is_ended : List KeptPlace → Watch Range → Bool
-is_ended kept w = not (is_some (range_after kept w.port w.watched))
+abbrev pub is_ended : List KeptPlace → List ℕ → Watch Watched → Bool
+is_ended kept numbers w = not (is_some (watched_after kept numbers w.port w.watched))

@@ -2,7 +2,7 @@
 use Rattle.std.specs.Prelude.{◌≡◌, ℕ, ◌+◌, ◌*◌, ◌<◌, ◌≤◌, max, List, length, slice_index_or, Bool, true, nat_le, Option}
 use Rattle.std.specs.Prelude.{None, Some, All}
 use Rattle.std.specs.List.Sorted.{IsNonDecreasingBy}
-use Rattle.spec_formats.specs.Ranges.{Range}
+use Rattle.spec_machine.specs.WatchedRanges.{Watched}
 use Rattle.spec_machine.specs.Watches.{Watch}
 use Rattle.notify_table.specs.declared.turn.Turn.{Turn}
 
@@ -11,7 +11,7 @@ abbrev pub moment_after : Option ℕ → ℕ → ℕ
 moment_after None cycle = 0
 moment_after (Some last) cycle = last + max cycle 1
 
-abbrev pub next_moment : Watch Range → ℕ
+abbrev pub next_moment : Watch Watched → ℕ
 next_moment w = moment_after w.last w.cycle
 
 -- turns stand by their moment, and at one moment by their handle

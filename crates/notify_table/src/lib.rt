@@ -10,5 +10,5 @@ mod turn;
 mod watches;
 
 pub use laws::histories_determine_notifications;
-pub use spec::{Ended, EndedList, Handles32, Mode, Spec, WatchFull};
+pub use spec::{Ended, EndedList, Handles32, Mode, Spec, WatchFull, Watched};
 pub use watches::Watches;

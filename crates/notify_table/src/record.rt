@@ -3,13 +3,14 @@
 ghost use Rattle.std.specs.Prelude.{◌≡◌, ◌<◌, length, IfOk, IfSome, option_map};
 ghost use Rattle.symbol_table.specs.Moves.{moved_span};
 ghost use Rattle.spec_machine.specs.Watches.{is_sent, after_check};
+ghost use Rattle.spec_machine.specs.WatchedRanges.{InArea, kept_own};
 ghost use Rattle.index_groups.specs.Access.{range_meant};
-ghost use Rattle.notify_table.specs.Specs.{new_watch, before_checks};
-ghost use Rattle.notify_table.specs.Reloads.{range_after, bytes_at, bit_at, end_of, ended_meant};
+ghost use Rattle.notify_table.specs.Specs.{watched_meant, new_watch, before_checks};
+ghost use Rattle.notify_table.specs.Reloads.{watched_after, range_after, bytes_at, bit_at, end_of, ended_meant};
 ghost use Rattle.notify_table.specs.Table.{watched_len, CanBeWatched};
 
 use crate::sent::SentBytes;
-use crate::{Ended, Mode, Spec};
+use crate::{Ended, Mode, Spec, Watched};
 use ads_base::NoMemory;
 use index_groups::Reach;
 use std::alloc::Global;
@@ -28,10 +29,10 @@ pub(crate) struct Record {
 }
 
 impl Model for Record {
-    ghost use Rattle.spec_formats.specs.Ranges.{Range};
+    ghost use Rattle.spec_machine.specs.WatchedRanges.{Watched};
     ghost use Rattle.spec_machine.specs.Watches.{Watch};
 
-    ghost Value = { Watch Range };
+    ghost Value = { Watch Watched };
 
     ghost use Rattle.notify_table.specs.Records.{watch_of, IsSound};
 
@@ -45,10 +46,10 @@ impl Record {
 
     // A notification before its first check. All memory that its checks need is taken here.
     pub fn new(alloc: Global, handle: u32, spec: Spec) -> Result<Record, NoMemory>
-        requires { CanBeWatched (range_meant spec.reach) }
+        requires { CanBeWatched (watched_meant spec.watched) }
         ensures { IfOk result (λ w. w ≡ new_watch handle spec) }
     {
-        let sent = SentBytes::new(alloc, len_of(spec.reach))?;
+        let sent = SentBytes::new(alloc, len_of(spec.watched))?;
         Ok(Record {
             handle,
             spec,
@@ -87,20 +88,20 @@ impl Record {
         sent
     }
 
-    // What it watches after a reload; none where that is not all of one kept symbol.
-    pub fn moved(&self, m: &Moves) -> Option<Reach>
-        ensures moved { option_map range_meant result ≡ range_after m.now self.now.port self.now.watched }
-        ensures len { IfSome result (λ reach. watched_len (range_meant reach) ≡ watched_len self.now.watched) }
+    // What it watches after a reload; none where that is neither all of one kept symbol nor a port's own.
+    pub fn moved(&self, m: &Moves, ports: &[u16]) -> Option<Watched>
+        ensures moved { option_map watched_meant result ≡ watched_after m.now ports.now self.now.port self.now.watched }
+        ensures len { IfSome result (λ watched. watched_len (watched_meant watched) ≡ watched_len self.now.watched) }
     {
-        moved_reach(m, self.spec.port, self.spec.reach)
+        moved_watched(m, ports, self.spec.port, self.spec.watched)
     }
 
     // As many bytes are watched elsewhere.
-    pub fn put(&mut self, reach: Reach)
-        requires { watched_len (range_meant reach) ≡ watched_len self.old.watched }
-        ensures { self.new ≡ record self.old { watched = range_meant reach } }
+    pub fn put(&mut self, watched: Watched)
+        requires { watched_len (watched_meant watched) ≡ watched_len self.old.watched }
+        ensures { self.new ≡ record self.old { watched = watched_meant watched } }
     {
-        self.spec.reach = reach;
+        self.spec.watched = watched;
     }
 
     pub fn ended(&self) -> Ended
@@ -124,21 +125,55 @@ impl Record {
 }
 
 // How many bytes a check takes.
-fn len_of(reach: Reach) -> usize
-    ensures { result ≡ watched_len (range_meant reach) }
+fn len_of(watched: Watched) -> usize
+    ensures { result ≡ watched_len (watched_meant watched) }
 {
-    match reach {
-        Reach::Bytes { len, .. } => len as usize,
-        Reach::Bit { .. } => 1,
-        Reach::Size { .. } => 0,
+    match watched {
+        Watched::InArea(Reach::Bytes { len, .. }) => len as usize,
+        Watched::InArea(Reach::Bit { .. }) => 1,
+        Watched::InArea(Reach::Size { .. }) => 0,
+        Watched::Own { len, .. } => len as usize,
     }
 }
 
-// Where a reload puts what is watched.
+// What is watched after a reload, where the new ports have these numbers.
+fn moved_watched(m: &Moves, ports: &[u16], port: u16, watched: Watched) -> Option<Watched>
+    requires { 0 < watched_len (watched_meant watched) }
+    ensures moved { option_map watched_meant result ≡ watched_after m.now ports.now port (watched_meant watched) }
+    ensures len { IfSome result (λ there. watched_len (watched_meant there) ≡ watched_len (watched_meant watched)) }
+{
+    match watched {
+        Watched::InArea(reach) => moved_in_area(m, port, reach),
+        Watched::Own { first, len } => own_kept(ports, port, first, len),
+    }
+}
+
+// A port's own bytes stay where they are, while the port is there.
+fn own_kept(ports: &[u16], port: u16, first: u8, len: u8) -> Option<Watched>
+    ensures moved { option_map watched_meant result ≡ kept_own ports.now port first len }
+    ensures len { IfSome result (λ there. watched_len (watched_meant there) ≡ len) }
+{
+    if ports.iter().any(|number| *number == port) {
+        Some(Watched::Own { first, len })
+    } else {
+        None
+    }
+}
+
+fn moved_in_area(m: &Moves, port: u16, reach: Reach) -> Option<Watched>
+    requires { 0 < watched_len (InArea (range_meant reach)) }
+    ensures moved { option_map watched_meant result ≡ option_map InArea (range_after m.now port (range_meant reach)) }
+    ensures len { IfSome result (λ there. watched_len (watched_meant there) ≡ watched_len (InArea (range_meant reach))) }
+{
+    let there = moved_reach(m, port, reach)?;
+    Some(Watched::InArea(there))
+}
+
+// Where a reload puts bytes or a bit of an area.
 fn moved_reach(m: &Moves, port: u16, reach: Reach) -> Option<Reach>
-    requires { 0 < watched_len (range_meant reach) }
+    requires { 0 < watched_len (InArea (range_meant reach)) }
     ensures moved { option_map range_meant result ≡ range_after m.now port (range_meant reach) }
-    ensures len { IfSome result (λ there. watched_len (range_meant there) ≡ watched_len (range_meant reach)) }
+    ensures len { IfSome result (λ there. watched_len (InArea (range_meant there)) ≡ watched_len (InArea (range_meant reach))) }
 {
     match reach {
         Reach::Bytes { area, at, len } => moved_bytes(m, port, area, at, len),
@@ -150,7 +185,7 @@ fn moved_reach(m: &Moves, port: u16, reach: Reach) -> Option<Reach>
 fn moved_bytes(m: &Moves, port: u16, area: Area, at: u32, len: u32) -> Option<Reach>
     requires { 0 < len }
     ensures moved { option_map range_meant result ≡ option_map (bytes_at len) (moved_span m.now port area at len) }
-    ensures len { IfSome result (λ there. watched_len (range_meant there) ≡ len) }
+    ensures len { IfSome result (λ there. watched_len (InArea (range_meant there)) ≡ len) }
 {
     let (area, at) = m.span(port, area, at, len)?;
     Some(Reach::Bytes { area, at, len })
@@ -158,7 +193,7 @@ fn moved_bytes(m: &Moves, port: u16, area: Area, at: u32, len: u32) -> Option<Re
 
 fn moved_bit(m: &Moves, port: u16, area: Area, at: u32, bit: u8) -> Option<Reach>
     ensures moved { option_map range_meant result ≡ option_map (bit_at bit) (moved_span m.now port area at 1) }
-    ensures len { IfSome result (λ there. watched_len (range_meant there) ≡ 1) }
+    ensures len { IfSome result (λ there. watched_len (InArea (range_meant there)) ≡ 1) }
 {
     let (area, at) = m.span(port, area, at, 1)?;
     Some(Reach::Bit { area, at, bit })

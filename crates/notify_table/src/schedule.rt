@@ -4,18 +4,16 @@ ghost use Rattle.std.specs.Prelude.{◌≡◌, ℕ, ◌+◌, ◌<◌, ◌≤◌,
 ghost use Rattle.std.specs.Prelude.{nat_eq, IsSome, IfSome, Some, IsTrue, All, option_map, IfOk, OnOk, OnErr};
 ghost use Rattle.slab.specs.Slab.{get, slab_len, Updates};
 ghost use Rattle.spec_machine.specs.Watches.{is_due, is_sent, after_check, watch_after_reload, watches_after_reload};
-ghost use Rattle.index_groups.specs.Access.{range_meant};
-ghost use Rattle.notify_table.specs.Specs.{new_watch, before_checks};
+ghost use Rattle.notify_table.specs.Specs.{watched_meant, new_watch, before_checks};
 ghost use Rattle.notify_table.specs.Table.{watched_len, CanBeWatched, handle_of, is_numbered};
 ghost use Rattle.notify_table.specs.Turns.{next_moment, handle_of_turn};
 ghost use Rattle.notify_table.specs.Schedules.{watch_under, watch_at, nth_watch, IsKept, IsSettled};
-ghost use Rattle.notify_table.specs.Reloads.{range_after, is_ended, end_of, ended_meant};
+ghost use Rattle.notify_table.specs.Reloads.{watched_after, is_ended, end_of, ended_meant};
 
 use crate::record::Record;
 use crate::turn::{Turn, count_due, due_turns, put_turn, take_turn};
-use crate::{Ended, Spec};
+use crate::{Ended, Spec, Watched};
 use ads_base::{NoMemory, Steps};
-use index_groups::Reach;
 use slab::Slab;
 use std::alloc::Global;
 use std::collections::VecDeque;
@@ -34,11 +32,11 @@ pub(crate) struct Schedule {
 
 impl Model for Schedule {
     ghost use Rattle.std.specs.Prelude.{List, map};
-    ghost use Rattle.spec_formats.specs.Ranges.{Range};
+    ghost use Rattle.spec_machine.specs.WatchedRanges.{Watched};
     ghost use Rattle.spec_machine.specs.Watches.{Watch};
     ghost use Rattle.notify_table.specs.Schedules.{watch_at, AreScheduled};
 
-    ghost Value = { List (Watch Range) };
+    ghost Value = { List (Watch Watched) };
 
     ghost view = { λ s. map (watch_at s.records) s.turns.items };
 
@@ -63,7 +61,7 @@ impl Schedule {
 
     // Adds a notification, whose first check is due at once. All memory that its checks need is taken here.
     pub fn add(&mut self, alloc: Global, handle: u32, spec: Spec) -> Result<(), NoMemory>
-        requires { CanBeWatched (range_meant spec.reach) }
+        requires { CanBeWatched (watched_meant spec.watched) }
         ensures ok { OnOk result ((place : ℕ) × (place ≤ length self.old)
             × (self.new ≡ insert self.old place (new_watch handle spec))) }
         ensures no_memory { OnErr result (self.new ≡ self.old) }
@@ -144,10 +142,10 @@ impl Schedule {
     }
 
     // The handles of the notifications that a reload ends, in the order of their turns.
-    pub fn ending(&self, alloc: Global, m: &Moves) -> Result<Vec<u32>, NoMemory>
-        ensures { IfOk result (λ handles. handles.items ≡ map handle_of (filter (is_ended m.now) self.now)) }
+    pub fn ending(&self, alloc: Global, m: &Moves, ports: &[u16]) -> Result<Vec<u32>, NoMemory>
+        ensures { IfOk result (λ handles. handles.items ≡ map handle_of (filter (is_ended m.now ports.now) self.now)) }
     {
-        ending_turns(alloc, &self.records, &self.turns, m)
+        ending_turns(alloc, &self.records, &self.turns, m, ports)
     }
 
     pub fn ended(&self, at: usize) -> Ended
@@ -159,25 +157,25 @@ impl Schedule {
     }
 
     // After a reload: those that it ends are gone, and the others watch their bytes at their new place.
-    pub fn settle_all(&mut self, m: &Moves)
-        ensures { self.new ≡ watches_after_reload (range_after m.now) self.old }
+    pub fn settle_all(&mut self, m: &Moves, ports: &[u16])
+        ensures { self.new ≡ watches_after_reload (watched_after m.now ports.now) self.old }
     {
         let mut at = 0;
         while at < self.len() {
-            at = self.settle(at, m);
+            at = self.settle(at, m, ports);
         }
     }
 
     // After a reload one goes on or is gone: the place of the next.
-    fn settle(&mut self, at: usize, m: &Moves) -> usize
+    fn settle(&mut self, at: usize, m: &Moves, ports: &[u16]) -> usize
         requires { at < length self.old }
-        ensures { IsSettled (watch_after_reload (range_after m.now) (nth_watch self.old at))
+        ensures { IsSettled (watch_after_reload (watched_after m.now ports.now) (nth_watch self.old at))
             self.old self.new at result }
     {
         let turn = self.turns[at];
-        match moved_of(&self.records, turn.key, m) {
-            Some(reach) => {
-                put_reach(&mut self.records, turn.key, reach);
+        match moved_of(&self.records, turn.key, m, ports) {
+            Some(watched) => {
+                put_watched(&mut self.records, turn.key, watched);
                 at + 1
             }
             None => {
@@ -256,28 +254,28 @@ fn ended_of(records: &Slab<Record>, key: usize) -> Ended
 }
 
 // What the notification of a key watches after a reload.
-fn moved_of(records: &Slab<Record>, key: usize, m: &Moves) -> Option<Reach>
+fn moved_of(records: &Slab<Record>, key: usize, m: &Moves, ports: &[u16]) -> Option<Watched>
     requires { IsSome (get records.now key) }
-    ensures moved { option_map range_meant result
-        ≡ range_after m.now (watch_under records.now key).port (watch_under records.now key).watched }
-    ensures len { IfSome result (λ reach.
-        watched_len (range_meant reach) ≡ watched_len (watch_under records.now key).watched) }
+    ensures moved { option_map watched_meant result
+        ≡ watched_after m.now ports.now (watch_under records.now key).port (watch_under records.now key).watched }
+    ensures len { IfSome result (λ watched.
+        watched_len (watched_meant watched) ≡ watched_len (watch_under records.now key).watched) }
 {
     match records.get(key) {
-        Some(record) => record.moved(m),
+        Some(record) => record.moved(m, ports),
         None => unreachable!(),
     }
 }
 
-fn put_reach(records: &mut Slab<Record>, key: usize, reach: Reach)
+fn put_watched(records: &mut Slab<Record>, key: usize, watched: Watched)
     requires there { IsSome (get records.old key) }
-    requires len { watched_len (range_meant reach) ≡ watched_len (watch_under records.old key).watched }
+    requires len { watched_len (watched_meant watched) ≡ watched_len (watch_under records.old key).watched }
     ensures updates { Updates records.old records.new key
-        (Some (record (watch_under records.old key) { watched = range_meant reach })) }
+        (Some (record (watch_under records.old key) { watched = watched_meant watched })) }
     ensures no_more { slab_len records.new ≡ slab_len records.old }
 {
     match records.get_mut(key) {
-        Some(record) => record.put(reach),
+        Some(record) => record.put(watched),
         None => unreachable!(),
     }
 }
@@ -287,15 +285,16 @@ fn ending_turns(
     records: &Slab<Record>,
     turns: &VecDeque<Turn>,
     m: &Moves,
+    ports: &[u16],
 ) -> Result<Vec<u32>, NoMemory>
     requires { All (IsKept records.now) turns.now.items }
     ensures { IfOk result (λ handles. handles.items
-        ≡ map handle_of (filter (is_ended m.now) (map (watch_at records.now) turns.now.items))) }
+        ≡ map handle_of (filter (is_ended m.now ports.now) (map (watch_at records.now) turns.now.items))) }
 {
     let mut handles = Vec::new(alloc);
     for i in 0..turns.len() {
         let turn = turns[i];
-        if ends(records, turn.key, m) {
+        if ends(records, turn.key, m, ports) {
             handles.push(turn.handle)?;
         }
     }
@@ -303,9 +302,9 @@ fn ending_turns(
 }
 
 // Whether a reload ends the notification of a key.
-fn ends(records: &Slab<Record>, key: usize, m: &Moves) -> bool
+fn ends(records: &Slab<Record>, key: usize, m: &Moves, ports: &[u16]) -> bool
     requires { IsSome (get records.now key) }
-    ensures { result ≡ is_ended m.now (watch_under records.now key) }
+    ensures { result ≡ is_ended m.now ports.now (watch_under records.now key) }
 {
-    moved_of(records, key, m).is_none()
+    moved_of(records, key, m, ports).is_none()
 }

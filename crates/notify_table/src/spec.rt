@@ -14,6 +14,15 @@ pub enum Mode {
     Change,
 }
 
+/// What a notification watches at its port.
+#[derive(Clone, Copy, Debug, PartialEq, Eq)]
+pub enum Watched {
+    /// Bytes or a bit of an area.
+    InArea(Reach),
+    /// So many of the port's own bytes, from one of them on: ADS state 2, device state 2, symbol version 1.
+    Own { first: u8, len: u8 },
+}
+
 /// A notification as it is asked for.
 #[derive(Clone, Copy, Debug, PartialEq, Eq)]
 pub struct Spec {
@@ -22,7 +31,7 @@ pub struct Spec {
     /// The client, to whom samples go.
     pub to: AmsAddr,
     /// What is watched.
-    pub reach: Reach,
+    pub watched: Watched,
     pub mode: Mode,
     /// The time between two checks, in 100 ns; 0 counts as 1.
     pub cycle: u32,

@@ -4,12 +4,11 @@ ghost use Rattle.std.specs.Prelude.{◌≡◌, ◌+◌, ◌<◌, ◌≤◌, ◌�
 ghost use Rattle.std.specs.Prelude.{option_map, IsTrue, IsOk, IsErr, IsSomeAnd, IfSome, IfOk, IfErr, OnOk, OnErr};
 ghost use Rattle.std.specs.List.Sorted.{IsStrictlyIncreasing};
 ghost use Rattle.spec_machine.specs.Watches.{is_due, is_sent, ended_watches};
-ghost use Rattle.index_groups.specs.Access.{range_meant};
-ghost use Rattle.notify_table.specs.Specs.{new_watch, before_checks};
+ghost use Rattle.notify_table.specs.Specs.{watched_meant, new_watch, before_checks};
 ghost use Rattle.notify_table.specs.Table.{watched_len, CanBeWatched, no_watches, is_full, is_live};
 ghost use Rattle.notify_table.specs.Table.{watch_of_handle, due_handles, IsTable};
 ghost use Rattle.notify_table.specs.Table.{table_after, Added, Deleted, Checked, Reloaded};
-ghost use Rattle.notify_table.specs.Reloads.{range_after, end_of, ended_meant};
+ghost use Rattle.notify_table.specs.Reloads.{watched_after, end_of, ended_meant};
 ghost use Rattle.notify_table.specs.Numbered.{IsLive, end_of_handle};
 
 use crate::schedule::Schedule;
@@ -59,7 +58,7 @@ impl Watches {
     /// Adds a notification and gives its handle: the n-th that is added has the handle n. All memory that its checks
     /// need is taken here.
     pub fn add(&mut self, alloc: Global, spec: Spec) -> Result<Result<u32, WatchFull>, NoMemory>
-        requires { CanBeWatched (range_meant spec.reach) }
+        requires { CanBeWatched (watched_meant spec.watched) }
         ensures handle { IfOk result (λ answer. IfOk answer (λ handle. handle ≡ self.old.additions + 1)) }
         ensures ok { IfOk result (λ answer. IfOk answer (λ handle.
             self.new ≡ table_after self.old (Added (new_watch handle spec)))) }
@@ -153,27 +152,27 @@ impl Watches {
         }
     }
 
-    /// A reload. A notification all of whose bytes, or the byte of whose bit, are of one kept symbol goes on at its new
-    /// place, with the moment of its last check and the bytes that it last sent. All others end, are given by rising
-    /// handle, and nothing of them stays.
-    pub fn moved(&mut self, alloc: Global, m: &Moves) -> Result<EndedList, NoMemory>
+    /// A reload, after which the ports have these numbers. A notification all of whose bytes, or the byte of whose bit, are
+    /// of one kept symbol goes on at its new place, and one of a port's own bytes where the port is there, with the moment of
+    /// its last check and the bytes that it last sent. All others end, are given by rising handle, and nothing of them stays.
+    pub fn moved(&mut self, alloc: Global, m: &Moves, ports: &[u16]) -> Result<EndedList, NoMemory>
         ensures ended { IfOk result (λ ended. map ended_meant ended
-            ≡ map end_of (ended_watches (range_after m.now) self.old.watches)) }
-        ensures watches { OnOk result (self.new ≡ table_after self.old (Reloaded (range_after m.now))) }
+            ≡ map end_of (ended_watches (watched_after m.now ports.now) self.old.watches)) }
+        ensures watches { OnOk result (self.new ≡ table_after self.old (Reloaded (watched_after m.now ports.now))) }
         ensures table { IsTable self.old }
         ensures no_memory { OnErr result (self.new ≡ self.old) }
     {
-        let ended = self.ended(alloc, m)?;
-        self.schedule.settle_all(m);
+        let ended = self.ended(alloc, m, ports)?;
+        self.schedule.settle_all(m, ports);
         Ok(ended)
     }
 
     // Those that a reload ends, by rising handle.
-    fn ended(&self, alloc: Global, m: &Moves) -> Result<EndedList, NoMemory>
+    fn ended(&self, alloc: Global, m: &Moves, ports: &[u16]) -> Result<EndedList, NoMemory>
         ensures { IfOk result (λ ended. map ended_meant ended
-            ≡ map end_of (ended_watches (range_after m.now) self.now.watches)) }
+            ≡ map end_of (ended_watches (watched_after m.now ports.now) self.now.watches)) }
     {
-        let mut handles = self.schedule.ending(alloc, m)?;
+        let mut handles = self.schedule.ending(alloc, m, ports)?;
         handles.sort_unstable();
         self.told(alloc, &handles)
     }

@@ -59,13 +59,14 @@ each_of_built d types may e k x u =
 -- the bytes of one of them
 first-bytes : (d : Description) (types : List NamedType) (version : ℕ) (manner : Manner) (port : Port) (m : PortMemory) → IsSoundPlant (plant_of d) → d.types ≡ types
     → IsSoundPort (plant_of d).ports (plant_port types port) → IsFirstPort types port version manner m
-    → Holds (first_memory (plant_of d)) (plant_port types port) m.bytes
+    → Holds (first_memory version (plant_of d)) (plant_port types port) m.bytes
 first-bytes d types version manner port m sound e p first =
-    let held = begins_with_first_image (plant_of d) (plant_port types port) m.bytes.image sound p.found first.image in
-    let same : ◌≡◌ {A = PortBytes} (record { image = m.bytes.image; ads = RUN; device = 0 }) m.bytes
-    = ap (λ n. record { image = m.bytes.image; ads = n; device = 0 }) (sym first.ads)
-    ∙ ap (λ n. record { image = m.bytes.image; ads = m.bytes.ads; device = n }) (sym first.device) in
-    subst (Holds (first_memory (plant_of d)) (plant_port types port)) same held
+    let held = begins_with_first_image version (plant_of d) (plant_port types port) m.bytes.image sound p.found first.image in
+    let same : ◌≡◌ {A = PortBytes} (record { image = m.bytes.image; ads = RUN; device = 0; version = version }) m.bytes
+    = ap (λ n. record { image = m.bytes.image; ads = n; device = 0; version = version }) (sym first.ads)
+    ∙ ap (λ n. record { image = m.bytes.image; ads = m.bytes.ads; device = n; version = version }) (sym first.device)
+    ∙ ap (λ n. record { image = m.bytes.image; ads = m.bytes.ads; device = m.bytes.device; version = n }) (sym first.version_is) in
+    subst (Holds (first_memory version (plant_of d)) (plant_port types port)) same held
 
 -- each holds its port
 first_each : (profile : Profile) (d : Description) (waves : List Wave) (types : List NamedType) (ps : List Port) (ms : List PortMemory) → IsSoundPlant (plant_of d)

@@ -50,24 +50,25 @@ reloaded-more old types version manner (q ∷ ps) (n ∷ ms) p m h new = (h.0, r
 
 -- the bytes of one port
 
-abbrev memory_of : World → Description → List Block
-memory_of w d = memory_after_reload (is_kept w.plant (plant_of d)) w.memory (first_memory (plant_of d))
+abbrev memory_of : World → Description → ℕ → List Block
+memory_of w d version = memory_after_reload (is_kept w.plant (plant_of d)) w.memory (first_memory version (plant_of d))
 
 -- a port that was not there
 fresh-bytes : (w : World) (d : Description) (types : List NamedType) (version : ℕ) (manner : Manner) (port : Port) (m : PortMemory) → IsSoundPlant (plant_of d)
     → IsSoundPort (plant_of d).ports (plant_port types port) → IsFirstPort types port version manner m → port_numbered port.number w.plant.ports ≡ None
-    → Holds (memory_of w d) (plant_port types port) m.bytes
+    → Holds (memory_of w d version) (plant_port types port) m.bytes
 fresh-bytes w d types version manner port m sound p first none =
-    let held = reloads_new_port w.plant (plant_of d) w.memory (plant_port types port) m.bytes.image sound none p.found first.image in
-    let same : ◌≡◌ {A = PortBytes} (record { image = m.bytes.image; ads = RUN; device = 0 }) m.bytes
-    = ap (λ n. record { image = m.bytes.image; ads = n; device = 0 }) (sym first.ads)
-    ∙ ap (λ n. record { image = m.bytes.image; ads = m.bytes.ads; device = n }) (sym first.device) in
-    subst (Holds (memory_of w d) (plant_port types port)) same held
+    let held = reloads_new_port version w.plant (plant_of d) w.memory (plant_port types port) m.bytes.image sound none p.found first.image in
+    let same : ◌≡◌ {A = PortBytes} (record { image = m.bytes.image; ads = RUN; device = 0; version = version }) m.bytes
+    = ap (λ n. record { image = m.bytes.image; ads = n; device = 0; version = version }) (sym first.ads)
+    ∙ ap (λ n. record { image = m.bytes.image; ads = m.bytes.ads; device = n; version = version }) (sym first.device)
+    ∙ ap (λ n. record { image = m.bytes.image; ads = m.bytes.ads; device = m.bytes.device; version = n }) (sym first.version_is) in
+    subst (Holds (memory_of w d version) (plant_port types port)) same held
 
 -- a port that was
 kept-bytes : (w : World) (d : Description) (types : List NamedType) (version : ℕ) (manner : Manner) (port : Port) (was first : PortMemory) → IsSoundPlant w.plant
     → IsSoundPlant (plant_of d) → IsSoundPort (plant_of d).ports (plant_port types port) → IsFirstPort types port version manner first
-    → IsHeldAs w port.number was → Holds (memory_of w d) (plant_port types port) (with_kept was first).bytes
+    → IsHeldAs w port.number was → Holds (memory_of w d version) (plant_port types port) (with_kept was first).bytes
 kept-bytes w d types version manner port was first old sound p is_first held =
     let h = held.holds in
     let Q : PlantPort → Type 0 = λ q. IsSoundPort w.plant.ports q in
@@ -79,9 +80,13 @@ kept-bytes w d types version manner port was first old sound p is_first held =
     let R : PlantPort → Type 0 = λ q. IsReloadedImage q was.bytes.image (plant_port types port)
     (with_kept was (record first { types = types })).bytes.image in
     let mine : R held.port = subst R (sym h.plant) image in
-    let all = reloads_image w.plant (plant_of d) w.memory held.port (plant_port types port) was.bytes
+    let all = reloads_image version w.plant (plant_of d) w.memory held.port (plant_port types port) was.bytes
     (with_kept was (record first { types = types })).bytes.image old sound held.found p.found h.holds mine in
-    subst (λ ts. Holds (memory_of w d) (plant_port types port) (with_kept was (record first { types = ts })).bytes) (sym is_first.types_are) all
+    let typed = subst (λ ts. Holds (memory_of w d version) (plant_port types port) (reloaded_with ts version)) (sym is_first.types_are) all in
+    subst (λ n. Holds (memory_of w d version) (plant_port types port) (reloaded_with first.types n)) (sym is_first.version_is) typed
+  where
+    reloaded_with : List NamedType → ℕ → PortBytes
+    reloaded_with ts n = record (with_kept was (record first { types = ts })).bytes { version = n }
 
 -- what a port has is what it begins with, but for its bytes
 
@@ -101,7 +106,7 @@ kept_table : (o : Option PortMemory) (m : PortMemory) → (after_reload o m).tab
 kept_table None m = refl
 kept_table (Some was) m = refl
 
-kept_version : (o : Option PortMemory) (m : PortMemory) → (after_reload o m).version ≡ m.version
+kept_version : (o : Option PortMemory) (m : PortMemory) → (after_reload o m).bytes.version ≡ m.bytes.version
 kept_version None m = refl
 kept_version (Some was) m = refl
 
@@ -111,14 +116,14 @@ kept_manner (Some was) m = refl
 
 reloaded-bytes : (w : World) (old : PortsMemory) (d : Description) (types : List NamedType) (version : ℕ) (manner : Manner) (port : Port) (first : PortMemory)
     → HoldsPorts w old → IsSoundPlant (plant_of d) → IsSoundPort (plant_of d).ports (plant_port types port) → IsFirstPort types port version manner first
-    → Holds (memory_of w d) (plant_port types port) (after_reload (memory_numbered port.number old.ports) first).bytes
+    → Holds (memory_of w d version) (plant_port types port) (after_reload (memory_numbered port.number old.ports) first).bytes
 reloaded-bytes w old d types version manner port first h sound p is_first = by_port (memory_numbered port.number old.ports) refl
   where
     none : (o : Option PlantPort) → HoldsFound w o None → o ≡ None
     none None f = refl
     none (Some q) f = absurd f
 
-    by_port : (o : Option PortMemory) → memory_numbered port.number old.ports ≡ o → Holds (memory_of w d) (plant_port types port) (after_reload o first).bytes
+    by_port : (o : Option PortMemory) → memory_numbered port.number old.ports ≡ o → Holds (memory_of w d version) (plant_port types port) (after_reload o first).bytes
     by_port None e =
         let found = subst (HoldsFound w (port_numbered port.number w.plant.ports)) e (found_is_held w old port.number h) in
         fresh-bytes w d types version manner port first sound p is_first (none (port_numbered port.number w.plant.ports) found)
@@ -142,12 +147,13 @@ reloaded-holds w old d types version manner port m h sound e v same p new =
       number = ap (λ (x : PortMemory). x.number) new.is ∙ kept_number o new.first ∙ f.number;
       facts = ap (λ (x : PortMemory). x.facts) new.is ∙ kept_facts o new.first ∙ f.facts;
       types = types_are ∙ sym e;
-      version = ap (λ (x : PortMemory). x.version) new.is ∙ kept_version o new.first ∙ f.version_is ∙ sym v;
+      version = ap (λ (x : PortMemory). x.bytes.version) new.is ∙ kept_version o new.first ∙ f.version_is ∙ sym v;
       manner = ap (λ (x : PortMemory). x.manner) new.is ∙ kept_manner o new.first ∙ f.manner_is ∙ sym same;
       plant_sound = sound;
       sound = p;
-      holds = subst (λ (x : PortMemory). Holds (memory_of w d) (plant_port types port) x.bytes) (sym new.is)
-          (reloaded-bytes w old d types version manner port new.first h sound p f);
+      holds = subst (λ n. Holds (memory_of w d n) (plant_port types port) m.bytes) (sym v)
+          (subst (λ (x : PortMemory). Holds (memory_of w d version) (plant_port types port) x.bytes) (sym new.is)
+          (reloaded-bytes w old d types version manner port new.first h sound p f));
     }
 
 reloaded-each : (w : World) (old : PortsMemory) (d : Description) (types : List NamedType) (version : ℕ) (manner : Manner) (ps : List Port) (ms : List PortMemory)

@@ -36,7 +36,7 @@ pub record IsFirstPort (types : List NamedType) (port : Port) (version : ℕ) (m
   pub types_are : m.types ≡ types
   pub number : m.number ≡ port.number
   pub facts : m.facts ≡ port.facts
-  pub version_is : m.version ≡ version
+  pub version_is : m.bytes.version ≡ version
   pub manner_is : m.manner ≡ manner
   pub table : IsTableOf types port m.table
   pub ads : m.bytes.ads ≡ RUN

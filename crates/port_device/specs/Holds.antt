@@ -19,7 +19,7 @@ pub record HoldsPort (w : World) (p : PlantPort) (m : PortMemory) : Type 0 where
   pub number : m.number ≡ port.number
   pub facts : m.facts ≡ port.facts
   pub types : m.types ≡ w.plant.types
-  pub version : m.version ≡ w.version
+  pub version : m.bytes.version ≡ w.version
   pub manner : m.manner ≡ w.profile.manner
   pub plant_sound : IsSoundPlant w.plant
   pub sound : IsSoundPort w.plant.ports p

@@ -1,5 +1,5 @@
--- A port as its device holds it: what the description says of it, the symbol version, the manner of
--- its server, and its bytes; and all ports of a plant.
+-- A port as its device holds it: what the description says of it, the manner of its server, and its bytes, with the symbol
+-- version; and all ports of a plant.
 use Rattle.std.specs.Prelude.{ℕ, List, [], ◌∷◌, ◌==◌, if◌then◌else◌, find, Option}
 use Rattle.spec_plant.specs.Listed.{NamedType}
 use Rattle.spec_plant.specs.Description.{Facts}
@@ -12,7 +12,6 @@ pub record PortMemory : Type 0 where
   pub number : ℕ
   pub facts : Facts
   pub table : SymbolTable
-  pub version : ℕ
   pub manner : Manner
   pub bytes : PortBytes
 

@@ -22,9 +22,8 @@ memory_in p = record {
   number = p.ams_port;
   facts = facts_of p.facts;
   table = p.table;
-  version = p.version;
   manner = manner_of p.manner;
-  bytes = record { image = p.image; ads = p.ads; device = p.device };
+  bytes = record { image = p.image; ads = p.ads; device = p.device; version = p.version };
 }
 
 -- the port of an accepted description, with all its bytes, the lengths of its uploads, which symbols its signals write, and the

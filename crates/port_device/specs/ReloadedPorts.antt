@@ -20,6 +20,7 @@ with_kept was m = record m {
     image = with_all_bytes m.table.sizes m.bytes.image (map (placed_symbol (reloaded_bytes m.types was)) m.table.symbols);
     ads = was.bytes.ads;
     device = was.bytes.device;
+    version = m.bytes.version;
   };
 }
 

@@ -16,8 +16,8 @@ use std::sync::Arc;
 use symbol_table::Table;
 use type_layout::{DeviceFacts4, Sizes, Types};
 
-/// A port of a plant. Contracts see what its description says of it, the symbol version, the manner of its server, and its
-/// bytes: the areas one behind another, and the two state words.
+/// A port of a plant. Contracts see what its description says of it, the manner of its server, and its bytes: the areas one
+/// behind another, the two state words, and the symbol version.
 #[derive(Drop)]
 pub struct Port {
     pub(crate) types: Arc<Types, Global>,
@@ -60,7 +60,7 @@ impl Port {
 
     /// The symbol version, which rises by one at each accepted reload.
     pub fn version(&self) -> u8
-        ensures { result ≡ self.now.version }
+        ensures { result ≡ self.now.bytes.version }
     {
         self.version
     }

@@ -32,14 +32,17 @@ use Rattle.spec_machine.specs.Entries.{entry_of_part}
 use Rattle.spec_machine.specs.Packets.{Check, source_rights, checks_of, checked, decide_passed, decide_header}
 use Rattle.spec_machine.specs.Reads.{fixed_reply}
 use Rattle.spec_machine.specs.Meanings.{mode_in, name_in, value_len_in}
-use Rattle.spec_machine.specs.Requests.{mode_of, MAX_WATCHES, next_watch, add_watch, add_reached, add_act, plain_act, act_of}
+use Rattle.spec_machine.specs.Requests.{mode_of, MAX_WATCHES, next_watch, add_watch, add_reached, add_of_reach, add_act, plain_act, act_of}
+use Rattle.spec_machine.specs.Manner.{Manner}
+use Rattle.spec_machine.specs.MoreActs.{states_reach, version_reach, more_add}
+use Rattle.spec_machine.proofs.MoreActs.{of_more, add-more}
 use Rattle.spec_machine.specs.Sums.{SumRequest, sum_refusal, sum_of_reads, sum_of_writes, sum_of_read_writes, given_in_turn}
 use Rattle.spec_machine.specs.MoreSums.{more_sums}
 use Rattle.spec_machine.proofs.MoreSums.{more_sums-none}
 use Rattle.spec_machine.proofs.MoreActs.{more_read_write-none}
 use Rattle.spec_machine.specs.SumPackets.{acts_of, decide_parts, decide_read_write, decide_more, decide_request}
 use Rattle.spec_machine.specs.Watches.{Watch, Mode}
-use Rattle.spec_machine.specs.World.{Setup, port_numbered, numbers_from, name_at, names_at}
+use Rattle.spec_machine.specs.World.{Setup, port_numbered, numbers_from, name_at, names_at, own_name, own_names, VERSION_AT}
 use Rattle.spec_machine.specs.Writes.{Asker}
 use Rattle.spec_client.specs.Calls.{entry_request}
 
@@ -312,6 +315,24 @@ reach_some c p (Some (AreaBit area)) offset len = bit_reach p area (size_in p.si
 reach_some c p (Some ValueByHandle) offset len = status_reach p.number (kept_status c.handles offset p.number) len
 reach_some c p g offset len = err_reaches len invalid_group
 
+states_some : (port offset len : ℕ) → ReachesSome len (states_reach port offset len)
+unfolding own_names
+states_some port offset len = go (nat_lt VERSION_AT offset) (nat_lt VERSION_AT (offset + len))
+  where
+    go : (a b : Bool)
+        → ReachesSome len (if a then Err invalid_offset else if b then Err invalid_size else Ok (map WholeByte (map (own_name port) (numbers_from offset len))))
+    go true b = err_reaches len invalid_offset
+    go false true = err_reaches len invalid_size
+    go false false = some_names (own_name port) offset len
+
+version_some : (port len : ℕ) → ReachesSome len (version_reach port len)
+unfolding own_names numbers_from
+version_some port len = go (len == 1)
+  where
+    go : (b : Bool) → ReachesSome len (if b then Ok (WholeByte (own_name port VERSION_AT) ∷ []) else Err invalid_size)
+    go true = one_place len (WholeByte (own_name port VERSION_AT))
+    go false = err_reaches len invalid_size
+
 -- a notification from this port to this address, of something
 pub record IsWatch (h : AmsHeader) (plant : Plant) (w : Watch (List Addressed)) : Type 0 where
   pub handle : w.handle < 2 ^ 32
@@ -369,14 +390,15 @@ reached_case h plant c k mode len cycle (Ok watched) address port net reaches = 
       (watch_case h plant c k mode cycle watched address port net (reaches watched refl some))
 ]
 
-add_case : (h : AmsHeader) (plant : Plant) (c : Client) (k : Asker) (g : Option Group) (offset len cycle : ℕ) (m : Option Mode)
-    → k.address ≡ h.source → k.port.number ≡ h.target.port → h.target.net ≡ plant.net → ActCase h plant (add_act c k g offset len cycle m)
-add_case h plant c k g offset len cycle None address port net = inl refl
-add_case h plant c k g offset len cycle (Some mode) address port net = elim (cases_Bool (nat_lt 2048 len)) [
+add_case : (h : AmsHeader) (plant : Plant) (c : Client) (k : Asker) (len cycle : ℕ) (m : Option Mode) (o : Result (List Addressed) ℕ)
+    → k.address ≡ h.source → k.port.number ≡ h.target.port → h.target.net ≡ plant.net → ReachesSome len o
+    → ActCase h plant (add_of_reach c k len cycle m o)
+add_case h plant c k len cycle None o address port net reaches = inl refl
+add_case h plant c k len cycle (Some mode) o address port net reaches = elim (cases_Bool (nat_lt 2048 len)) [
   | inl big ↦ inl (ap effect_of (cond-true (nat_lt 2048 len) _ _ big))
   | inr small ↦
       subst (ActCase h plant) (sym (cond-false (nat_lt 2048 len) _ _ small))
-      (reached_case h plant c k mode len cycle _ address port net (reach_some c k.port g offset len))
+      (reached_case h plant c k mode len cycle o address port net reaches)
 ]
 
 single_case : (h : AmsHeader) (plant : Plant) (c : Client) (a : Act) → ActCase h plant a → AddsOrKeeps c h plant (Perform (a ∷ []) Single)
@@ -390,7 +412,19 @@ unfolding decide_request act_of plain_act
 addition_decided d c h k g o l m y z address port net =
     let r = request.AddDeviceNotification g o l m y z in
     subst (λ acts. AddsOrKeeps c h d.plant (Perform acts Single)) (sym (one_acts d c k r))
-    (single_case h d.plant c (act_of d c k r) (add_case h d.plant c k _ o l z (mode_of (mode_in d.profile.manner m)) address port net))
+    (single_case h d.plant c (act_of d c k r) (of_more P (more_add x c k g o l m z) (add_act c k group o l z (mode_of (mode_in x m)))
+    (add-more P x c k g o l m z (λ mode. add_case h d.plant c k l z mode (states_reach k.port.number o l) address port net (states_some k.port.number o l))
+    (λ mode. add_case h d.plant c k l z mode (version_reach k.port.number l) address port net (version_some k.port.number l)))
+    (add_case h d.plant c k l z (mode_of (mode_in x m)) (reach_of c k.port group o l) address port net (reach_some c k.port group o l))))
+  where
+    P : Act → Type 0
+    P a = ActCase h d.plant a
+
+    x : Manner
+    x = d.profile.manner
+
+    group : Option Group
+    group = answered_group ADD_DEVICE_NOTIFICATION g
 
 pub addition_adds : (d : Setup) (c : Client) (h : AmsHeader) (payload : List ℕ) → h.flags ≡ request_flags → h.command ≡ ADD_DEVICE_NOTIFICATION
     → AddsOrKeeps c h d.plant (decide_header d c payload (Some h))

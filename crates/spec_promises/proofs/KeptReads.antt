@@ -33,6 +33,7 @@ use Rattle.spec_machine.specs.SumLaws.{Party, single_outcome}
 use Rattle.spec_machine.specs.Writes.{Asker}
 use Rattle.spec_machine.specs.Reloads.{is_kept, kept_block_bytes, next_version, memory_after_reload, world_after_reload, client_reloaded}
 use Rattle.spec_machine.specs.AdsDevice.{reloading}
+use Rattle.spec_machine.proofs.MoreActs.{more_read-none}
 use Rattle.spec_machine.proofs.Find.{connection_of-map}
 use Rattle.spec_machine.proofs.Growth.{connection_after_reload-grows}
 use Rattle.spec_laws.specs.Soundness.{Each, IsSoundPlant}
@@ -136,7 +137,9 @@ reads-place : (d : Setup) (k : Asker) (p : Party) (handle len : ℕ) (place : Pl
 unfolding act_of plain_act answered_group group_of group_in read_group reach_of
 reads-place d k p handle len place live =
     let meant = read_len_in d.profile.manner p.client k.port (Some ValueByHandle) handle len in
-    ap (λ s. outcome_of p.memory (read_act (addressed_by_status k.port.number s meant))) live
+    let plain = read_act (addressed_by_status k.port.number (kept_status p.client.handles handle k.port.number) meant) in
+    ap (λ o. outcome_of p.memory (unwrap_or o plain)) (more_read-none d.profile.manner k.port.number value_by_handle handle len refl)
+    ∙ ap (λ s. outcome_of p.memory (read_act (addressed_by_status k.port.number s meant))) live
     ∙ ap (read_of_place p.memory k.port.number place) (meant-len d.profile.manner p.client k.port handle len place live)
 
 place-kept : (version : ℕ) (old new : Plant) (m : List Block) → IsSoundPlant old → IsSoundPlant new → (port : ℕ) (place : Place) → IsPlaced old port place

@@ -3,14 +3,14 @@ use Rattle.std.proofs.Common.{◌≡◌, ◌≢◌, ◌⊎◌, ℕ, ◌+◌, ◌
 use Rattle.std.proofs.Common.{drop, Bool, true, false, cond, refl, sym, ◌∙◌, ap, subst, inl, inr, arith}
 use Rattle.std.specs.Prelude.{min, Option, Some, None, option_and_then, unwrap_or, Result, Ok, Err, nat_lt, nat_le, ◌==◌, ◌||◌, not}
 use Rattle.std.specs.Option.{option_map_or}
-use Rattle.std.proofs.lemmas.Bool.{false≢true, or_parts, ltb-false, leb-false, eqb-true}
+use Rattle.std.proofs.lemmas.Bool.{cases_Bool, false≢true, or_parts, ltb-false, leb-false, eqb-true}
 use Rattle.std.proofs.lemmas.List.{take_at, drop_at, length-map, length-take-le}
 use Rattle.spec_plant.specs.Description.{Area, size_in}
 use Rattle.spec_plant.specs.World.{Plant, PlantPort, ByteName, Block, byte_at, byte_or_zero}
 use Rattle.spec_plant.specs.Named.{AreNamedApart, symbol_named}
 use Rattle.spec_plant.proofs.SoundLemmas.{port_sound, symbol_sound, symbol_at}
 use Rattle.spec_formats.specs.Codes.{no_error, invalid_group, invalid_offset, invalid_size, not_permitted, symbol_not_found, symbol_version_invalid}
-use Rattle.spec_formats.specs.Groups.{Group, AreaBytes, AreaBit, ValueByHandle, ReleaseHandle, is_value_group, group_of}
+use Rattle.spec_formats.specs.Groups.{Group, AreaBytes, AreaBit, ValueByHandle, ReleaseHandle, is_value_group, group_of, group_in}
 use Rattle.spec_formats.specs.Ranges.{greatest_len, byte_range, bit_range, range_in}
 use Rattle.spec_formats.specs.Request.{Request, Write}
 use Rattle.spec_formats.specs.Numbers.{number32}
@@ -26,10 +26,12 @@ use Rattle.spec_machine.specs.Reach.{addressed_by_range, addressed_by_status, re
 use Rattle.spec_machine.specs.Reads.{read_act, read_group}
 use Rattle.spec_machine.specs.Writes.{Asker, may_write, are_writable, write_act, is_releasable, release_act, write_group}
 use Rattle.spec_machine.specs.Meanings.{len_by_status, read_len_in}
+use Rattle.spec_machine.specs.MoreActs.{device_data}
 use Rattle.spec_machine.specs.Requests.{plain_act, act_of}
 use Rattle.spec_machine.specs.SumLaws.{Party, single_outcome}
 use Rattle.spec_machine.proofs.AreaContent.{numbers-length, reads_content, writes_content}
 use Rattle.spec_machine.proofs.AreaNames.{spans_give_names}
+use Rattle.spec_machine.proofs.MoreActs.{more_read-none}
 use Rattle.spec_laws.specs.ExactWrites.{IsBitPut}
 use Rattle.spec_laws.specs.Soundness.{Each}
 use Rattle.spec_laws.specs.Reachable.{IsPlaced, IsPlacedStatus, IsPlacedHandle}
@@ -369,6 +371,18 @@ read_answers number h = go (group_of number) h
     go (Some ValueByHandle) h = refl
     go (Some g) h = absurd (false≢true h)
 
+-- such a group is none that a server of some profile reads besides
+read_by_all : (number : ℕ) → option_map_or is_value_group (answered_group WRITE number) false ≡ true → (number == device_data) ≡ false
+unfolding answered_group group_of group_in
+read_by_all number h =
+    elim (cases_Bool (number == device_data)) [
+      | inr t ↦ t
+      | inl t ↦
+          let P : ℕ → Type 0 = λ n. option_map_or is_value_group (answered_group WRITE n) false ≡ true in
+          let none : false ≡ true = subst P (eqb-true number device_data t) h in
+          absurd (false≢true none)
+    ]
+
 write-done : (d : Setup) (k : Asker) (p : Party) → IsAsked d.plant k.port → ((area : Area) → IsThere p.memory k.port area)
     → Each (IsPlacedHandle d.plant) p.client.handles
     → (group offset : ℕ) (bytes : List ℕ) → (single_outcome d k p (Write group offset bytes)).code ≡ no_error
@@ -383,7 +397,11 @@ write-done d k p i there placed group offset bytes h =
       read = λ v.
           let c : Client = client_after p.client (effect_of a) in
           let read : Option Group → ℕ → Outcome = λ x n. outcome_of (memory_after p.memory a) (read_group d c k.port x offset n) in
-          ap (λ (x : Option Group). read x (read_len_in d.profile.manner c k.port x offset (length bytes))) (read_answers group v)
+          let plain = read_group d c k.port (answered_group READ group) offset
+          (read_len_in d.profile.manner c k.port (answered_group READ group) offset (length bytes)) in
+          ap (λ o. outcome_of (memory_after p.memory a) (unwrap_or o plain))
+          (more_read-none d.profile.manner k.port.number group offset (length bytes) (read_by_all group v))
+          ∙ ap (λ (x : Option Group). read x (read_len_in d.profile.manner c k.port x offset (length bytes))) (read_answers group v)
           ∙ ap (read g) (done.asks v d.profile.manner)
           ∙ done.read v;
     }

@@ -1,6 +1,6 @@
 use Rattle.std.proofs.Common.{◌≡◌, refl, sym, ap, ◌∙◌, true, false}
 use Rattle.std.proofs.lemmas.Bool.{ne_eqb, eq-eqb, false≢true}
-use Rattle.spec_formats.specs.Ranges.{Range}
+use Rattle.spec_machine.specs.WatchedRanges.{Watched}
 use Rattle.spec_machine.specs.Watches.{Watch}
 use Rattle.notify_table.specs.Table.{is_live}
 use Rattle.notify_table.proofs.TableLemmas.{found, missing_live, found_live, removed_granted, removed_table}
@@ -17,7 +17,7 @@ returns-then-spec-port-clause-live c =
     let f = found c.self.inside.schedule c.self.inside.granted c.args.handle c.in-Some.at c.self.invariant (sym c.in-Some.ensures) in
     let dead : is_live c.args.port c.args.handle c.args.self.now ≡ false =
     rw (← c.self.view_is) (found_live c.self.inside.schedule c.self.inside.granted c.args.handle c.in-Some.at c.args.port f
-    ∙ ne_eqb _ _ (λ e. c.if-spec-port.true (ap (λ (w : Watch Range). w.port) c.spec.ensures ∙ e))) in
+    ∙ ne_eqb _ _ (λ e. c.if-spec-port.true (ap (λ (w : Watch Watched). w.port) c.spec.ensures ∙ e))) in
     (λ e. absurd (false≢true e), λ live. sym dead ∙ live)
 
 pub invariant_of-self : goal.invariant_of-self
@@ -30,7 +30,7 @@ returns-clause-live c =
     let f = found c.self.inside.schedule c.self.inside.granted c.args.handle c.in-Some.at c.self.invariant (sym c.in-Some.ensures) in
     let live : is_live c.args.port c.args.handle c.args.self.now ≡ true =
     rw (← c.self.view_is) (found_live c.self.inside.schedule c.self.inside.granted c.args.handle c.in-Some.at c.args.port f
-    ∙ eq-eqb _ _ (sym (ap (λ (w : Watch Range). w.port) c.spec.ensures) ∙ c.if-spec-port.false)) in
+    ∙ eq-eqb _ _ (sym (ap (λ (w : Watch Watched). w.port) c.spec.ensures) ∙ c.if-spec-port.false)) in
     (λ e. live, λ e. refl)
 
 pub returns-clause-ok : goal.returns-clause-ok

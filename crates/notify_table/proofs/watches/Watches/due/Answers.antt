@@ -1,7 +1,7 @@
 use Rattle.std.proofs.Common.{sym, ◌∙◌, subst}
 use Rattle.std.specs.List.Sorted.{IsStrictlyIncreasing}
 use Rattle.std.proofs.lemmas.List.Sorted.{IsNonDecreasingBy-from_sort}
-use Rattle.spec_formats.specs.Ranges.{Range}
+use Rattle.spec_machine.specs.WatchedRanges.{Watched}
 use Rattle.spec_machine.specs.Watches.{Watch, is_due}
 use Rattle.notify_table.proofs.TableLemmas.{handles_sorted, due_count, table_holds, handles_rise}
 use Rattle.notify_table.proofs.watches.Watches.due.Goals as goal
@@ -14,7 +14,7 @@ pub returns-clause-due : goal.returns-clause-due
 returns-clause-due g c =
     rw (← c.self.view_is)
     (c.from_vec.ensures
-    ∙ handles_sorted (λ (w : Watch Range). is_due c.args.now w) c.self.inside.schedule c.self.inside.granted c.sort_unstable.new.self.items c.self.invariant
+    ∙ handles_sorted (λ (w : Watch Watched). is_due c.args.now w) c.self.inside.schedule c.self.inside.granted c.sort_unstable.new.self.items c.self.invariant
     (rw (← c.in_ok-handles.ensures.due) c.sort_unstable.ensures.permutation)
     (IsNonDecreasingBy-from_sort (λ x. x) c.sort_unstable.new.self.items c.sort_unstable.ensures.sorted))
 
@@ -35,4 +35,4 @@ returns-clause-table g c = rw (← c.self.view_is) (table_holds c.self.inside.sc
 pub returns-clause-rising : goal.returns-clause-rising
 returns-clause-rising g c =
     subst IsStrictlyIncreasing (sym (returns-clause-due g c))
-    (rw (← c.self.view_is) (handles_rise (λ (w : Watch Range). is_due c.args.now w) c.self.inside.schedule c.self.inside.granted c.self.invariant))
+    (rw (← c.self.view_is) (handles_rise (λ (w : Watch Watched). is_due c.args.now w) c.self.inside.schedule c.self.inside.granted c.self.invariant))
