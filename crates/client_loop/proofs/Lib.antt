@@ -2,6 +2,7 @@ pub mod SaidLemmas
 pub mod RestLemmas
 pub mod LogLemmas
 pub mod GoingLemmas
+pub mod DueLemmas
 pub mod ReadyLemmas
 pub mod TurnLemmas
 pub mod SettleLemmas
