@@ -3,6 +3,7 @@ pub mod RestLemmas
 pub mod LogLemmas
 pub mod GoingLemmas
 pub mod DueLemmas
+mod Examples
 pub mod ReadyLemmas
 pub mod TurnLemmas
 pub mod SettleLemmas
