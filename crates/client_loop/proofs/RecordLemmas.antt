@@ -92,7 +92,8 @@ fails_as broken x first third new_link out new_out is f = subst (λ b. RecordFai
 pub records : {O : Type 0} (result : Result RecordEnd NoMemory) (x : Calling) (now : ℕ)
     (first second third : O → List LinkMove → Type 0) (link mid_link new_link : LinkState) (out new_out : Outlets)
     → mid_link.history ≡ connected_at now → link.faults ≤ mid_link.faults → Joins x now first second
-    → EndsRecord result (begins_by x now) (begun_by x now) second third mid_link new_link out new_out → AfterRecord result x first third link new_link out new_out
+    → EndsRecord result (begins_by x now) (begun_by x now) second third mid_link new_link out new_out
+    → AfterRecord result x first third link new_link out new_out
 records (Ok (record_end.Loop (end.Call call_end.Done))) x now first second third link mid_link new_link out new_out at later joins g =
     done_records Appends x now first second third mid_link new_link out new_out at joins g
 records (Ok (record_end.Loop (end.Call (call_end.Refused code)))) x now first second third link mid_link new_link out new_out at later joins g =

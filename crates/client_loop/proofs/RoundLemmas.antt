@@ -63,7 +63,8 @@ rows_stand c a first second out new_out n on gives base before =
     subst (λ t. Adds base new_out.keeper.rows t) (sym (kept_after c a on))
     (adds_then base out.keeper.rows new_out.keeper.rows c.kept (kept_by (turns_after c a).steps) before gives.kept)
 
-some_rows_stand : {O : Type 0} (IsStop : List CallStep → Type 0) (c : Conversation) (a : LinkAnswer) (first second : O → List LinkMove → Type 0) (out new_out : Outlets) (n : ℕ)
+some_rows_stand : {O : Type 0} (IsStop : List CallStep → Type 0) (c : Conversation) (a : LinkAnswer)
+    (first second : O → List LinkMove → Type 0) (out new_out : Outlets) (n : ℕ)
     → c.end ≡ None → GivesSomeSteps IsStop n (turns_after c a).steps first second out new_out → (base : Option (List Row)) → Adds base out.keeper.rows c.kept
     → AddsPart base new_out.keeper.rows (conversation_after c a).kept
 some_rows_stand IsStop c a first second out new_out n on gives base before =
@@ -80,7 +81,8 @@ log_stands c a first second third old mid out new_out on comes gives o log told 
     (tells_more third o log (move.Came (event_of a) ∷ []) (sent_moves (sent_by (c.answers + 1) (turns_after c a).steps))
     (gives.told o (log ++ move.Came (event_of a) ∷ []) (comes.told o log told)))
 
-some_stands : {O : Type 0} (IsStop : List CallStep → Type 0) (c : Conversation) (a : LinkAnswer) (first second third : O → List LinkMove → Type 0) (old mid : LinkHistory) (out new_out : Outlets)
+some_stands : {O : Type 0} (IsStop : List CallStep → Type 0) (c : Conversation) (a : LinkAnswer)
+    (first second third : O → List LinkMove → Type 0) (old mid : LinkHistory) (out new_out : Outlets)
     → c.end ≡ None → Comes a first second old mid → GivesSomeSteps IsStop (c.answers + 1) (turns_after c a).steps second third out new_out
     → (o : O) (log : List LinkMove) → first o log → SentSome (sent_last [] c (a ∷ [])) third o (log ++ log_up_to [] c (a ∷ []))
 unfolding log_up_to sent_last

@@ -169,14 +169,16 @@ part_first IsStop me peer call now first second link new_link out new_out same g
 pub link_first : {O : Type 0} (me peer : AmsAddress) (call : Call) (now : ℕ) (k : RunnerKept)
     (first second : O → List LinkMove → Type 0) (link new_link : LinkState) (out new_out : Outlets)
     → new_link.history ≡ link.history → AfterTurns (Ok turned.LinkFault) now k first second link new_link out new_out 1 (new_runner me peer call)
-    → EndsFrom (Ok (record_end.Loop end.LinkFault)) (first_steps me peer call now) (conversation_begun me peer call now) k first second link new_link out new_out
+    → EndsFrom (Ok (record_end.Loop end.LinkFault)) (first_steps me peer call now) (conversation_begun me peer call now) k
+    first second link new_link out new_out
 link_first me peer call now k first second link new_link out new_out same t =
     (t.0, inr (part_first AtSend me peer call now first second link new_link out new_out same t.1))
 
 pub write_first : {O : Type 0} (me peer : AmsAddress) (call : Call) (now : ℕ) (k : RunnerKept)
     (first second : O → List LinkMove → Type 0) (link new_link : LinkState) (out new_out : Outlets)
     → new_link.history ≡ link.history → AfterTurns (Ok turned.WriteFault) now k first second link new_link out new_out 1 (new_runner me peer call)
-    → EndsFrom (Ok (record_end.Loop end.WriteFault)) (first_steps me peer call now) (conversation_begun me peer call now) k first second link new_link out new_out
+    → EndsFrom (Ok (record_end.Loop end.WriteFault)) (first_steps me peer call now) (conversation_begun me peer call now) k
+    first second link new_link out new_out
 write_first me peer call now k first second link new_link out new_out same t =
     (t.0, part_first AtPrint me peer call now first second link new_link out new_out same t.1)
 
@@ -191,7 +193,8 @@ pub memory_first : {O : Type 0} (e : NoMemory) (me peer : AmsAddress) (call : Ca
     (first second : O → List LinkMove → Type 0) (link new_link : LinkState) (out new_out : Outlets)
     → new_link.history ≡ link.history → AfterTurns (Err e) now k first second link new_link out new_out 1 (new_runner me peer call)
     → EndsFrom (Err e) (first_steps me peer call now) (conversation_begun me peer call now) k first second link new_link out new_out
-memory_first e me peer call now k first second link new_link out new_out same t = part_first Anywhere me peer call now first second link new_link out new_out same t
+memory_first e me peer call now k first second link new_link out new_out same t =
+    part_first Anywhere me peer call now first second link new_link out new_out same t
 
 -- memory was wanting before them
 pub never_first : {O : Type 0} (steps : List CallStep) (c : Conversation) (tells : O → List LinkMove → Type 0) (link : LinkState) (out : Outlets)
