@@ -3,3 +3,4 @@ pub mod ReadLemmas
 pub mod VerdictLemmas
 pub mod EndLemmas
 pub mod TaskLemmas
+mod StatusExamples
