@@ -50,7 +50,7 @@ file name bytes = record { name = name; bytes = bytes }
 abbrev files : Option (List NamedFile)
 files = Some (file (codes "a") (1 ∷ []) ∷ file (codes "b") (2 ∷ []) ∷ file (codes "a") (3 ∷ []) ∷ [])
 
-bytes_in : Option (List ℕ) → List ℕ
+abbrev bytes_in : Option (List ℕ) → List ℕ
 bytes_in None = []
 bytes_in (Some bytes) = bytes
 
@@ -58,7 +58,6 @@ first_of_the_name : Reads files (codes "a") (got.Bytes (1 ∷ []))
 first_of_the_name = refl
 
 second_of_the_name : Reads files (codes "a") (got.Bytes (3 ∷ [])) → ⊥
-unfolding bytes_in
 second_of_the_name e = false≢true (ap (λ o. bytes_eq (bytes_in o) (3 ∷ [])) e)
 
 no_such_file : Reads files (codes "c") (got.Bytes []) → ⊥
@@ -77,12 +76,11 @@ NamesAfter names = AddsName got.Failed (Some (codes "a" ∷ [])) (Some names) (c
 name_added : NamesAfter (codes "a" ∷ codes "b" ∷ [])
 name_added = refl
 
-names_in : Option (List (List ℕ)) → ℕ
+abbrev names_in : Option (List (List ℕ)) → ℕ
 names_in None = 0
 names_in (Some names) = length names
 
 name_missing : NamesAfter (codes "a" ∷ []) → ⊥
-unfolding names_in
 name_missing e = false≢true (ap (λ o. names_in o == 2) e)
 
 name_missing_without_memory : AddsName got.Memory (Some (codes "a" ∷ [])) (Some (codes "a" ∷ [])) (codes "b")
@@ -102,7 +100,6 @@ put_in_part : Puts put.Failed (sink (codes "ab") 0) (sink (codes "abc") 1) (code
 put_in_part = ((1, refl), lit≤ tt)
 
 not_whole : Puts put.All (sink (codes "ab") 0) (sink (codes "abc") 0) (codes "cd") → ⊥
-unfolding bytes_in
 not_whole e = false≢true (ap (λ o. bytes_eq (bytes_in o) (codes "abcd")) e)
 
 no_fault_counted : Puts put.Failed (sink (codes "ab") 0) (sink (codes "abc") 0) (codes "cd") → ⊥
@@ -195,13 +192,13 @@ shut_and_logged = refl
 run_not_taken : TakesRun false (wire used 0) (wire used 0) 1 (4 ∷ 5 ∷ [])
 run_not_taken = refl
 
-moves_in : Option (List Move) → ℕ
+abbrev moves_in : Option (List Move) → ℕ
 moves_in None = 0
 moves_in (Some ms) = length ms
 
 two_logs : (h : WireHistory) → h ≡ history_after unused (move.Took 1 2 (4 ∷ 5 ∷ []) ∷ [])
     → h ≡ history_after unused (move.Took 1 1 (4 ∷ []) ∷ move.Took 1 1 (5 ∷ []) ∷ []) → ⊥
-unfolding history_after moves_in
+unfolding history_after
 two_logs h one two = false≢true (sym (ap (λ (x : WireHistory). moves_in x.log == 1) one) ∙ ap (λ (x : WireHistory). moves_in x.log == 1) two)
 
 no_run_is_taken : (new : WireHistory) → TakesRun true (wire unused 0) (wire new 0) 1 (4 ∷ 5 ∷ []) → ⊥
@@ -221,12 +218,11 @@ wire_not_started : Starts started.Failed (wire unused 0)
     (record { listen = here; name = codes "p"; first = [] })
 wire_not_started = record { same = refl; stopped = lit≤ tt; faulted = lit≤ tt }
 
-starts_in : Option (List Listening) → ℕ
+abbrev starts_in : Option (List Listening) → ℕ
 starts_in None = 0
 starts_in (Some starts) = length starts
 
 started_in_silence : Starts started.Ready (wire unused 0) (wire unused 0) (record { listen = here; name = codes "p"; first = [] }) → ⊥
-unfolding starts_in
 started_in_silence e = false≢true (ap (λ (h : WireHistory). starts_in h.starts == 1) e)
 
 -- a link that was connected at moment 5

@@ -111,13 +111,12 @@ rows_added : AddsRows (Some (row 1 ∷ [])) (Some (row 1 ∷ row 2 ∷ []))
 unfolding AreCountedFrom
 rows_added = record { more = row 2 ∷ []; is = refl; numbers = (refl, tt); few = lit≤ tt }
 
-count_in : Option (List Row) → ℕ
+abbrev count_in : Option (List Row) → ℕ
 count_in None = 0
 count_in (Some []) = 0
 count_in (Some (r ∷ rows)) = r.number
 
 rows_lost : AddsRows (Some (row 1 ∷ [])) (Some []) → ⊥
-unfolding count_in
 rows_lost a = false≢true (ap (λ o. count_in o == 1) a.is)
 
 untold_rows : AddsRows None None

@@ -89,12 +89,11 @@ not_done ending new e (inl p) = false≢true (ap (λ n. n == 4) (ap number_of p.
 not_done ending new e (inr (inl p)) = false≢true (ap (λ s. number_of s == 5) p.0)
 not_done ending new e (inr (inr p)) = false≢true (ap (λ s. number_of s == 10) p.0)
 
-number_in : Verdict → ℕ
+abbrev number_in : Verdict → ℕ
 number_in (Ends ending) = number_of ending.status
 number_in v = 17
 
 done_without_a_word : (disk : DiskUse) → PlantBy plain (Unit {0}) (ended status.ReadFault) ⊥ status.Done (holding []) (holding []) disk unused unused → ⊥
-unfolding number_in
 done_without_a_word disk (inl (inl p)) = not_done p.ending (holding []) (ap number_in p.is) p.printed
 done_without_a_word disk (inl (inr p)) = false≢true (ap (λ n. n == 4) (ap number_in p.is))
 done_without_a_word disk (inr p) = p.0

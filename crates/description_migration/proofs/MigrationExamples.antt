@@ -1,9 +1,9 @@
 -- A description under schema 2, by computation.
 use Rattle.std.specs.Prelude.{◌≡◌, refl, ℕ, List, [], codes, pos, Option, Some, None, is_some, Bool, false, ◌==◌, bytes_eq}
 use Rattle.std.specs.Cmp.Lexicographic.{slice_cmp}
-use Rattle.std.specs.Ordering.{Ordering, Less, Equal, Greater, nat_cmp, is_eq, match_ordering}
+use Rattle.std.specs.Ordering.{Less, Equal, Greater, nat_cmp, is_eq, match_ordering}
 use Rattle.std.specs.Fmt.{digits}
-use Rattle.std.proofs.Common.{ap, sym}
+use Rattle.std.proofs.Common.{Ordering, ap, sym}
 use Rattle.std.proofs.lemmas.Bool.{false≢true}
 use Rattle.toml.specs.Data.{Data, string, integer, Members, no_members, member, get_member}
 use Rattle.toml.specs.Parse.{parse_document}
@@ -44,11 +44,11 @@ unfolding migrated_text toml_on_literals
 no_document = refl
 
 -- another schema, and a key that is lost or changed, are refused
-is_two : Option Data → Bool
+abbrev is_two : Option Data → Bool
 is_two (Some (integer (pos n))) = n == 2
 is_two o = false
 
-is_text : Option Data → List ℕ → Bool
+abbrev is_text : Option Data → List ℕ → Bool
 is_text (Some (string s)) t = bytes_eq s t
 is_text o t = false
 

@@ -74,7 +74,7 @@ unused = record { log = Some []; streams = Some none_taken; starts = Some []; op
 abbrev holding : List ℕ → SinkState
 holding bytes = record { held = Some bytes; faults = 0; wants = 0 }
 
-bytes_in : Option (List ℕ) → List ℕ
+abbrev bytes_in : Option (List ℕ) → List ℕ
 bytes_in None = []
 bytes_in (Some bytes) = bytes
 
@@ -111,12 +111,11 @@ moves_without_events = refl
 added : AddsToLog (Some (opened 1 ∷ [])) (Some (opened 1 ∷ move.Lost 1 ∷ [])) (move.Lost 1 ∷ [])
 added = refl
 
-moves_in : Option (List Move) → ℕ
+abbrev moves_in : Option (List Move) → ℕ
 moves_in None = 0
 moves_in (Some ms) = length ms
 
 one_is_missing : AddsToLog (Some (opened 1 ∷ [])) (Some (opened 1 ∷ [])) (move.Lost 1 ∷ []) → ⊥
-unfolding moves_in
 one_is_missing e = false≢true (ap (λ o. moves_in o == 2) e)
 
 -- what is printed at each end: its counts, or the line on memory alone
@@ -134,7 +133,6 @@ told : IsTold (holding []) (holding (codes "listening\n"))
 told = record { listening = refl; later = record { faults = lit≤ tt; wants = lit≤ tt } }
 
 told_nothing : IsTold (holding []) (holding []) → ⊥
-unfolding bytes_in
 told_nothing t = false≢true (ap (λ o. bytes_eq (bytes_in o) (codes "listening\n")) t.listening)
 
 cannot_put : CannotPut status.WriteFault (holding []) (record { held = Some (codes "list"); faults = 1; wants = 0 })
@@ -157,12 +155,11 @@ link_fault = codes "ads: link fault\n"
 not_started : EndsService service status.LinkFault (holding []) (holding link_fault) unused (record unused { starts = Some (start ∷ []); stops = 1 })
 not_started = inl (inl (record { same = refl; stopped = lit≤ tt }, inl (refl, refl)))
 
-starts_in : Option (List Listening) → ℕ
+abbrev starts_in : Option (List Listening) → ℕ
 starts_in None = 0
 starts_in (Some starts) = length starts
 
 started_elsewhere : CannotStart start status.LinkFault (holding []) (holding link_fault) unused (record unused { stops = 1 }) → ⊥
-unfolding starts_in
 started_elsewhere (inl p) = false≢true (ap (λ (h : WireHistory). starts_in h.starts == 1) (p.0.same))
 started_elsewhere (inr p) = false≢true (ap (λ (h : WireHistory). h.stops == 0) (p.0))
 
@@ -199,7 +196,7 @@ unfolding ams_length_of is_header front_of packet_of behind_frame frames_from fr
     after_packet after_packets after_piece read_group acts_of decide_request decide digits
 given = refl
 
-head_of : List ℕ → ℕ
+abbrev head_of : List ℕ → ℕ
 head_of [] = 1
 head_of (x ∷ xs) = x
 
@@ -214,7 +211,7 @@ unfolding ams_length_of is_header front_of packet_of behind_frame frames_from fr
     ended_watches name_behind comment_behind entry_of_part numbers_from name_at names_at content_of projection_of acts_of_packets acts_of_move
     acts_of_log acts_by_others reply_in_forms outcome_in_all response_packet performed grouped frames_of_samples samples_at watches_after_tick
     reach_of outcomes_of memory_after_acts client_after_acts is_kept memory_after_reload world_after_reload client_reloaded answered_group
-    after_packet after_packets after_piece read_group acts_of decide_request decide digits taken_of head_of
+    after_packet after_packets after_piece read_group acts_of decide_request decide digits taken_of
 other_bytes p = false≢true (ap (λ l. head_of l == 7) ((p.begins 1).1))
 
 withheld : KeepsPromises plant waves (log []) → ⊥
@@ -227,7 +224,7 @@ unfolding ams_length_of is_header front_of packet_of behind_frame frames_from fr
     ended_watches name_behind comment_behind entry_of_part numbers_from name_at names_at content_of projection_of acts_of_packets acts_of_move
     acts_of_log acts_by_others reply_in_forms outcome_in_all response_packet performed grouped frames_of_samples samples_at watches_after_tick
     reach_of outcomes_of memory_after_acts client_after_acts is_kept memory_after_reload world_after_reload client_reloaded answered_group
-    after_packet after_packets after_piece read_group acts_of decide_request decide digits taken_of is_cut_off is_short_from head_of
+    after_packet after_packets after_piece read_group acts_of decide_request decide digits taken_of is_cut_off is_short_from
 withheld p = false≢true (sym (ap (λ l. head_of l == 1) (p.frames.all 1 refl refl)))
 
 -- also where the wire failed; where memory ended the run, less may have been taken
@@ -241,5 +238,5 @@ unfolding ams_length_of is_header front_of packet_of behind_frame frames_from fr
     ended_watches name_behind comment_behind entry_of_part numbers_from name_at names_at content_of projection_of acts_of_packets acts_of_move
     acts_of_log acts_by_others reply_in_forms outcome_in_all response_packet performed grouped frames_of_samples samples_at watches_after_tick
     reach_of outcomes_of memory_after_acts client_after_acts is_kept memory_after_reload world_after_reload client_reloaded answered_group
-    after_packet after_packets after_piece read_group acts_of decide_request decide digits taken_of is_cut_off is_short_from head_of
+    after_packet after_packets after_piece read_group acts_of decide_request decide digits taken_of is_cut_off is_short_from
 withheld_at_a_fault p = withheld p

@@ -50,7 +50,7 @@ failed_at bytes = record { held = Some bytes; faults = 1; wants = 0 }
 abbrev usage : List ℕ
 usage = codes "ads: usage\n"
 
-bytes_in : Option (List ℕ) → List ℕ
+abbrev bytes_in : Option (List ℕ) → List ℕ
 bytes_in None = []
 bytes_in (Some bytes) = bytes
 
@@ -66,7 +66,6 @@ without_memory = inr (inr (refl, inl (put.All, refl)))
 
 -- a status without its line, a line without its status, and a part with no fault are refused
 line_missing : PrintsEnding (line_alone status.Usage) status.Usage (holding []) (holding []) → ⊥
-unfolding bytes_in
 line_missing (inl p) = false≢true (sym (ap (λ o. bytes_eq (bytes_in o) []) p.1))
 line_missing (inr (inl p)) = false≢true (ap (λ s. number_of s == 5) p.0)
 line_missing (inr (inr p)) = false≢true (ap (λ s. number_of s == 10) p.0)
@@ -88,7 +87,7 @@ Told s new = EndsOrBy Serves (λ service. ⊥) (Unit {0}) (ended status.Usage) �
 told : Told status.Usage (holding usage)
 told = inl (inl (record { ending = line_alone status.Usage; is = refl; printed = inl (refl, refl); still = tt }))
 
-number_in : Verdict → ℕ
+abbrev number_in : Verdict → ℕ
 number_in (Ends ending) = number_of ending.status
 number_in v = 17
 
@@ -98,7 +97,6 @@ not_done ending new e (inr (inl p)) = false≢true (ap (λ s. number_of s == 5) 
 not_done ending new e (inr (inr p)) = false≢true (ap (λ s. number_of s == 10) p.0)
 
 done_without_a_word : Told status.Done (holding []) → ⊥
-unfolding number_in
 done_without_a_word (inl (inl p)) = not_done p.ending (holding []) (ap number_in p.is) p.printed
 done_without_a_word (inl (inr p)) = p.comes
 done_without_a_word (inr p) = p.0
@@ -134,21 +132,19 @@ no_load_file = refl
 either : Reads replay status.ReadFault (p ∷ []) × Reads replay status.ReadFault (p ∷ s ∷ [])
 either = (inl refl, inr refl)
 
-count_in : Option (List (List ℕ)) → ℕ
+abbrev count_in : Option (List (List ℕ)) → ℕ
 count_in None = 0
 count_in (Some names) = length names
 
 script_of_a_wrong_description : Reads replay (status.BadDescription 2 0) (p ∷ s ∷ []) → ⊥
-unfolding count_in
 script_of_a_wrong_description e = false≢true (ap (λ o. count_in o == 1) e)
 
 unread : Reads (Some (task.OfFiles (file_task.Check p))) status.Done [] → ⊥
-unfolding count_in
 unread e = false≢true (ap (λ o. count_in o == 1) e)
 
 -- the ends before a run
 before : IsBeforeRun status.Usage × IsBeforeRun status.ReadFault × IsBeforeRun (status.BadScript 1)
-before = (tt, (tt, tt))
+before = (tt, tt, tt)
 
 not_before : IsBeforeRun status.Done → ⊥
 not_before h = h

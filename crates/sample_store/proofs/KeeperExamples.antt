@@ -17,7 +17,7 @@ row number value = record { number = number; name = codes "Main.count"; time = 5
 abbrev two : Option (List Row)
 two = Some (row 1 42 ∷ row 2 43 ∷ [])
 
-count_in : Option (List Row) → ℕ
+abbrev count_in : Option (List Row) → ℕ
 count_in None = 0
 count_in (Some rows) = length rows
 
@@ -52,11 +52,10 @@ unfolding rows_after_put
 put_again = refl
 
 put_and_lost : Keeps kept.Done two two (row 3 44) → ⊥
-unfolding rows_after_put count_in
+unfolding rows_after_put
 put_and_lost e = false≢true (ap (λ o. count_in o == 3) e)
 
 failed_and_put : Keeps kept.Failed two (Some (row 1 42 ∷ row 2 43 ∷ row 3 44 ∷ [])) (row 3 44) → ⊥
-unfolding count_in
 failed_and_put e = false≢true (ap (λ o. count_in o == 2) e)
 
 -- there is no total exactly where no row has the name

@@ -72,11 +72,11 @@ turn_with served = record { event = event.Piece 1 asks; served = served }
 abbrev AreTurnsWith : List (List Move) → Type 0
 AreTurnsWith served = AreTurns step [] start (opens ∷ turn_with served ∷ [])
 
-is_none : List (List ℕ) → Bool
+abbrev is_none : List (List ℕ) → Bool
 is_none [] = true
 is_none (x ∷ xs) = false
 
-head_of : List ℕ → ℕ
+abbrev head_of : List ℕ → ℕ
 head_of [] = 0
 head_of (x ∷ xs) = x
 
@@ -117,7 +117,7 @@ unfolding ams_length_of is_header front_of packet_of behind_frame frames_from fr
     ended_watches name_behind comment_behind entry_of_part numbers_from name_at names_at content_of projection_of acts_of_packets acts_of_move
     acts_of_log acts_by_others reply_in_forms outcome_in_all response_packet performed grouped frames_of_samples samples_at watches_after_tick
     reach_of outcomes_of memory_after_acts client_after_acts is_kept memory_after_reload world_after_reload client_reloaded answered_group
-    after_packet after_packets after_piece read_group acts_of decide_request decide digits blocked_after left_after Serves ServesEach AreTurns is_none
+    after_packet after_packets after_piece read_group acts_of decide_request decide digits blocked_after left_after Serves ServesEach AreTurns
 lost = (((inl refl, refl), tt), (((refl, ((λ e. false≢true (ap is_none e)), refl), refl), tt), tt))
 
 -- such a log keeps the turns
@@ -146,9 +146,9 @@ unfolding ams_length_of is_header front_of packet_of behind_frame frames_from fr
     ended_watches name_behind comment_behind entry_of_part numbers_from name_at names_at content_of projection_of acts_of_packets acts_of_move
     acts_of_log acts_by_others reply_in_forms outcome_in_all response_packet performed grouped frames_of_samples samples_at watches_after_tick
     reach_of outcomes_of memory_after_acts client_after_acts is_kept memory_after_reload world_after_reload client_reloaded answered_group
-    after_packet after_packets after_piece read_group acts_of decide_request decide digits blocked_after left_after Serves ServesEach AreTurns is_none
-not_offered (first, ((inl e, closing), more), rest) = false≢true (ap is_none e)
-not_offered (first, ((inr blocked, closing), more), rest) = false≢true blocked
+    after_packet after_packets after_piece read_group acts_of decide_request decide digits blocked_after left_after Serves ServesEach AreTurns
+not_offered (first, (((inl e, closing), more), rest)) = false≢true (ap is_none e)
+not_offered (first, (((inr blocked, closing), more), rest)) = false≢true blocked
 
 to_another : AreTurnsWith ((took 2 reply ∷ []) ∷ []) → ⊥
 unfolding ams_length_of is_header front_of packet_of behind_frame frames_from frames_of left_behind rest_of has_same_parts has_same_members
@@ -161,7 +161,7 @@ unfolding ams_length_of is_header front_of packet_of behind_frame frames_from fr
     acts_of_log acts_by_others reply_in_forms outcome_in_all response_packet performed grouped frames_of_samples samples_at watches_after_tick
     reach_of outcomes_of memory_after_acts client_after_acts is_kept memory_after_reload world_after_reload client_reloaded answered_group
     after_packet after_packets after_piece read_group acts_of decide_request decide digits blocked_after left_after Serves ServesEach AreTurns
-to_another (first, ((same, others), more), rest) = false≢true (ap (λ n. n == 1) same)
+to_another (first, (((same, free, offer, others), more), rest)) = false≢true (ap (λ n. n == 1) same)
 
 again : AreTurnsWith ((took 1 (0 ∷ []) ∷ took 1 reply ∷ []) ∷ []) → ⊥
 unfolding ams_length_of is_header front_of packet_of behind_frame frames_from frames_of left_behind rest_of has_same_parts has_same_members
@@ -174,7 +174,7 @@ unfolding ams_length_of is_header front_of packet_of behind_frame frames_from fr
     acts_of_log acts_by_others reply_in_forms outcome_in_all response_packet performed grouped frames_of_samples samples_at watches_after_tick
     reach_of outcomes_of memory_after_acts client_after_acts is_kept memory_after_reload world_after_reload client_reloaded answered_group
     after_packet after_packets after_piece read_group acts_of decide_request decide digits blocked_after left_after Serves ServesEach AreTurns
-again (first, ((same, free, offer, (same_again, blocked, others)), more), rest) = false≢true (sym blocked)
+again (first, (((same, free, offer, (same_again, blocked, second, others)), more), rest)) = false≢true (sym blocked)
 
 shut_for_nothing : AreTurnsWith ((took 1 reply ∷ move.Shut 1 ∷ []) ∷ []) → ⊥
 unfolding ams_length_of is_header front_of packet_of behind_frame frames_from frames_of left_behind rest_of has_same_parts has_same_members
@@ -187,7 +187,7 @@ unfolding ams_length_of is_header front_of packet_of behind_frame frames_from fr
     acts_of_log acts_by_others reply_in_forms outcome_in_all response_packet performed grouped frames_of_samples samples_at watches_after_tick
     reach_of outcomes_of memory_after_acts client_after_acts is_kept memory_after_reload world_after_reload client_reloaded answered_group
     after_packet after_packets after_piece read_group acts_of decide_request decide digits blocked_after left_after Serves ServesEach AreTurns
-shut_for_nothing (first, ((same, free, offer, (same_again, served, closing, ends)), more), rest) = false≢true closing
+shut_for_nothing (first, (((same, free, offer, (same_again, served, closing, ends)), more), rest)) = false≢true closing
 
 passed_over : AreTurnsWith [] → ⊥
 unfolding ams_length_of is_header front_of packet_of behind_frame frames_from frames_of left_behind rest_of has_same_parts has_same_members
@@ -200,11 +200,10 @@ unfolding ams_length_of is_header front_of packet_of behind_frame frames_from fr
     acts_of_log acts_by_others reply_in_forms outcome_in_all response_packet performed grouped frames_of_samples samples_at watches_after_tick
     reach_of outcomes_of memory_after_acts client_after_acts is_kept memory_after_reload world_after_reload client_reloaded answered_group
     after_packet after_packets after_piece read_group acts_of decide_request decide digits blocked_after left_after Serves ServesEach AreTurns
-passed_over (first, served, rest) = served
+passed_over (first, (served, rest)) = served
 
 -- an offer is of all that is left of the first frame, and what is taken begins it
 other_bytes : IsOffer ((1 ∷ 2 ∷ []) ∷ []) 2 (2 ∷ []) → ⊥
-unfolding head_of
 other_bytes (len, fits, begins) = false≢true (sym (ap (λ bytes. head_of bytes == 2) begins))
 
 offered_in_parts : IsOffer ((1 ∷ 2 ∷ []) ∷ []) 1 (1 ∷ []) → ⊥
@@ -218,7 +217,6 @@ begins_it : IsPrefix (1 ∷ []) (1 ∷ 2 ∷ [])
 begins_it = (2 ∷ [], refl)
 
 does_not_begin : IsPrefix (2 ∷ []) (1 ∷ 2 ∷ []) → ⊥
-unfolding head_of
 does_not_begin p = false≢true (ap (λ l. head_of l == 2) p.1)
 
 -- the last offer to a connection counts, and whether all of it was taken

@@ -223,7 +223,7 @@ is_so : IsByCycle 1000 (seen 500 (full 42 ∷ []) ∷ seen 1499 [] ∷ seen 1500
 is_so = (refl, inr (refl, lit< tt, inl (refl, lit≤ tt, tt)))
 
 -- by the mode of a notification; neither may be silent at its first tick
-count_given : List (List ℕ) → ℕ
+abbrev count_given : List (List ℕ) → ℕ
 count_given [] = 0
 count_given (x ∷ xs) = 1
 
@@ -231,9 +231,7 @@ abbrev silent : List TickSeen
 silent = seen 500 [] ∷ []
 
 silent_in_cycle_mode : (w : Watch (List Addressed)) → w.mode ≡ Cyclic → GivesAsAsked w silent → ⊥
-unfolding count_given
 silent_in_cycle_mode w mode g = false≢true (ap (λ l. count_given l == 1) ((g.cyclic mode).0))
 
 silent_on_change : (w : Watch (List Addressed)) → w.mode ≡ OnChange → GivesAsAsked w silent → ⊥
-unfolding count_given
 silent_on_change w mode g = false≢true (ap (λ l. count_given l == 1) ((g.on_change mode).0))

@@ -75,7 +75,7 @@ unfolding ams_length_of is_header front_of packet_of behind_frame frames_from fr
     taken_of is_cut_off is_short_from
 promised p = p.all 1 refl refl
 
-head_of : List ℕ → ℕ
+abbrev head_of : List ℕ → ℕ
 head_of [] = 1
 head_of (x ∷ xs) = x
 
@@ -83,17 +83,17 @@ head_of (x ∷ xs) = x
 other_bytes : RelayKeepsPromisesSoFar description (opens ∷ asks ∷ took (7 ∷ []) ∷ []) → ⊥
 unfolding ams_length_of is_header front_of packet_of behind_frame frames_from frames_of left_behind rest_of header_of response_packet produce
     connection_of put_back state_after_move state_after without_first way_of_owned after_way after_frame after_frames relay_after_event
-    taken_of head_of
+    taken_of
 other_bytes p = false≢true (ap (λ l. head_of l == 7) ((p.begins 1).1))
 
 nothing_taken : RelayKeepsPromises description (opens ∷ asks ∷ []) → ⊥
 unfolding ams_length_of is_header front_of packet_of behind_frame frames_from frames_of left_behind rest_of header_of response_packet produce
     connection_of put_back state_after_move state_after without_first way_of_owned after_way after_frame after_frames relay_after_event
-    taken_of is_cut_off is_short_from head_of
+    taken_of is_cut_off is_short_from
 nothing_taken p = false≢true (sym (ap (λ l. head_of l == 1) (p.all 1 refl refl)))
 
 nothing_given : RelayKeepsPromisesSoFar description (opens ∷ took (0 ∷ []) ∷ []) → ⊥
-unfolding connection_of put_back state_after_move state_after relay_after_event taken_of head_of
+unfolding connection_of put_back state_after_move state_after relay_after_event taken_of
 nothing_given p = false≢true (sym (ap (λ l. head_of l == 1) ((p.begins 1).1)))
 
 -- the counts, and what a play prints: what was taken, and the counts
