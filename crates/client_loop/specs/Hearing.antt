@@ -148,7 +148,7 @@ EndsFrom result c new old_tells new_tells link new_link out new_out =
 
 -- a keeper that tells no rows, and never failed
 abbrev pub no_rows : KeeperState
-no_rows = record { rows = None; faults = 0 }
+no_rows = record { rows = None; names = None; faults = 0 }
 
 -- a call that is no recording, and only begins
 abbrev pub TalksAlone : {O : Type 0} → Result LoopEnd NoMemory → Conversation → (O → List LinkMove → Type 0)

@@ -80,7 +80,7 @@ pub returns-in-Ok-Keep-clause-link_later : goal.returns-in-Ok-Keep-clause-link_l
 returns-in-Ok-Keep-clause-link_later g c = link_same _
 
 pub returns-in-Ok-Keep-clause-out_later : goal.returns-in-Ok-Keep-clause-out_later
-returns-in-Ok-Keep-clause-out_later g c = keeper_later (g.S.Sink.state c.args.out.now) _ _ c.keep.ensures.keeper_later
+returns-in-Ok-Keep-clause-out_later g c = keeper_later (g.S.Sink.state c.args.out.now) _ _ c.keep.ensures.keeper_later c.keep.ensures.names
 
 pub returns-in-Ok-Wait-clause-turn : goal.returns-in-Ok-Wait-clause-turn
 returns-in-Ok-Wait-clause-turn g c = λ r n stands. (
