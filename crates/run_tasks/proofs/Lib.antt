@@ -4,3 +4,4 @@ pub mod OpenLemmas
 pub mod VerdictLemmas
 pub mod EndLemmas
 pub mod TaskLemmas
+mod StatusExamples
