@@ -27,9 +27,9 @@ use crate::looking::look;
 use crate::meaning::meant_mode;
 use crate::requests::NoteRequest;
 use ads_base::NoMemory;
-use index_groups::{Reach, reach};
-use notify_table::{Mode, Spec, WatchFull};
-use port_device::{Group, Port, group_named};
+use index_groups::{Reach, SYMBOL_VERSION, reach};
+use notify_table::{Mode, Spec, WatchFull, Watched};
+use port_device::{Group, Port, group_named, states_range};
 use return_codes::Code;
 use std::alloc::Global;
 use sym_handles::Handles;
@@ -44,7 +44,7 @@ impl Session {
     /// |---|---|
     /// | 0x713 | the mode is neither 3 nor 4; at a wide port, nor 5 nor 6, which are taken for them |
     /// | 0x717 | more than 2,048 bytes are to be watched |
-    /// | 0x702 | the group names neither bytes, a bit nor a value by handle |
+    /// | 0x702 | the group names neither bytes, a bit nor a value by handle; at a wide port, nor its state words nor its version |
     /// | 0x703, or the code of the handle | the offset lies outside, or the handle is not live |
     /// | 0x705 | the length is 0, or what is to be watched ends outside |
     /// | 0x716 | no further notification can be added |
@@ -86,7 +86,7 @@ impl Session {
         ensures asked { (a : Asking) (delay : ℕ) → Asks a port.now self.now.handles → a.asker.address ≡ address_of asker.source
             → IsSpecAsked a (act_asked a (AddDeviceNotification asked.now.group asked.now.offset asked.now.len asked.now.mode delay asked.now.cycle))
             result }
-        ensures watchable { IfOk result (λ spec. CanBeWatched (range_meant spec.reach)) }
+        ensures watchable { IfOk result (λ spec. CanBeWatched (watched_meant spec.watched)) }
     {
         match mode_named(meant_mode(port, asked.mode)) {
             Some(mode) => self.spec_with_mode(port, asker, asked, mode),
@@ -107,20 +107,20 @@ impl Session {
         ensures asked { (a : Asking) (delay : ℕ) → Asks a port.now self.now.handles → a.asker.address ≡ address_of asker.source
             → IsSpecAsked a (act_asked a (AddDeviceNotification asked.now.group asked.now.offset asked.now.len asked.now.mode delay asked.now.cycle))
             result }
-        ensures watchable { IfOk result (λ spec. CanBeWatched (range_meant spec.reach)) }
+        ensures watchable { IfOk result (λ spec. CanBeWatched (watched_meant spec.watched)) }
     {
         if asked.len > MOST_BYTES {
             return Err(Code::C717);
         }
         match watched(&self.handles, port, asker.ams_port, asked) {
-            Ok(reach) => {
+            Ok(watched) => {
                 if asked.len == 0 {
                     return Err(Code::C705);
                 }
                 Ok(Spec {
                     port: asker.ams_port,
                     to: asker.source,
-                    reach,
+                    watched,
                     mode,
                     cycle: asked.cycle,
                 })
@@ -131,7 +131,7 @@ impl Session {
 
     // Adds it; 0x716 where no further one can be added.
     fn add_spec(&mut self, alloc: Global, spec: Spec) -> Result<Result<u32, Code>, NoMemory>
-        requires { CanBeWatched (range_meant spec.reach) }
+        requires { CanBeWatched (watched_meant spec.watched) }
         ensures adds { IfOk result (λ answer. (a : Asking) (act : Act) → StandsFor a.world.plant a.client self.old → AsksFor a act spec
             → AddsAs a act answer self.new) }
         ensures keeps { self.new ≡ record self.old { watches = self.new.watches } }
@@ -160,13 +160,81 @@ fn watched(
     port: &Port,
     ams_port: u16,
     asked: &NoteRequest,
-) -> Result<Reach, Code>
+) -> Result<Watched, Code>
+    requires some { SomeAsks port.now handles.now }
+    requires number { ams_port ≡ port.now.number }
+    ensures watched { (a : Asking) → Asks a port.now handles.now
+        → IsWatched a.world.plant.ports a.asker.port.number asked.now.len
+        (addition_reach a.world.profile.manner a.client a.asker.port asked.now.group asked.now.offset asked.now.len) result }
+    ensures len { IfOk result (λ watched. watched_len (watched_meant watched) ≡ asked.now.len) }
+{
+    if watches_own(port, asked.group) {
+        return watched_own(asked);
+    }
+    watched_plain(handles, port, ams_port, asked)
+}
+
+// Whether a notification on a group watches a port's own bytes, as it may of a wide port.
+fn watches_own(port: &Port, group: u32) -> bool
+    ensures { result ≡ is_own_group_in port.now.manner group }
+{
+    if !port.is_wide() {
+        return false;
+    }
+    group == DEVICE_DATA || group == SYMBOL_VERSION
+}
+
+// So many bytes of the state words, or the version.
+fn watched_own(asked: &NoteRequest) -> Result<Watched, Code>
+    ensures watched { IfSome (own_reach_asked asked.now) (λ reached. (ports : List PlantPort) (p : PlantPort)
+        → port_numbered p.number ports ≡ Some p
+        → IsWatched ports p.number asked.now.len (reached p.number) result) }
+    ensures len { IfOk result (λ watched. watched_len (watched_meant watched) ≡ asked.now.len) }
+{
+    if asked.group == DEVICE_DATA {
+        return watched_states(asked.offset, asked.len);
+    }
+    watched_version(asked.len)
+}
+
+fn watched_states(offset: u32, len: u32) -> Result<Watched, Code>
+    ensures watched { (ports : List PlantPort) (p : PlantPort) → port_numbered p.number ports ≡ Some p
+        → IsWatched ports p.number len (states_reach p.number offset len) result }
+    ensures len { IfOk result (λ watched. watched_len (watched_meant watched) ≡ len) }
+{
+    match states_range(offset, len) {
+        Ok(()) => Ok(Watched::Own {
+            first: offset as u8,
+            len: len as u8,
+        }),
+        Err(code) => Err(code),
+    }
+}
+
+fn watched_version(len: u32) -> Result<Watched, Code>
+    ensures watched { (ports : List PlantPort) (p : PlantPort) → port_numbered p.number ports ≡ Some p
+        → IsWatched ports p.number len (version_reach p.number len) result }
+    ensures len { IfOk result (λ watched. watched_len (watched_meant watched) ≡ len) }
+{
+    if len == 1 {
+        return Ok(Watched::Own { first: 4, len: 1 });
+    }
+    Err(Code::C705)
+}
+
+// The same of the groups that every port has.
+fn watched_plain(
+    handles: &Handles,
+    port: &Port,
+    ams_port: u16,
+    asked: &NoteRequest,
+) -> Result<Watched, Code>
     requires some { SomeAsks port.now handles.now }
     requires number { ams_port ≡ port.now.number }
     ensures watched { (a : Asking) → Asks a port.now handles.now
         → IsWatched a.world.plant.ports a.asker.port.number asked.now.len
         (reach_of a.client a.asker.port (answered_group ADD_DEVICE_NOTIFICATION asked.now.group) asked.now.offset asked.now.len) result }
-    ensures len { IfOk result (λ reach. watched_len (range_meant reach) ≡ asked.now.len) }
+    ensures len { IfOk result (λ watched. watched_len (watched_meant watched) ≡ asked.now.len) }
 {
     if is_value_by_handle(asked.group) {
         return watched_by_handle(handles, ams_port, asked.offset, asked.len);
@@ -174,26 +242,29 @@ fn watched(
     if !is_bytes_or_bit(asked.group) {
         return Err(Code::C702);
     }
-    reach(port.sizes(), asked.group, asked.offset, asked.len)
+    match reach(port.sizes(), asked.group, asked.offset, asked.len) {
+        Ok(range) => Ok(Watched::InArea(range)),
+        Err(code) => Err(code),
+    }
 }
 
 // The first bytes of a value by its handle.
-fn watched_by_handle(handles: &Handles, ams_port: u16, handle: u32, len: u32) -> Result<Reach, Code>
+fn watched_by_handle(handles: &Handles, ams_port: u16, handle: u32, len: u32) -> Result<Watched, Code>
     ensures watched { (a : Asking) (port : PortMemory) → ams_port ≡ port.number → Asks a port handles.now
         → IsWatched a.world.plant.ports a.asker.port.number len
         (addressed_by_status a.asker.port.number (kept_status a.client.handles handle a.asker.port.number) len) result }
-    ensures len { IfOk result (λ reach. watched_len (range_meant reach) ≡ len) }
+    ensures len { IfOk result (λ watched. watched_len (watched_meant watched) ≡ len) }
 {
     match look(handles, ams_port, handle) {
         Ok(place) => {
             if len > place.len {
                 return Err(Code::C705);
             }
-            Ok(Reach::Bytes {
+            Ok(Watched::InArea(Reach::Bytes {
                 area: place.area,
                 at: place.at,
                 len,
-            })
+            }))
         }
         Err(code) => Err(code),
     }
