@@ -54,6 +54,11 @@ pub record IsReadable (ports : PortsMemory) (port : ℕ) (watched : Watched) : T
   pub holds : HoldsPorts world ports
   pub within : IsInFound (port_numbered port world.plant.ports) watched
 
+-- a port with this number is there
+pub record IsThere (ports : PortsMemory) (port : ℕ) : Type 0 where
+  pub watched : Watched
+  pub readable : IsReadable ports port watched
+
 pub record AreReadable (ports : PortsMemory) (watches : List (Watch Watched)) : Type 0 where
   pub world : World
   pub holds : HoldsPorts world ports

@@ -1,7 +1,7 @@
 //! Notifications are added and deleted. Beckhoff Information System, "ADS Add Device Notification", "ADS Delete Device
 //! Notification".
 
-ghost use Rattle.std.specs.Prelude.{◌≡◌, ◌≤◌, ℕ, Some, option_map, IfOk, OnErr};
+ghost use Rattle.std.specs.Prelude.{◌≡◌, ◌≤◌, ℕ, List, Some, option_map, IfOk, OnErr};
 ghost use Rattle.spec_formats.specs.Groups.{group_of};
 ghost use Rattle.spec_formats.specs.Request.{AddDeviceNotification, DeleteDeviceNotification};
 ghost use Rattle.spec_machine.specs.Answers.{answered_group, ADD_DEVICE_NOTIFICATION};
@@ -9,20 +9,23 @@ ghost use Rattle.spec_machine.specs.Acts.{Act};
 ghost use Rattle.spec_machine.specs.Handles.{kept_status};
 ghost use Rattle.spec_machine.specs.Reach.{reach_of, addressed_by_status};
 ghost use Rattle.spec_machine.specs.Meanings.{mode_in};
+ghost use Rattle.spec_machine.specs.Manner.{Wide};
+ghost use Rattle.spec_machine.specs.MoreActs.{states_reach, version_reach};
+ghost use Rattle.spec_plant.specs.World.{PlantPort};
+ghost use Rattle.spec_plant.specs.Named.{port_numbered};
 ghost use Rattle.spec_machine.specs.Requests.{mode_of};
-ghost use Rattle.notify_table.specs.Specs.{address_of, mode_meant};
+ghost use Rattle.notify_table.specs.Specs.{address_of, mode_meant, watched_meant};
 ghost use Rattle.notify_table.specs.Table.{watched_len, CanBeWatched};
-ghost use Rattle.index_groups.specs.Access.{range_meant};
 ghost use Rattle.port_device.specs.Holds.{HoldsPort};
 ghost use Rattle.port_device.specs.PortMemory.{PortMemory};
 ghost use Rattle.session.specs.Asking.{Asking, act_asked};
 ghost use Rattle.session.specs.Asks.{Asks, SomeAsks};
 ghost use Rattle.session.specs.StandsFor.{StandsFor};
-ghost use Rattle.session.specs.Watching.{is_byte_or_bit, IsWatched, IsSpecAsked, AsksFor, AddsAs, DeletesAs};
+ghost use Rattle.session.specs.Watching.{is_byte_or_bit, addition_reach, IsWatched, IsSpecAsked, AsksFor, AddsAs, DeletesAs};
 
 use crate::Session;
 use crate::asker::Asker;
-use crate::groups::is_value_by_handle;
+use crate::groups::{DEVICE_DATA, is_value_by_handle};
 use crate::looking::look;
 use crate::meaning::meant_mode;
 use crate::requests::NoteRequest;
@@ -168,35 +171,36 @@ fn watched(
         (addition_reach a.world.profile.manner a.client a.asker.port asked.now.group asked.now.offset asked.now.len) result }
     ensures len { IfOk result (λ watched. watched_len (watched_meant watched) ≡ asked.now.len) }
 {
-    if watches_own(port, asked.group) {
-        return watched_own(asked);
-    }
-    watched_plain(handles, port, ams_port, asked)
-}
-
-// Whether a notification on a group watches a port's own bytes, as it may of a wide port.
-fn watches_own(port: &Port, group: u32) -> bool
-    ensures { result ≡ is_own_group_in port.now.manner group }
-{
     if !port.is_wide() {
-        return false;
+        return watched_plain(handles, port, ams_port, asked);
     }
-    group == DEVICE_DATA || group == SYMBOL_VERSION
+    watched_wide(handles, port, ams_port, asked)
 }
 
-// So many bytes of the state words, or the version.
-fn watched_own(asked: &NoteRequest) -> Result<Watched, Code>
-    ensures watched { IfSome (own_reach_asked asked.now) (λ reached. (ports : List PlantPort) (p : PlantPort)
-        → port_numbered p.number ports ≡ Some p
-        → IsWatched ports p.number asked.now.len (reached p.number) result) }
+// The same of a wide port, whose own bytes may be watched too.
+fn watched_wide(
+    handles: &Handles,
+    port: &Port,
+    ams_port: u16,
+    asked: &NoteRequest,
+) -> Result<Watched, Code>
+    requires some { SomeAsks port.now handles.now }
+    requires number { ams_port ≡ port.now.number }
+    ensures watched { (a : Asking) → Asks a port.now handles.now
+        → IsWatched a.world.plant.ports a.asker.port.number asked.now.len
+        (addition_reach Wide a.client a.asker.port asked.now.group asked.now.offset asked.now.len) result }
     ensures len { IfOk result (λ watched. watched_len (watched_meant watched) ≡ asked.now.len) }
 {
     if asked.group == DEVICE_DATA {
         return watched_states(asked.offset, asked.len);
     }
-    watched_version(asked.len)
+    if asked.group == SYMBOL_VERSION {
+        return watched_version(asked.len);
+    }
+    watched_plain(handles, port, ams_port, asked)
 }
 
+// So many bytes of the state words.
 fn watched_states(offset: u32, len: u32) -> Result<Watched, Code>
     ensures watched { (ports : List PlantPort) (p : PlantPort) → port_numbered p.number ports ≡ Some p
         → IsWatched ports p.number len (states_reach p.number offset len) result }
@@ -211,6 +215,7 @@ fn watched_states(offset: u32, len: u32) -> Result<Watched, Code>
     }
 }
 
+// The version.
 fn watched_version(len: u32) -> Result<Watched, Code>
     ensures watched { (ports : List PlantPort) (p : PlantPort) → port_numbered p.number ports ≡ Some p
         → IsWatched ports p.number len (version_reach p.number len) result }
