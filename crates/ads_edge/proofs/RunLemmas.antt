@@ -1,24 +1,19 @@
--- A wire that tells no log may have taken any run.
-use Rattle.std.proofs.Common.{◌≡◌, ℕ, List, [], ◌∷◌, ◌++◌, length, true, false, refl, sym, ap, ◌∙◌}
-use Rattle.std.specs.Prelude.{Bool, Option, None}
+-- A wire that tells neither its log nor its streams may have taken any run.
+use Rattle.std.proofs.Common.{◌≡◌, ℕ, List, true, false, refl, sym, ap, ◌∙◌}
+use Rattle.std.specs.Prelude.{Bool, Option, Some, None}
+use Rattle.std.specs.List.{concat}
 use Rattle.std.specs.Option.{option_map}
-use Rattle.ads_outside.specs.declared.moves.Move.{Move}
-use Rattle.ads_outside.specs.declared.moves.Move.TheVariants as move
-use Rattle.ads_outside.specs.Wholes.{wholes}
+use Rattle.ads_outside.specs.Streams.{Streams, grown}
 use Rattle.ads_outside.specs.WireAnswers.{TakesRun}
-use Rattle.ads_outside.specs.WireState.{WireState, WireHistory, history_after, logged}
+use Rattle.ads_outside.specs.WireState.{WireState, WireHistory}
+use Rattle.ads_outside.proofs.StreamLemmas.{run_taken}
 
--- no move is logged
-not_logged : (h : WireHistory) (m : Move) → h.log ≡ None → logged m h ≡ h
-not_logged h m e =
-    ap (λ (log : Option (List Move)). record h { log = option_map (λ ms. ms ++ m ∷ []) log }) e
-    ∙ ap (λ (log : Option (List Move)). record h { log = log }) (sym e)
+still_none : (f : Streams → Streams) (o : Option Streams) → o ≡ None → option_map f o ≡ o
+still_none f None e = refl
+still_none f (Some s) e = cc
 
-none_logged : (h : WireHistory) (c : ℕ) (frames : List (List ℕ)) → h.log ≡ None → history_after h (wholes c frames) ≡ h
-unfolding history_after
-none_logged h c [] e = refl
-none_logged h c (f ∷ fs) e = ap (λ (g : WireHistory). history_after g (wholes c fs)) (not_logged h (move.Took c (length f) f) e) ∙ none_logged h c fs e
-
-pub takes_run : (taken : Bool) (s : WireState) (c : ℕ) (run : List ℕ) → s.history.log ≡ None → TakesRun taken s s c run
-takes_run true s c run e = λ frames joined. sym (none_logged s.history c frames e)
-takes_run false s c run e = refl
+pub takes_run : (taken : Bool) (s : WireState) (c : ℕ) (run : List ℕ) → s.history.log ≡ None → s.history.streams ≡ None → TakesRun taken s s c run
+takes_run true s c run no_log no_streams = λ frames joined.
+    sym (run_taken s.history c frames no_log
+    ∙ ap (λ (o : Option Streams). record s.history { streams = o }) (still_none (grown c (concat frames)) s.history.streams no_streams))
+takes_run false s c run no_log no_streams = refl

@@ -12,11 +12,12 @@ abbrev pub numbers_to : ℕ → List ℕ
 numbers_to zero = []
 numbers_to (suc n) = numbers_to n ++ suc n ∷ []
 
--- the numbers up to the last were opened; neither its log nor what it was started with is told
+-- the numbers up to the last were opened; neither its log nor its streams nor what it was started with is told
 abbrev pub state_of_sockets : ℕ → ℕ → ℕ → ℕ → ℕ → WireState
 state_of_sockets last events stops faults wants = record {
   history = record {
     log = None;
+    streams = None;
     starts = None;
     opened = numbers_to last;
     events = events;

@@ -1,2 +1,4 @@
+pub mod StreamLemmas
+pub mod UnloggedLemmas
 pub mod WireLemmas
 pub mod LinkLemmas

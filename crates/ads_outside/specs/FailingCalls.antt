@@ -1,5 +1,5 @@
 -- Objects in memory whose calls fail at given numbers.
-use Rattle.std.specs.Prelude.{ℕ, List, Bool, ◌==◌}
+use Rattle.std.specs.Prelude.{ℕ, List, Bool, ◌==◌, nat_lt}
 use Rattle.std.specs.List.{list_any}
 use Rattle.ads_outside.specs.Rose.{raised}
 
@@ -17,6 +17,10 @@ none_made fails = record { fails = fails; calls = 0; faults = 0 }
 -- whether the next call is to fail
 abbrev pub fails_next : FailingCalls → Bool
 fails_next f = list_any (λ n. n == raised f.calls) f.fails
+
+-- whether a later call is to fail
+abbrev pub fails_later : FailingCalls → Bool
+fails_later f = list_any (λ n. nat_lt f.calls n) f.fails
 
 -- one more call was made
 abbrev pub called : FailingCalls → FailingCalls

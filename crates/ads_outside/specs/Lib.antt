@@ -9,6 +9,7 @@ pub mod MemSink
 pub mod FilesState
 pub mod SinkState
 pub mod Opened
+pub mod Streams
 pub mod WireState
 pub mod Wholes
 pub mod WireAnswers

@@ -1,5 +1,6 @@
 -- A wire in memory.
-use Rattle.std.specs.Prelude.{ℕ, ◌+◌, List, [], ◌∷◌, ◌++◌, length, take, drop, min, slice_get, Bool, Option, Some, None, if◌then◌else◌}
+use Rattle.std.specs.Prelude.{ℕ, ◌+◌, List, [], ◌∷◌, ◌++◌, length, take, drop, min, slice_get, Bool, true}
+use Rattle.std.specs.Prelude.{false, Option, Some, None, if◌then◌else◌, nat_lt, ◌&&◌, not}
 use Rattle.ads_outside.specs.declared.event.Event.{Event}
 use Rattle.ads_outside.specs.declared.listening.Listening.{Listening}
 use Rattle.ads_outside.specs.declared.moves.Move.{Move}
@@ -12,9 +13,10 @@ use Rattle.ads_outside.specs.declared.shut.Shut.{Shut}
 use Rattle.ads_outside.specs.declared.shut.Shut.TheVariants as shut
 use Rattle.ads_outside.specs.declared.started.Started.{Started}
 use Rattle.ads_outside.specs.declared.started.Started.TheVariants as started
-use Rattle.ads_outside.specs.FailingCalls.{FailingCalls, none_made, fails_next, called, faulted}
+use Rattle.ads_outside.specs.FailingCalls.{FailingCalls, none_made, fails_next, fails_later, called, faulted}
 use Rattle.ads_outside.specs.Opened.{opened_in, are_new}
 use Rattle.ads_outside.specs.Rose.{raised}
+use Rattle.ads_outside.specs.Streams.{none_taken, streams_after}
 use Rattle.ads_outside.specs.WireState.{WireState}
 
 pub record HeldWire : Type 0 where
@@ -52,6 +54,7 @@ abbrev pub state_of_held : HeldWire → WireState
 state_of_held w = record {
   history = record {
     log = Some w.log;
+    streams = Some (streams_after none_taken w.log);
     starts = Some w.starts;
     opened = opened_in w.log;
     events = w.counted;
@@ -61,6 +64,14 @@ state_of_held w = record {
   faults = w.failing.faults;
   wants = w.wants;
 }
+
+-- a wire that does not tell its log
+abbrev pub unlogged : WireState → WireState
+unlogged s = record s { history = record s.history { log = None } }
+
+-- what a wire in memory tells that takes runs
+abbrev pub state_of_runs : HeldWire → WireState
+state_of_runs w = unlogged (state_of_held w)
 
 -- the events that are left open numbers that were not opened before
 abbrev pub opens_new : HeldWire → Bool
@@ -86,6 +97,10 @@ abbrev pub offer_of : HeldWire → List ℕ → Offer
 offer_of w bytes =
     if fails_next w.failing then offer.Failed
     else offer.Took (taken_at_most (slice_get w.cuts w.offers) (length bytes))
+
+-- whether every offer is taken whole from here on, and no call fails
+abbrev pub takes_all : HeldWire → Bool
+takes_all w = not (fails_later w.failing) && not (nat_lt w.offers (length w.cuts))
 
 -- what is held after such an answer
 abbrev pub after_start : Started → HeldWire → Listening → HeldWire
@@ -120,6 +135,11 @@ after_offer offer.Failed w c bytes = record w {
   offers = raised w.offers;
 }
 after_offer offer.Memory w c bytes = record w { failing = called w.failing; wants = raised w.wants }
+
+-- a run stands in the log as one offer that was taken whole
+abbrev pub after_run : Bool → HeldWire → ℕ → List ℕ → HeldWire
+after_run true w c run = record w { log = w.log ++ move.Took c (length run) run ∷ [] }
+after_run false w c run = w
 
 abbrev pub after_shut : Shut → HeldWire → ℕ → HeldWire
 after_shut shut.Done w c = record w { log = w.log ++ move.Shut c ∷ []; failing = called w.failing }

@@ -14,7 +14,7 @@ use Rattle.ads_outside.specs.declared.started.Started.TheVariants as started
 use Rattle.ads_outside.specs.Opened.{is_new}
 use Rattle.ads_outside.specs.Rose.{Rose}
 use Rattle.ads_outside.specs.Wholes.{wholes}
-use Rattle.ads_outside.specs.WireState.{WireState, WireHistory, logged, event_given, end_answered, listened, history_after}
+use Rattle.ads_outside.specs.WireState.{WireState, WireHistory, logged, bytes_taken, event_given, end_answered, listened, history_after}
 
 -- a start or a next event failed: both counts rose, and all else is as this history
 pub record Stops (old new : WireState) (rest : WireHistory) : Type 0 where
@@ -44,13 +44,14 @@ Gives next.Memory old new = Wants old new
 -- of what was offered a first part is taken, or the connection is lost
 abbrev pub Takes : Offer → WireState → WireState → ℕ → List ℕ → Type 0
 Takes (offer.Took n) old new c bytes = (n ≤ length bytes)
-    × (new.history ≡ logged (move.Took c (length bytes) (take n bytes)) old.history)
+    × (new.history ≡ bytes_taken c (length bytes) (take n bytes) old.history)
 Takes offer.Failed old new c bytes =
     (new.history ≡ logged (move.Lost c) old.history) × Rose old.faults new.faults
 Takes offer.Memory old new c bytes = Wants old new
 
 -- Whatever frames stand one behind another in a run, each is taken whole by an offer of its own; or nothing changed. Which frames
--- they are is not said, so a wire that tells its log takes no run.
+-- they are is not said, so a wire that tells its log takes no run. One that tells its streams may: that of the connection grows by
+-- the run, once, and no other grows.
 abbrev pub TakesRun : Bool → WireState → WireState → ℕ → List ℕ → Type 0
 TakesRun true old new c run =
     (frames : List (List ℕ)) → concat frames ≡ run → new.history ≡ history_after old.history (wholes c frames)

@@ -1,7 +1,7 @@
 //! Calls that fail at given numbers.
 
 ghost use Rattle.std.specs.Prelude.{◌≡◌, ◌≤◌};
-ghost use Rattle.ads_outside.specs.FailingCalls.{none_made, fails_next, called, faulted};
+ghost use Rattle.ads_outside.specs.FailingCalls.{none_made, fails_next, fails_later, called, faulted};
 ghost use Rattle.ads_outside.specs.Rose.{raised};
 
 use ads_base::Calls;
@@ -54,6 +54,14 @@ impl Failing {
         ensures { result ≡ fails_next self.now }
     {
         self.fails.as_slice().contains(&self.next_call())
+    }
+
+    /// Whether a later call is to fail.
+    pub fn fails_later(&self) -> bool
+        ensures { result ≡ fails_later self.now }
+    {
+        let calls = self.calls;
+        self.fails.as_slice().iter().any(|n| calls < *n)
     }
 
     /// One more call was made.

@@ -103,9 +103,10 @@ impl MemWire {
 impl MemWire {
     ghost use Rattle.std.specs.Prelude.{IfSome};
     ghost use Rattle.ads_outside.specs.Opened.{is_new, opened_in, opened_by_move};
-    ghost use Rattle.ads_outside.specs.MemWire.{given_to};
+    ghost use Rattle.ads_outside.specs.MemWire.{given_to, takes_all, after_run};
     ghost use Rattle.ads_outside.specs.FailingCalls.{called, faulted};
     ghost use Rattle.ads_outside.specs.Rose.{raised};
+    ghost use Rattle.ads_outside.specs.Streams.{grown, none_taken, streams_after, streams_after_move};
     ghost use Rattle.ads_outside.specs.declared.moves.Move.TheVariants as move;
 
     // What it is started with.
@@ -121,11 +122,12 @@ impl MemWire {
     }
 
     // The next event, if there is one.
-    #[tactic(auto, using(crate::proofs::WireLemmas::given_is_new, crate::proofs::WireLemmas::left_are_new))]
+    #[tactic(auto, using(crate::proofs::WireLemmas::given_is_new, crate::proofs::WireLemmas::left_are_new, crate::proofs::StreamLemmas::streams_more))]
     fn give(&mut self) -> Result<Option<Event>, NoMemory>
         ensures event { IfOk result (λ event. event ≡ slice_get self.old.events self.old.given) }
         ensures given { IfOk result (λ event. self.new ≡ given_to event self.old) }
         ensures is_new { IfOk result (λ event. IfSome event (λ e. IsTrue (is_new e (opened_in self.old.log)))) }
+        ensures streams { IfOk result (λ event. streams_after none_taken self.new.log ≡ streams_after none_taken self.old.log) }
         ensures no_memory { OnErr result (self.new ≡ self.old) }
     {
         let Some(event) = self.peek()? else {
@@ -152,9 +154,11 @@ impl MemWire {
     }
 
     // A move that is no event.
+    #[tactic(auto, using(crate::proofs::StreamLemmas::streams_more))]
     fn put(&mut self, entry: Move) -> Result<(), NoMemory>
         requires { opened_by_move entry ≡ [] }
         ensures ok { OnOk result (self.new ≡ record self.old { log = self.old.log ++ entry ∷ [] }) }
+        ensures streams { OnOk result (streams_after none_taken self.new.log ≡ streams_after_move (streams_after none_taken self.old.log) entry) }
         ensures no_memory { OnErr result (self.new ≡ self.old) }
     {
         self.log.push(self.alloc, entry)?;
@@ -166,11 +170,25 @@ impl MemWire {
         requires small { length bytes.now < 2 ^ 32 }
         requires within { n ≤ length bytes.now }
         ensures ok { OnOk result (self.new ≡ record self.old { log = self.old.log ++ move.Took conn (length bytes.now) (take n bytes.now) ∷ [] }) }
+        ensures streams { OnOk result (streams_after none_taken self.new.log ≡ grown conn (take n bytes.now) (streams_after none_taken self.old.log)) }
         ensures no_memory { OnErr result (self.new ≡ self.old) }
     {
         let taken = Octets::copy_of(self.alloc, &bytes[..n as usize])?;
         self.put(Move::Took(conn, bytes.len() as u32, taken))?;
         Ok(())
+    }
+
+    /// A run of bytes is taken whole, as one offer, where each offer is from here on and no call fails; false where not, or where
+    /// memory is wanting: then nothing has changed. It counts as no call.
+    pub(crate) fn take_run(&mut self, conn: u32, run: &[u8]) -> bool
+        requires { length run.now < 2 ^ 32 }
+        ensures all { IsTrue result → IsTrue (takes_all self.old) }
+        ensures logged { self.new ≡ after_run result self.old conn run.now }
+    {
+        if self.failing.fails_later() || self.offers < self.cuts.as_slice().len() as u64 {
+            return false;
+        }
+        self.put_taken(conn, run, run.len() as u32).is_ok()
     }
 
     // Memory was wanting in a call.

@@ -3,6 +3,7 @@
 ghost use Rattle.std.specs.Prelude.{◌≡◌, ◌≢◌, ◌≤◌};
 ghost use Rattle.ads_outside.specs.Rose.{Rose, raised};
 ghost use Rattle.serve_loop.specs.ToldLog.{WhereTold, LogsOffers, LogsTurns};
+ghost use Rattle.serve_loop.specs.ToldStreams.{StreamsOfTurns};
 ghost use Rattle.serve_loop.specs.TurnTaken.{StandsOver, AfterServe, GaveEvents};
 ghost use Rattle.serve_loop.specs.Wanting.{WasWanting};
 ghost use Rattle.spec_plant.specs.Description.{Description};
@@ -31,6 +32,10 @@ pub fn relay<T: Threads + Sync, W: Wire>(
         → WhereTold (W.state wire.old).history.log (λ log. LogsTurns relay_after_event nothing_noted (StandsAt r.new) x log (W.state wire.new).history.log) }
     ensures offers { (x : RelayStanding) → StandsOver (StandsAt r.old) (W.state wire.old).history.opened x
         → WhereTold (W.state wire.old).history.log (λ log. LogsOffers relay_after_event x.running.state log (W.state wire.new).history.log) }
+    // Where the streams are told: each connection took what it takes in such moves.
+    ensures streams { (x : RelayStanding) → StandsOver (StandsAt r.old) (W.state wire.old).history.opened x
+        → WhereTold (W.state wire.old).history.streams (λ streams. StreamsOfTurns result relay_after_event nothing_noted (StandsAt r.new) x streams
+            (W.state wire.new).history.streams) }
     // What the moves promise of a relay that had no connection yet.
     ensures promises { (d : Description) → StandsOver (StandsAt r.old) (W.state wire.old).history.opened (standing_at_start (relay_start d))
         → WhereTold (W.state wire.old).history.log (λ log. LogsPromises result d log (W.state wire.new).history.log) }

@@ -34,7 +34,7 @@ use Rattle.spec_client.specs.Runner as runner
 use Rattle.spec_client.specs.Runner.{Runner, Turned, turned, given, turn, is_over, is_not_yet, new_runner}
 use Rattle.spec_client.specs.Runner.{runner_after_feed, runner_after_tick, runner_after_hearing}
 use Rattle.spec_client.specs.Laws.{goes_on}
-use Rattle.spec_client.proofs.Hearings.{hearings_fall}
+use Rattle.spec_client.proofs.Hearings.{hearings_fall, hearings_never_rise}
 use Rattle.client_core.specs.Kept.{Kept, waiting_count}
 use Rattle.client_core.specs.Represents.{StandsFor as CoreStands, Represents as CoreRepresents, Streams, IsNextFrame}
 use Rattle.client_replies.specs.Rows.{HasNumbers}
@@ -45,7 +45,7 @@ use Rattle.client_replies.specs.declared.stage.CallEnd.TheVariants as end
 use Rattle.client_replies.proofs.SoundRunners.{sound_new, sound_feed, sound_tick, few_outstanding}
 use Rattle.client_replies.proofs.SoundRunners.{sendable_first, not_full, sound_issued, sound_printed}
 use Rattle.client_replies.proofs.SoundRunners.{sound_kept, sound_heard}
-use Rattle.client_calls.specs.Kept.{RunnerKept, waiting_packets, packets_kept, hearings_kept, with_first}
+use Rattle.client_calls.specs.Kept.{RunnerKept, waiting_packets, packets_kept, hearings_kept, turns_left, with_first}
 use Rattle.client_calls.specs.Represents.{StandsFor, IsGoingOn, StandsStill}
 use Rattle.client_calls.specs.Steps.{step_meant, UnlessOver, IsKeepable, end_in}
 use Rattle.client_calls.specs.Turns.{IsTurned, Turns, Gives, TakesIn, GoesOn, Rests}
@@ -319,12 +319,24 @@ goes_on_heard old new heard quiet at goes hears moves is short going = record {
   short = short;
 }
 
+-- what is heard leaves no more to be heard
+heard_left : (old new : RunnerKept) → Moves old.client new.client Next → new.pending ≡ old.pending → IsGoingOn old → turns_left new ≤ turns_left old
+heard_left old new moves pending going =
+    let r = going.0 in
+    let s = going.1 in
+    let before = hearings_are old.client r.client (stands_core old r s) in
+    let behind = hearings_are new.client (next_hearing r.client).client (behind_core old new r moves s) in
+    let less : hearings_kept new.client ≤ hearings_kept old.client = let stays = hearings_never_rise r.client in omega arith in
+    let same : length new.pending ≡ length old.pending = ap length pending in
+    omega (arith, less, same)
+
 -- all bytes are heard
 pub rests_waiting : (old new : RunnerKept) → old.pending ≡ [] → is_over old.stage ≡ false → HearsAs old.client spec.NotYet → Moves old.client new.client Next
-    → new.stage ≡ old.stage → new.pending ≡ old.pending → Rests old new out.Wait
+    → new.stage ≡ old.stage → new.pending ≡ old.pending → IsGoingOn old → Rests old new out.Wait
 unfolding after_heard
-rests_waiting old new quiet at hears moves stage pending = record {
+rests_waiting old new quiet at hears moves stage pending going = record {
   rests = tt;
+  left = heard_left old new moves pending going;
   turned = λ now r s.
       turned_as now new r (runner_after_hearing r.stage (next_hearing r.client)) runner.Wait out.Wait
       (turn_waits now r (sym s.pending_is ∙ quiet) (not_over old r at s) (sym (heard_is old spec.NotYet r hears s))) refl
@@ -332,18 +344,20 @@ rests_waiting old new quiet at hears moves stage pending = record {
 }
 
 pub rests_broken : (old new : RunnerKept) (peer : Peer) → old.pending ≡ [] → is_over old.stage ≡ false → HearsAs old.client (spec.Broken peer)
-    → new.stage ≡ old.stage → Rests old new (out.Over (end.BadPeer peer))
-rests_broken old new peer quiet at hears stage = record {
+    → Moves old.client new.client Next → new.stage ≡ old.stage → new.pending ≡ old.pending → IsGoingOn old → Rests old new (out.Over (end.BadPeer peer))
+rests_broken old new peer quiet at hears moves stage pending going = record {
   rests = tt;
+  left = heard_left old new moves pending going;
   turned = λ now r s.
       let b = turn_broken now r peer (sym s.pending_is ∙ quiet) (not_over old r at s) (sym (heard_is old (spec.Broken peer) r hears s)) in
       record { step_is = sym b.step; stands = tt; entries = ap entries_taken (stage ∙ s.stage_is) ∙ sym b.entries; keepable = tt };
 }
 
 pub rests_over : (old new : RunnerKept) (e : CallEnd) → old.pending ≡ [] → end_in old.stage ≡ Some (end_meant e)
-    → entries_taken new.stage ≡ entries_taken old.stage → Rests old new (out.Over e)
-rests_over old new e quiet at same = record {
+    → entries_taken new.stage ≡ entries_taken old.stage → turns_left new ≡ turns_left old → Rests old new (out.Over e)
+rests_over old new e quiet at same left = record {
   rests = tt;
+  left = omega (arith, left);
   turned = λ now r s.
       let over = turn_finished now r (end_meant e) (sym s.pending_is ∙ quiet) (ap end_in (sym s.stage_is) ∙ at) in
       record {
@@ -444,22 +458,22 @@ sent_gives now client new stage pending value code request is meant going moves 
 pub waiting_inside : (client new : Kept) (stage : stages.Stage) (pending : List stages.Output) (value : RunnerKept) (heard : spec.Heard)
     → kept client stage pending ≡ value
     → value.pending ≡ [] → is_over value.stage ≡ false → heard ≡ spec.NotYet
-    → HearsAs client heard → Moves client new Next → Rests value (kept new stage pending) out.Wait
-waiting_inside client new stage pending value heard is quiet at waits hears moves =
+    → HearsAs client heard → Moves client new Next → IsGoingOn value → Rests value (kept new stage pending) out.Wait
+waiting_inside client new stage pending value heard is quiet at waits hears moves going =
     let old = kept client stage pending in
     subst (λ k. Rests k (kept new stage pending) out.Wait) is
     (rests_waiting old (kept new stage pending) (ap (λ (k : RunnerKept). k.pending) is ∙ quiet) (ap (λ (k : RunnerKept). is_over k.stage) is ∙ at)
-    (subst (HearsAs client) waits hears) moves refl refl)
+    (subst (HearsAs client) waits hears) moves refl refl (subst IsGoingOn (sym is) going))
 
 pub broken_inside : (client next : Kept) (stage : stages.Stage) (pending : List stages.Output) (value : RunnerKept) (heard : spec.Heard) (peer : Peer)
     → kept client stage pending ≡ value → value.pending ≡ [] → is_over value.stage ≡ false → heard ≡ spec.Broken peer → HearsAs client heard
-    → Rests value (kept next stage pending) (out.Over (end.BadPeer peer))
-broken_inside client next stage pending value heard peer is quiet at breaks hears =
+    → Moves client next Next → IsGoingOn value → Rests value (kept next stage pending) (out.Over (end.BadPeer peer))
+broken_inside client next stage pending value heard peer is quiet at breaks hears moves going =
     let old = kept client stage pending in
     let new = kept next stage pending in
     subst (λ k. Rests k new (out.Over (end.BadPeer peer))) is
     (rests_broken old new peer (ap (λ (k : RunnerKept). k.pending) is ∙ quiet)
-    (ap (λ (k : RunnerKept). is_over k.stage) is ∙ at) (subst (HearsAs client) breaks hears) refl)
+    (ap (λ (k : RunnerKept). is_over k.stage) is ∙ at) (subst (HearsAs client) breaks hears) moves refl refl (subst IsGoingOn (sym is) going))
 
 pub going_inside : (client next : Kept) (stage : stages.Stage) (pending : List stages.Output) (value new : RunnerKept) (heard : spec.Heard)
     → kept client stage pending ≡ value → value.pending ≡ [] → is_over value.stage ≡ false

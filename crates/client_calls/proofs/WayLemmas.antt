@@ -71,6 +71,7 @@ given_steps now old given end output step is turned g =
     record {
       turned = λ r s. turned r (subst (λ k. StandsFor k r) is s);
       falls = if_gives step (turns_left end < turns_left old) (omega arith);
+      left = omega arith;
     }
 
 rest_falls : (step : CallStep) (P : Type 0) → IsRest step → IfGives step P
@@ -82,7 +83,7 @@ rest_falls (out.Over end) P e = tt
 
 -- it waits, or the call is over
 pub rest_steps : (now : ℕ) (old new : RunnerKept) (step : CallStep) → Rests old new step → Steps now old new step
-rest_steps now old new step r = record { turned = r.turned now; falls = rest_falls step (turns_left new < turns_left old) r.rests }
+rest_steps now old new step r = record { turned = r.turned now; falls = rest_falls step (turns_left new < turns_left old) r.rests; left = r.left }
 
 falls_less : (step : CallStep) (a b c : ℕ) → b ≤ c → IfGives step (a < b) → IfGives step (a < c)
 falls_less (out.Send bytes) a b c more less = omega arith
@@ -94,6 +95,9 @@ falls_less (out.Over end) a b c more less = tt
 pub way_falls : (now : ℕ) (old new end : RunnerKept) (step : CallStep) → OnItsWay now old new → Steps now new end step
     → IfGives step (turns_left end < turns_left old)
 way_falls now old new end step way s = falls_less step (turns_left end) (turns_left new) (turns_left old) way.left s.falls
+
+pub way_left : (now : ℕ) (old new end : RunnerKept) (step : CallStep) → OnItsWay now old new → Steps now new end step → turns_left end ≤ turns_left old
+way_left now old new end step way s = omega (arith, way.left, s.left)
 
 pub step_told : (now : ℕ) (old new : RunnerKept) (step : CallStep) → Turns now old new step
     → (r : Runner) → StandsFor old r → step_meant step ≡ (turn now r).step

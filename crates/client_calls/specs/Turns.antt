@@ -45,6 +45,7 @@ IsRest step = IfGives step ⊥
 
 pub record Rests (old new : RunnerKept) (step : CallStep) : Type 0 where
   pub rests : IsRest step
+  pub left : turns_left new ≤ turns_left old
   pub turned : (now : ℕ) → Turns now old new step
 
 abbrev pub Hears : RunnerKept → RunnerKept → Option CallStep → Type 0
@@ -55,6 +56,7 @@ Hears old new (Some step) = Rests old new step
 pub record Steps (now : ℕ) (old new : RunnerKept) (step : CallStep) : Type 0 where
   pub turned : Turns now old new step
   pub falls : IfGives step (turns_left new < turns_left old)
+  pub left : turns_left new ≤ turns_left old
 
 abbrev pub Does : ℕ → RunnerKept → RunnerKept → Option CallStep → Type 0
 Does now old new None = GoesOn old new

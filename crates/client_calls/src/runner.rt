@@ -1,6 +1,6 @@
 //! A call that runs.
 
-ghost use Rattle.std.specs.Prelude.{◌≡◌, ◌<◌, ℕ, List, [], false, Some, IfOk, OnOk, OnErr, MatchOption, option_map, slice_get};
+ghost use Rattle.std.specs.Prelude.{◌≡◌, ◌<◌, ◌≤◌, ℕ, List, [], false, Some, IfOk, OnOk, OnErr, MatchOption, option_map, slice_get};
 ghost use Rattle.ams_header.specs.Header.{address_of};
 ghost use Rattle.spec_client.specs.Runner.{new_runner, runner_after_feed, runner_after_tick, turn, is_over};
 ghost use Rattle.spec_client.specs.Runner.{Runner as Spec};
@@ -134,6 +134,7 @@ impl Runner {
         ensures step { IfOk result (λ step. (r : Spec) → StandsFor self.old r → step_meant step ≡ (turn now r).step) }
         ensures stands { IfOk result (λ step. UnlessOver step ((r : Spec) → StandsFor self.old r → StandsFor self.new (turn now r).runner)) }
         ensures falls { IfOk result (λ step. IfGives step (turns_left self.new < turns_left self.old)) }
+        ensures never_rises { OnOk result (turns_left self.new ≤ turns_left self.old) }
         ensures entries { OnOk result ((r : Spec) → StandsFor self.old r
             → entries_taken self.new.stage ≡ entries_taken (turn now r).runner.stage) }
         ensures alone { IfOk result (SendsAlone now self.old) }
@@ -149,6 +150,7 @@ impl Runner {
         requires { IsGoingOn self.old }
         ensures turned { IfOk result (Turns now self.old self.new) }
         ensures falls { IfOk result (λ step. IfGives step (turns_left self.new < turns_left self.old)) }
+        ensures left { OnOk result (turns_left self.new ≤ turns_left self.old) }
     {
         'hearings: loop {
             match self.do_one(alloc, now)? {
@@ -250,7 +252,8 @@ impl Runner {
     // The end of a call that is over.
     fn take_end(&mut self) -> Option<CallEnd>
         ensures { MatchOption result ((self.new ≡ self.old) × (is_over self.old.stage ≡ false))
-            (λ end. (end_in self.old.stage ≡ Some (end_meant end)) × (entries_taken self.new.stage ≡ entries_taken self.old.stage)) }
+            (λ end. (end_in self.old.stage ≡ Some (end_meant end)) × ((entries_taken self.new.stage ≡ entries_taken self.old.stage)
+            × (turns_left self.new ≡ turns_left self.old))) }
     {
         match mem::replace(&mut self.stage, Stage::AwaitsOk) {
             Stage::Finished(end) => Some(end),

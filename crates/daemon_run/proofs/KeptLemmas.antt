@@ -106,6 +106,7 @@ module _ {D : Type 0} (contents : D → Option (List ℕ)) (may_leave : D → Li
         wire = record {
           grown = r.wire.grown;
           logged = r.wire.logged;
+          streamed = r.wire.streamed;
           count = r.wire.count;
           most = r.wire.most;
           promises = server_promises r.kept.ended profile d waves r.moves r.wire.turns r.wire.offers;

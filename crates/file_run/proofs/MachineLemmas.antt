@@ -12,7 +12,7 @@ use Rattle.ads_served.specs.Standing.{Standing, Noting, standing_after_all}
 use Rattle.replay_script.proofs.StandingPlayed.{state_played}
 use Rattle.serve_loop.specs.Leads.{events_in}
 use Rattle.serve_loop.specs.TurnTaken.{AfterServe}
-use Rattle.serve_loop.proofs.EndLemmas.{log-after}
+use Rattle.serve_loop.proofs.EndLemmas.{log-after, streams-after}
 use Rattle.serve_loop.proofs.TurnLemmas.{stops-after}
 use Rattle.spec_machine.specs.MachineState.{MachineState}
 use Rattle.spec_machine.specs.Moves.{EventStep, state_after}
@@ -88,6 +88,7 @@ moves_made step noted serves serves_new x end.Done limit old new after stands =
     record {
       grown = grown;
       logged = added old.history new.history ms (ap (λ (h : WireHistory). h.log) grown);
+      streamed = ap (λ (h : WireHistory). h.streams) grown ∙ streams-after ms old.history;
       count = fewer;
       most = less_is_most (events_in ms) limit fewer;
       turns = λ other. after.turns.are x over;
@@ -99,6 +100,7 @@ moves_made step noted serves serves_new x end.Budget limit old new after stands 
     record {
       grown = after.logged;
       logged = added old.history new.history ms (ap (λ (h : WireHistory). h.log) after.logged);
+      streamed = ap (λ (h : WireHistory). h.streams) after.logged ∙ streams-after ms old.history;
       count = after.events;
       most = most_events ms limit limit after.events (omega arith);
       turns = λ other. after.are x over;
@@ -112,6 +114,7 @@ moves_made step noted serves serves_new x end.LinkFault limit old new after stan
     record {
       grown = behind;
       logged = added old.history new.history ms (ap (λ (h : WireHistory). h.log) behind.same);
+      streamed = ap (λ (h : WireHistory). h.streams) behind.same ∙ streams-after ms old.history;
       count = fewer;
       most = less_is_most (events_in ms) limit fewer;
       turns = λ other. after.turns.are x over;
@@ -123,6 +126,7 @@ moves_made step noted serves serves_new x end.Memory limit old new after stands 
     record {
       grown = after.breaks.logged;
       logged = added old.history new.history ms (ap (λ (h : WireHistory). h.log) after.breaks.logged);
+      streamed = ap (λ (h : WireHistory). h.streams) after.breaks.logged ∙ streams-after ms old.history;
       count = tt;
       most = most_events ms after.count limit after.breaks.events after.within;
       turns = λ other. absurd (other refl);

@@ -18,11 +18,13 @@ use Rattle.spec_machine.proofs.ServerDelivers.{server_only_adds, server_takes_ou
 use Rattle.spec_laws.proofs.Exact.{changes_only_by_writes}
 use Rattle.spec_server.specs.Server.{read_description, server_device, server, server_start_in, server_after_in, server_play}
 use Rattle.spec_server.proofs.ServerProofs.{server_plays_in_turns, each_is_isolated, each_takes_as_alone, server_refuses_dead_handles}
+use Rattle.spec_server.proofs.ServerProofs.{reads_descriptions, server_leaves_all_at_refusals}
 use Rattle.spec_promises.proofs.Promised.{each_holds_writes}
 use Rattle.spec_promises.proofs.Lives.{each_notifies}
 use Rattle.spec_promises.proofs.KeptReads.{each_keeps_handles}
+use Rattle.spec_promises.proofs.Promised.{each_handle_is_history}
 use Rattle.file_run.specs.Promises.{GivesFramesInOrderIn, ChangesByWritesIn, IsUntouchedHereIn, IsServedAsAloneIn, BeginsAsAloneIn}
-use Rattle.file_run.specs.Promises.{KeepsPromisesIn, KeepsPromisesSoFarIn, PlayKeepsPromises}
+use Rattle.file_run.specs.Promises.{HoldsThroughoutIn, KeepsPromisesIn, KeepsPromisesSoFarIn, PlayKeepsPromises}
 
 frames_in_order : (profile : Profile) (d : Description) (waves : List Wave) (log : List Move) → KeepsTurns server (server_start_in profile d waves) log
     → GivesFramesInOrderIn profile d waves log
@@ -45,6 +47,18 @@ changes_by_writes profile d waves before m name not_reload not_written =
     ap (λ (t : MachineState World Client). byte_at t.world.memory name) next
     ∙ changes_only_by_writes read_description s m name not_reload not_written
 
+holds_throughout : (profile : Profile) (d : Description) (waves : List Wave) (log : List Move) → HoldsThroughoutIn profile d waves log
+holds_throughout profile d waves log = record {
+  writes = λ before after m is. changes_by_writes profile d waves before m;
+  refused = server_leaves_all_at_refusals;
+  dead_handles = server_refuses_dead_handles;
+  handles = λ before after is. each_handle_is_history profile d waves before;
+  held = λ accepted before after m is. each_holds_writes profile d waves accepted before m;
+  notified = λ before after is. each_notifies profile d waves before after;
+  kept_handles = λ accepted before after bytes is. each_keeps_handles profile d waves accepted before bytes;
+  accepted = reads_descriptions;
+}
+
 are_offers : (profile : Profile) (d : Description) (waves : List Wave) (log : List Move) → KeepsTurns server (server_start_in profile d waves) log
     → AreOffers server (server_start_in profile d waves) log
 are_offers profile d waves log turns =
@@ -65,12 +79,8 @@ pub turns_keep_promises : (profile : Profile) (d : Description) (waves : List Wa
     → KeepsTurns server (server_start_in profile d waves) log → KeepsPromisesIn profile d waves log
 turns_keep_promises profile d waves log turns = record {
   frames = frames_in_order profile d waves log turns;
-  writes = λ before after m is. changes_by_writes profile d waves before m;
   isolated = served_as_alone profile d waves log turns;
-  dead_handles = server_refuses_dead_handles;
-  held = λ accepted before after m is. each_holds_writes profile d waves accepted before m;
-  notified = λ before after is. each_notifies profile d waves before after;
-  kept_handles = λ accepted before after bytes is. each_keeps_handles profile d waves accepted before bytes;
+  throughout = holds_throughout profile d waves log;
 }
 
 begins_as_alone : (profile : Profile) (d : Description) (waves : List Wave) (log : List Move) → AreOffers server (server_start_in profile d waves) log
@@ -83,12 +93,8 @@ pub offers_keep_promises : (profile : Profile) (d : Description) (waves : List W
     → AreOffers server (server_start_in profile d waves) log → KeepsPromisesSoFarIn profile d waves log
 offers_keep_promises profile d waves log offers = record {
   begins = λ c. takes_output World Client server (world_in profile d waves) c log (server_only_adds World Client server_device) offers;
-  writes = λ before after m is. changes_by_writes profile d waves before m;
   isolated = begins_as_alone profile d waves log offers;
-  dead_handles = server_refuses_dead_handles;
-  held = λ accepted before after m is. each_holds_writes profile d waves accepted before m;
-  notified = λ before after is. each_notifies profile d waves before after;
-  kept_handles = λ accepted before after bytes is. each_keeps_handles profile d waves accepted before bytes;
+  throughout = holds_throughout profile d waves log;
 }
 
 pub play_keeps_promises : (d : Description) (waves : List Wave) (lines : List ScriptLine) → PlayKeepsPromises d waves lines

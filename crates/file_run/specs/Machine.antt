@@ -13,7 +13,7 @@ use Rattle.spec_machine.specs.MachineState.{MachineState}
 use Rattle.spec_machine.specs.Moves.{EventStep, state_after}
 use Rattle.run_tasks.specs.declared.status.Status.{Status}
 use Rattle.run_tasks.specs.Service.{ending_with}
-use Rattle.file_run.specs.Serving.{EndsBehind, AddsToLog, PrintsAt}
+use Rattle.file_run.specs.Serving.{EndsBehind, AddsToLog, AddsToStreams, PrintsAt}
 
 -- what is served stands for x, whatever numbers a wire has opened
 abbrev pub StandsAnew : {W C : Type 0} → (Standing W C → Type 0) → Standing W C → Type 0
@@ -24,6 +24,7 @@ pub record Moves {W C : Type 0} (step : EventStep W C) (x : Standing W C) (limit
     (old new : WireHistory) : Type 0 where
   pub grown : EndsBehind ended (history_after old moves) new
   pub logged : AddsToLog old.log new.log moves
+  pub streamed : AddsToStreams old.streams new.streams moves
   pub count : IsCountOf ended (events_in moves) limit
   pub most : events_in moves ≤ limit
   pub turns : ended ≢ end.Memory → AreTurnsOf step x.running moves

@@ -19,10 +19,10 @@ use Rattle.spec_machine.specs.Delivery.{IsPrefix, is_short, is_cut_off}
 use Rattle.spec_laws.specs.Isolation.{IsAmong, IsUntouchedIn}
 use Rattle.spec_laws.specs.ExactWrites.{writes_of_move, is_accepted_reload}
 use Rattle.spec_server.specs.Server.{read_description, server, server_start_in, server_after_in, server_output_in, server_play}
-use Rattle.spec_server.specs.ServerLaws.{ServerRefusesDeadHandles}
+use Rattle.spec_server.specs.ServerLaws.{ReadsDescriptions, ServerLeavesAllAtRefusals, ServerRefusesDeadHandles}
 use Rattle.spec_promises.specs.Written.{HoldsWritesIn}
 use Rattle.spec_promises.specs.Notified.{NotifiesAfterIn}
-use Rattle.spec_promises.specs.KeptHandles.{KeepsHandlesIn}
+use Rattle.spec_promises.specs.KeptHandles.{KeepsHandlesIn, HandlesAreHistoryIn}
 
 -- none of the bytes that a connection reads, were it alone, is written by another
 abbrev pub IsUntouchedHereIn : Profile → Description → List Wave → ℕ → List Move → Type 0
@@ -55,13 +55,15 @@ pub record IsServedAsAloneIn (profile : Profile) (d : Description) (waves : List
   pub all : is_short c log ≡ false → is_cut_off c log ≡ false
       → taken_of c log ≡ server_output_in profile d waves c (projection_of c log)
 
-pub record KeepsPromisesIn (profile : Profile) (d : Description) (waves : List Wave) (log : List Move) : Type 0 where
-  pub frames : GivesFramesInOrderIn profile d waves log
-  -- at each move of the log
+-- what holds at each move of a log, whether it was cut off or not
+pub record HoldsThroughoutIn (profile : Profile) (d : Description) (waves : List Wave) (log : List Move) : Type 0 where
   pub writes : (before after : List Move) (m : Move) → log ≡ before ++ m ∷ after → ChangesByWritesIn profile d waves before m
-  pub isolated : (c : ℕ) → IsUntouchedHereIn profile d waves c log → IsServedAsAloneIn profile d waves c log
+  -- a packet that is turned away or told a result other than 0 leaves the world and its client; a refused reload leaves all but its count
+  pub refused : ServerLeavesAllAtRefusals
   -- an access by a handle that is not live is refused and touches nothing
   pub dead_handles : ServerRefusesDeadHandles
+  -- each handle of each connection has the status that its own accepted requests and the accepted reloads give it
+  pub handles : (before after : List Move) → log ≡ before ++ after → HandlesAreHistoryIn profile d waves before
   -- an accepted write is held: the bytes that it addresses are those that it carries, in their order, and the next read answers them
   pub held : IsAccepted d (length waves) → (before after : List Move) (m : Move) → log ≡ before ++ m ∷ after
       → HoldsWritesIn profile d waves before m
@@ -70,6 +72,13 @@ pub record KeepsPromisesIn (profile : Profile) (d : Description) (waves : List W
   -- a handle that is live before and after a reload reads the same
   pub kept_handles : IsAccepted d (length waves) → (before after : List Move) (bytes : List ℕ)
       → log ≡ before ++ move.Event (event.Reload bytes) ∷ after → KeepsHandlesIn profile d waves before bytes
+  -- and each description that is read is an accepted one
+  pub accepted : ReadsDescriptions
+
+pub record KeepsPromisesIn (profile : Profile) (d : Description) (waves : List Wave) (log : List Move) : Type 0 where
+  pub frames : GivesFramesInOrderIn profile d waves log
+  pub isolated : (c : ℕ) → IsUntouchedHereIn profile d waves c log → IsServedAsAloneIn profile d waves c log
+  pub throughout : HoldsThroughoutIn profile d waves log
 
 -- the promises of the strict server
 abbrev pub KeepsPromises : Description → List Wave → List Move → Type 0
@@ -83,17 +92,8 @@ pub record BeginsAsAloneIn (profile : Profile) (d : Description) (waves : List W
 -- what stands of the promises where want of memory may have cut off the log in mid-turn
 pub record KeepsPromisesSoFarIn (profile : Profile) (d : Description) (waves : List Wave) (log : List Move) : Type 0 where
   pub begins : (c : ℕ) → IsPrefix (taken_of c log) (server_output_in profile d waves c log)
-  pub writes : (before after : List Move) (m : Move) → log ≡ before ++ m ∷ after → ChangesByWritesIn profile d waves before m
   pub isolated : (c : ℕ) → IsUntouchedHereIn profile d waves c log → BeginsAsAloneIn profile d waves c log
-  pub dead_handles : ServerRefusesDeadHandles
-  -- an accepted write is held: the bytes that it addresses are those that it carries, in their order, and the next read answers them
-  pub held : IsAccepted d (length waves) → (before after : List Move) (m : Move) → log ≡ before ++ m ∷ after
-      → HoldsWritesIn profile d waves before m
-  -- each notification gives samples as it was asked to, over its whole life
-  pub notified : (before after : List Move) → log ≡ before ++ after → NotifiesAfterIn profile d waves before after
-  -- a handle that is live before and after a reload reads the same
-  pub kept_handles : IsAccepted d (length waves) → (before after : List Move) (bytes : List ℕ)
-      → log ≡ before ++ move.Event (event.Reload bytes) ∷ after → KeepsHandlesIn profile d waves before bytes
+  pub throughout : HoldsThroughoutIn profile d waves log
 
 -- what a log promises that ended so
 abbrev pub KeepsPromisesAtIn : End → Profile → Description → List Wave → List Move → Type 0

@@ -1,5 +1,5 @@
 -- What a service over a wire leaves in the wire and in the sink.
-use Rattle.std.specs.Prelude.{◌≡◌, ◌⊎◌, ◌≤◌, List, ◌++◌, Option, Some, None}
+use Rattle.std.specs.Prelude.{◌≡◌, ◌⊎◌, ◌≤◌, List, ◌++◌, Option, Some, None, option_map}
 use Rattle.ads_outside.specs.declared.end.End.{End}
 use Rattle.ads_outside.specs.declared.end.End.TheVariants as end
 use Rattle.ads_outside.specs.declared.listening.Listening.{Listening}
@@ -8,8 +8,10 @@ use Rattle.ads_outside.specs.declared.put.Put.TheVariants as put
 use Rattle.ads_outside.specs.Puts.{Puts}
 use Rattle.ads_outside.specs.Rose.{Rose}
 use Rattle.ads_outside.specs.SinkState.{SinkState, NeverFalls}
+use Rattle.ads_outside.specs.Streams.{Streams}
 use Rattle.ads_outside.specs.WireState.{WireHistory, history_after, end_answered, listened}
 use Rattle.serve_loop.specs.Leads.{events_in}
+use Rattle.serve_loop.specs.ToldStreams.{grown_by}
 use Rattle.serve_loop.specs.TurnTaken.{IsCountOf}
 use Rattle.spec_relay.specs.RelayPromises.{RelayKeepsPromisesAt}
 use Rattle.run_tasks.specs.declared.status.Status.{Status}
@@ -36,6 +38,10 @@ abbrev pub AddsToLog : Option (List Move) → Option (List Move) → List Move �
 AddsToLog None new moves = Unit {0}
 AddsToLog (Some log) new moves = new ≡ Some (log ++ moves)
 
+-- where the streams are told, each connection took what it takes in these moves: no byte more, none less, none of another's
+abbrev pub AddsToStreams : Option Streams → Option Streams → List Move → Type 0
+AddsToStreams old new moves = new ≡ option_map (grown_by moves) old
+
 -- what moves that ended so promise of a machine
 abbrev pub MovesKeepPromises : End → ServedMachine → List Move → Type 0
 MovesKeepPromises ended (OfServer profile d waves) moves = KeepsPromisesAtIn ended profile d waves moves
@@ -45,6 +51,7 @@ MovesKeepPromises ended (OfRelay d) moves = RelayKeepsPromisesAt ended d moves
 pub record MakesMoves (service : Service) (ended : End) (moves : List Move) (old new : WireHistory) : Type 0 where
   pub grown : EndsBehind ended (history_after old moves) new
   pub logged : AddsToLog old.log new.log moves
+  pub streamed : AddsToStreams old.streams new.streams moves
   -- how many of them are events
   pub count : IsCountOf ended (events_in moves) service.limit
   pub most : events_in moves ≤ service.limit

@@ -1,5 +1,5 @@
 -- What the answers of the wire inside say of the state that is seen.
-use Rattle.std.proofs.Common.{◌≡◌, ℕ, ◌+◌, ◌≤◌, List, [], ◌∷◌, length, refl, ap, ◌∙◌, arith}
+use Rattle.std.proofs.Common.{◌≡◌, ℕ, ◌+◌, ◌≤◌, List, [], ◌∷◌, length, take, refl, ap, ◌∙◌, arith}
 use Rattle.std.specs.Prelude.{Bool, true, false, Option, Some, None, min}
 use Rattle.ads_outside.specs.declared.event.Event.{Event}
 use Rattle.ads_outside.specs.declared.listening.Listening.{Listening}
@@ -16,7 +16,7 @@ use Rattle.ads_outside.specs.declared.started.Started.TheVariants as started
 use Rattle.ads_outside.specs.Rose.{Rose}
 use Rattle.ads_outside.specs.Wholes.{wholes}
 use Rattle.ads_outside.specs.WireAnswers.{Wants, Starts, Gives, Takes, TakesRun, Shuts}
-use Rattle.ads_outside.specs.WireState.{WireState, WireHistory, logged, event_given, history_after}
+use Rattle.ads_outside.specs.WireState.{WireState, WireHistory, logged, bytes_taken, event_given, history_after}
 use Rattle.local_router.specs.Seen.{wants_seen, history_seen, state_seen}
 
 -- a count of wants is seen to rise where one of its two parts rises
@@ -43,6 +43,11 @@ module _ {Net : Type 0} where
   logged_seen None n m h = refl
   logged_seen (Some net) n m h = refl
 
+  taken_seen : (net : Option Net) (n c offered : ℕ) (bytes : List ℕ) (h : WireHistory)
+      → history_seen net n (bytes_taken c offered bytes h) ≡ bytes_taken c offered bytes (history_seen net n h)
+  taken_seen None n c offered bytes h = refl
+  taken_seen (Some net) n c offered bytes h = refl
+
   wants_seen_so : (net : Option Net) (n w : ℕ) (old new : WireState) → Wants old new → Wants (state_seen net n w old) (state_seen net n w new)
   wants_seen_so net n w old new wants = record {
     same = ap (history_seen net n) wants.same;
@@ -51,7 +56,8 @@ module _ {Net : Type 0} where
 
   pub takes_seen : (answer : Offer) (net : Option Net) (n w : ℕ) (old new : WireState) (c : ℕ) (bytes : List ℕ) → Takes answer old new c bytes
       → Takes answer (state_seen net n w old) (state_seen net n w new) c bytes
-  takes_seen (offer.Took k) net n w old new c bytes took = (took.0, ap (history_seen net n) took.1 ∙ logged_seen net n _ old.history)
+  takes_seen (offer.Took k) net n w old new c bytes took =
+      (took.0, ap (history_seen net n) took.1 ∙ taken_seen net n c (length bytes) (take k bytes) old.history)
   takes_seen offer.Failed net n w old new c bytes lost = (ap (history_seen net n) lost.0 ∙ logged_seen net n _ old.history, lost.1)
   takes_seen offer.Memory net n w old new c bytes wants = wants_seen_so net n w old new wants
 
@@ -72,8 +78,8 @@ module _ {Net : Type 0} where
   unfolding history_after
   run_seen net n c [] h = refl
   run_seen net n c (f ∷ fs) h =
-      run_seen net n c fs (logged (move.Took c (length f) f) h)
-      ∙ ap (λ g. history_after g (wholes c fs)) (logged_seen net n (move.Took c (length f) f) h)
+      run_seen net n c fs (bytes_taken c (length f) f h)
+      ∙ ap (λ g. history_after g (wholes c fs)) (taken_seen net n c (length f) f h)
 
   pub takes_run_seen : (taken : Bool) (net : Option Net) (n w : ℕ) (old new : WireState) (c : ℕ) (run : List ℕ) → TakesRun taken old new c run
       → TakesRun taken (state_seen net n w old) (state_seen net n w new) c run
@@ -84,7 +90,7 @@ module _ {Net : Type 0} where
   event_none : (net : Option Net) (n : ℕ) (e : Event) (h g : WireHistory) → net ≡ None → g ≡ event_given e h
       → history_seen net n g ≡ event_given e (history_seen net n h)
   event_none None n e h g none is =
-      ap (λ (x : WireHistory). record h { log = x.log; starts = x.starts; opened = x.opened; events = x.events; ends = x.ends; stops = x.stops }) is
+      ap (λ (x : WireHistory). record h { log = x.log; streams = x.streams; starts = x.starts; opened = x.opened; events = x.events; ends = x.ends; stops = x.stops }) is
   event_none (Some net) n e h g none is = absurd (let wrong : Some net ≡ None = none in cc)
 
   pub gives_none : (net : Option Net) (answer : Next) (n w : ℕ) (old new : WireState) → net ≡ None → Gives answer old new

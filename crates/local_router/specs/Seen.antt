@@ -1,13 +1,12 @@
--- The state of a wire with a router. It does not tell its log: the wire inside took answers that the server never offered. Without a
--- router it is the state of the wire inside.
-use Rattle.std.specs.Prelude.{◌≡◌, ℕ, ◌+◌, List, Option, Some, None}
-use Rattle.ads_outside.specs.declared.moves.Move.{Move}
+-- The state of a wire with a router. It tells neither its log nor its streams: the wire inside took answers that the server never
+-- offered. Without a router it is the state of the wire inside.
+use Rattle.std.specs.Prelude.{◌≡◌, ℕ, ◌+◌, Option, Some, None}
 use Rattle.ads_outside.specs.WireState.{WireHistory, WireState}
 
 module _ {Net : Type 0} where
-  abbrev pub log_seen : Option Net → Option (List Move) → Option (List Move)
-  log_seen None log = log
-  log_seen (Some net) log = None
+  abbrev pub told_seen : {T : Type 0} → Option Net → Option T → Option T
+  told_seen None told = told
+  told_seen (Some net) told = None
 
   -- the events that were given, which are fewer than those inside where memory was wanting
   abbrev pub events_seen : Option Net → ℕ → ℕ → ℕ
@@ -19,7 +18,11 @@ module _ {Net : Type 0} where
   wants_seen (Some net) own inside = own + inside
 
   abbrev pub history_seen : Option Net → ℕ → WireHistory → WireHistory
-  history_seen net events h = record h { log = log_seen net h.log; events = events_seen net events h.events }
+  history_seen net events h = record h {
+    log = told_seen net h.log;
+    streams = told_seen net h.streams;
+    events = events_seen net events h.events;
+  }
 
   -- by the router, the events given and the wants of its own
   abbrev pub state_seen : Option Net → ℕ → ℕ → WireState → WireState
@@ -29,9 +32,9 @@ module _ {Net : Type 0} where
     wants = wants_seen net wants s.wants;
   }
 
--- what is the same whatever is logged and given
+-- what is the same whatever is logged, taken and given
 abbrev pub beside : WireHistory → WireHistory
-beside h = record h { log = None; events = 0 }
+beside h = record h { log = None; streams = None; events = 0 }
 
 abbrev pub SameBeside : WireHistory → WireHistory → Type 0
 SameBeside old new = beside new ≡ beside old

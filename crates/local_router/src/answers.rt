@@ -14,7 +14,7 @@ const MOST: usize = 4_294_967_295;
 
 /// Whether the connection takes the answer whole at once; where not, it is lost, or is shut here. A longer answer than an
 /// offer may have is want of memory.
-#[tactic(auto, using(crate::proofs::AnswerLemmas::beside_logged, crate::proofs::AnswerLemmas::beside_on))]
+#[tactic(auto, using(crate::proofs::AnswerLemmas::beside_logged, crate::proofs::AnswerLemmas::beside_taken, crate::proofs::AnswerLemmas::beside_on))]
 pub(crate) fn answer<W: Wire>(wire: &mut W, conn: u32, reply: &[u8]) -> Result<bool, NoMemory>
     ensures ok { IfOk result (λ whole. Answers whole conn reply.now (W.state wire.old).history (W.state wire.new).history) }
     ensures beside { SameBeside (W.state wire.old).history (W.state wire.new).history }

@@ -29,11 +29,12 @@ pub record PlayedScript : Type 0 where
   pub faults : ℕ
   pub wants : ℕ
 
--- it tells all; no start and no next event ever fails
+-- it tells its log, which says what each connection took; no start and no next event ever fails
 abbrev pub state_of_played : PlayedScript → WireState
 state_of_played w = record {
   history = record {
     log = Some w.log;
+    streams = None;
     starts = Some w.starts;
     opened = opened_in w.log;
     events = w.events;

@@ -1,19 +1,22 @@
 -- What the end of a run says of the wire's counts and of its log.
-use Rattle.std.proofs.Common.{◌≡◌, ◌≢◌, ℕ, ◌+◌, List, [], ◌∷◌, ◌++◌, refl, sym, ap, ◌∙◌, subst, append_assoc, append-nil, suc, arith}
-use Rattle.std.specs.Prelude.{Option, Some, None}
+use Rattle.std.proofs.Common.{◌≡◌, ◌≢◌, ℕ, ◌+◌, List, [], ◌∷◌, ◌++◌, true, false, refl, sym, ap, ◌∙◌, subst, append_assoc, append-nil, suc, arith}
+use Rattle.std.specs.Prelude.{Bool, Option, Some, None, ◌==◌, if◌then◌else◌}
 use Rattle.std.specs.Option.{option_map}
 use Rattle.ads_outside.specs.declared.end.End.{End}
 use Rattle.ads_outside.specs.declared.end.End.TheVariants as end
 use Rattle.ads_outside.specs.declared.moves.Move.{Move}
 use Rattle.ads_outside.specs.declared.moves.Move.TheVariants as move
 use Rattle.ads_outside.specs.Rose.{Rose, raised}
+use Rattle.ads_outside.specs.Streams.{Streams, grown}
 use Rattle.ads_outside.specs.WireState.{WireState, WireHistory, history_after_move, history_after, event_given}
 use Rattle.spec_machine.specs.Moves.{EventStep}
+use Rattle.spec_machine.specs.Offers.{taken_of}
 use Rattle.spec_machine.specs.Running.{Running}
 use Rattle.spec_machine.specs.Turns.{KeepsTurns, AreTurns}
 use Rattle.ads_served.specs.Standing.{Standing, Noting}
 use Rattle.serve_loop.specs.Leads.{events_in}
 use Rattle.serve_loop.specs.ToldLog.{WhereTold, LogsOffers, LogsTurns}
+use Rattle.serve_loop.specs.ToldStreams.{grown_by, StreamsOfTurns}
 use Rattle.serve_loop.specs.TurnTaken.{StandsOver, AreTurnsOf, TakesTurns, AfterServe, raised_by, GaveEvents}
 use Rattle.serve_loop.proofs.TurnLemmas.{stops-after, ends-after}
 
@@ -36,6 +39,32 @@ log-after (move.Shut c ∷ ms) h log told =
     log-after ms (history_after_move h (move.Shut c)) (log ++ move.Shut c ∷ []) (more (move.Shut c) h.log log told)
     ∙ ap Some (append_assoc log (move.Shut c ∷ []) ms)
 
+taken_none : (o : Option Streams) → o ≡ option_map (grown_by []) o
+unfolding taken_of
+taken_none None = refl
+taken_none (Some s) = ap Some (sym (λ i c. append-nil (s c) i))
+
+more_where : (b : Bool) (xs ys zs : List ℕ)
+    → (if b then xs ++ ys else xs) ++ zs ≡ xs ++ (if b then ys ++ zs else zs)
+more_where true xs ys zs = append_assoc xs ys zs
+more_where false xs ys zs = refl
+
+taken_more : (n offered : ℕ) (bytes : List ℕ) (ms : List Move) (o : Option Streams)
+    → option_map (grown_by ms) (option_map (grown n bytes) o) ≡ option_map (grown_by (move.Took n offered bytes ∷ ms)) o
+unfolding taken_of
+taken_more n offered bytes ms None = refl
+taken_more n offered bytes ms (Some s) = ap Some (λ i c. more_where (n == c) (s c) bytes (taken_of c ms) i)
+
+-- the streams after further moves, where they are told
+pub streams-after : (ms : List Move) (h : WireHistory) → (history_after h ms).streams ≡ option_map (grown_by ms) h.streams
+unfolding history_after taken_of
+streams-after [] h = taken_none h.streams
+streams-after (move.Event e ∷ ms) h = streams-after ms (event_given e h)
+streams-after (move.Took c offered bytes ∷ ms) h =
+    streams-after ms (history_after_move h (move.Took c offered bytes)) ∙ taken_more c offered bytes ms h.streams
+streams-after (move.Lost c ∷ ms) h = streams-after ms (history_after_move h (move.Lost c))
+streams-after (move.Shut c ∷ ms) h = streams-after ms (history_after_move h (move.Shut c))
+
 raised_again : (n k : ℕ) → raised_by n (raised k) ≡ raised_by (n + 1) k
 unfolding raised_by
 raised_again n k = let e : suc n ≡ n + 1 = omega arith in ap (λ m. raised_by m k) e
@@ -55,20 +84,34 @@ record TurnsOf {W C : Type 0} (step : EventStep W C) (noted : Noting W C) (old_s
   count : ℕ
   turns : TakesTurns step noted old_serves new_serves old last count
   log : new.log ≡ last.log
+  streams : new.streams ≡ last.streams
 
 turns_of : {W C : Type 0} (step : EventStep W C) (noted : Noting W C) (old_serves new_serves : Standing W C → Type 0)
     (old new : WireState) (limit : ℕ) (r : End) → r ≢ end.Memory → AfterServe r step noted old_serves new_serves old new limit
     → TurnsOf step noted old_serves new_serves old.history new.history
 turns_of step noted old_serves new_serves old new limit end.Done other after =
-    record { last = after.last; count = after.count; turns = after.turns; log = ap (λ (h : WireHistory). h.log) after.then_ }
-turns_of step noted old_serves new_serves old new limit end.Budget other after = record { last = new.history; count = limit; turns = after; log = refl }
+    record {
+      last = after.last;
+      count = after.count;
+      turns = after.turns;
+      log = ap (λ (h : WireHistory). h.log) after.then_;
+      streams = ap (λ (h : WireHistory). h.streams) after.then_;
+    }
+turns_of step noted old_serves new_serves old new limit end.Budget other after =
+    record { last = new.history; count = limit; turns = after; log = refl; streams = refl }
 turns_of step noted old_serves new_serves old new limit end.LinkFault other after =
-    record { last = after.last; count = after.count; turns = after.turns; log = ap (λ (h : WireHistory). h.log) after.then_.same }
+    record {
+      last = after.last;
+      count = after.count;
+      turns = after.turns;
+      log = ap (λ (h : WireHistory). h.log) after.then_.same;
+      streams = ap (λ (h : WireHistory). h.streams) after.then_.same;
+    }
 turns_of step noted old_serves new_serves old new limit end.Memory other after = absurd (other refl)
 
-where_told : (o : Option (List Move)) (P : List Move → Type 0) → ((log : List Move) → o ≡ Some log → P log) → WhereTold o P
+where_told : {T : Type 0} (o : Option T) (P : T → Type 0) → ((t : T) → o ≡ Some t → P t) → WhereTold o P
 where_told None P told = tt
-where_told (Some log) P told = told log refl
+where_told (Some t) P told = told t refl
 
 keeps_turns : {W C : Type 0} (step : EventStep W C) (x : Running W C) (ms : List Move) → AreTurnsOf step x ms → x.blocked ≡ [] → KeepsTurns step x.state ms
 keeps_turns step x ms are none =
@@ -115,6 +158,42 @@ logs_offers step noted old_serves new_serves old new limit end.Budget after x ov
     offers_of step noted old_serves new_serves old new limit end.Budget (λ e. (cc)) after x over
 logs_offers step noted old_serves new_serves old new limit end.LinkFault after x over =
     offers_of step noted old_serves new_serves old new limit end.LinkFault (λ e. (cc)) after x over
+
+streams_of : {W C : Type 0} (step : EventStep W C) (noted : Noting W C) (old_serves new_serves : Standing W C → Type 0)
+    (old new : WireState) (limit : ℕ) (r : End) → r ≢ end.Memory → AfterServe r step noted old_serves new_serves old new limit
+    → (x : Standing W C) → StandsOver old_serves old.history.opened x
+    → WhereTold old.history.streams (λ streams. StreamsOfTurns r step noted new_serves x streams new.history.streams)
+streams_of step noted old_serves new_serves old new limit r other after x over =
+    let of_ = turns_of step noted old_serves new_serves old new limit r other after in
+    where_told old.history.streams (λ streams. StreamsOfTurns r step noted new_serves x streams new.history.streams) (λ streams told. record {
+      moves = of_.turns.moves;
+      told = of_.streams ∙ (ap (λ (h : WireHistory). h.streams) of_.turns.logged
+          ∙ (streams-after of_.turns.moves old.history ∙ ap (option_map (grown_by of_.turns.moves)) told));
+      offers = (of_.turns.are x over).offers;
+      stands = λ _. (of_.turns.stands x over).stands;
+      keeps = λ _. keeps_turns step x.running of_.turns.moves (of_.turns.are x over);
+    })
+
+-- what is told of the streams, in every end
+pub streams_of_turns : {W C : Type 0} (step : EventStep W C) (noted : Noting W C) (old_serves new_serves : Standing W C → Type 0)
+    (old new : WireState) (limit : ℕ) (r : End) → AfterServe r step noted old_serves new_serves old new limit
+    → (x : Standing W C) → StandsOver old_serves old.history.opened x
+    → WhereTold old.history.streams (λ streams. StreamsOfTurns r step noted new_serves x streams new.history.streams)
+streams_of_turns step noted old_serves new_serves old new limit end.Memory after x over =
+    where_told old.history.streams (λ streams. StreamsOfTurns end.Memory step noted new_serves x streams new.history.streams) (λ streams told. record {
+      moves = after.breaks.moves;
+      told = ap (λ (h : WireHistory). h.streams) after.breaks.logged
+          ∙ (streams-after after.breaks.moves old.history ∙ ap (option_map (grown_by after.breaks.moves)) told);
+      offers = after.breaks.are x over;
+      stands = λ other. absurd (other refl);
+      keeps = λ other none. absurd (other refl);
+    })
+streams_of_turns step noted old_serves new_serves old new limit end.Done after x over =
+    streams_of step noted old_serves new_serves old new limit end.Done (λ e. (cc)) after x over
+streams_of_turns step noted old_serves new_serves old new limit end.Budget after x over =
+    streams_of step noted old_serves new_serves old new limit end.Budget (λ e. (cc)) after x over
+streams_of_turns step noted old_serves new_serves old new limit end.LinkFault after x over =
+    streams_of step noted old_serves new_serves old new limit end.LinkFault (λ e. (cc)) after x over
 
 -- the counts: of stops
 pub no_stops : {W C : Type 0} (step : EventStep W C) (noted : Noting W C) (old_serves new_serves : Standing W C → Type 0)

@@ -16,8 +16,8 @@ events_in (move.Took c offered bytes ∷ ms) = events_in ms
 events_in (move.Lost c ∷ ms) = events_in ms
 events_in (move.Shut c ∷ ms) = events_in ms
 
--- The wire's history grew by some moves, with so many events. Whatever was served before, its standing after these moves is served
--- after them, and the moves are of a kind.
+-- The wire's history grew by some moves, with so many events: its log and its streams, where they are told. Whatever was served
+-- before, its standing after these moves is served after them, and the moves are of a kind.
 pub record Leads {W C : Type 0} (step : EventStep W C) (noted : Noting W C)
     (old_serves new_serves : Standing W C → Type 0) (old new : WireHistory) (count : ℕ)
     (Are : Running W C → List Move → Type 0) : Type 0 where

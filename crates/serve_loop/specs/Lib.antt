@@ -2,4 +2,5 @@ pub mod Leads
 pub mod Serving
 pub mod TurnTaken
 pub mod ToldLog
+pub mod ToldStreams
 pub mod Wanting

@@ -7,9 +7,10 @@ use Rattle.spec_machine.specs.Moves.{EventStep}
 use Rattle.spec_machine.specs.Turns.{KeepsTurns}
 use Rattle.ads_served.specs.Standing.{Standing, Noting, standing_after_all}
 
-abbrev pub WhereTold : Option (List Move) → (List Move → Type 0) → Type 0
+-- this of what is told, where it is
+abbrev pub WhereTold : {T : Type 0} → Option T → (T → Type 0) → Type 0
 WhereTold None P = Unit {0}
-WhereTold (Some log) P = P log
+WhereTold (Some told) P = P told
 
 -- behind the log there are further moves, and each offer among them is the whole rest of a frame
 pub record LogsOffers {W C : Type 0} (step : EventStep W C) (s : MachineState W C) (old : List Move)

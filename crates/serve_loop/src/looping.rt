@@ -4,6 +4,7 @@ ghost use Rattle.std.specs.Prelude.{◌≡◌, ◌≢◌, ◌≤◌};
 ghost use Rattle.ads_outside.specs.Rose.{Rose, raised};
 ghost use Rattle.ads_served.specs.Standing.{Standing};
 ghost use Rattle.serve_loop.specs.ToldLog.{WhereTold, LogsOffers, LogsTurns};
+ghost use Rattle.serve_loop.specs.ToldStreams.{StreamsOfTurns};
 ghost use Rattle.serve_loop.specs.TurnTaken.{StandsOver, AfterServe, GaveEvents};
 ghost use Rattle.serve_loop.specs.Wanting.{WasWanting};
 
@@ -28,6 +29,10 @@ pub fn serve<T: Threads + Sync, W: Wire, M: Served>(
         → WhereTold (W.state wire.old).history.log (λ log. LogsTurns M.steps M.noted (M.serves served.new) x log (W.state wire.new).history.log) }
     ensures offers { (x : Standing M.World M.Client) → StandsOver (M.serves served.old) (W.state wire.old).history.opened x
         → WhereTold (W.state wire.old).history.log (λ log. LogsOffers M.steps x.running.state log (W.state wire.new).history.log) }
+    // Where the streams are told: each connection took what it takes in such moves.
+    ensures streams { (x : Standing M.World M.Client) → StandsOver (M.serves served.old) (W.state wire.old).history.opened x
+        → WhereTold (W.state wire.old).history.streams (λ streams. StreamsOfTurns result M.steps M.noted (M.serves served.new) x streams
+        (W.state wire.new).history.streams) }
     // Why it ended.
     ensures events { GaveEvents result (W.state wire.old).history (W.state wire.new).history limit }
     ensures done { result ≡ End.Done → (W.state wire.new).history.ends ≡ raised (W.state wire.old).history.ends }

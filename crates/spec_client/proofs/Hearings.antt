@@ -1,4 +1,4 @@
--- Each thing that is heard leaves fewer to be heard.
+-- Each thing that is heard leaves fewer to be heard, and nothing leaves more.
 use Rattle.std.proofs.Common.{◌≡◌, ℕ, zero, suc, ◌+◌, ◌<◌, ◌≤◌, List, [], ◌∷◌, length, drop, Bool, true, false, not, refl, sym, ap, ◌∙◌, arith, add-one}
 use Rattle.std.specs.Prelude.{Option, Some, None, sum_by, filter, find, unwrap_or, option_and_then, ◌==◌, if◌then◌else◌}
 use Rattle.std.proofs.lemmas.Bool.{and_parts, eqb-true}
@@ -205,3 +205,54 @@ timeout_falls c (Some u) et e = let fewer = told_timeout c.unanswered (least_id 
 pub hearings_fall : HearingsFall
 unfolding next_hearing
 hearings_fall c = timeout_falls c (next_timeout c.unanswered) refl
+
+-- behind all whole frames a client has as much left as before
+rest_stays : (c : Client) (f : Front) → hearings_left (rest_hearing c f).client ≡ hearings_left c
+rest_stays c Whole = refl
+rest_stays c Open = refl
+rest_stays c Broken = refl
+
+packet_stays : (c : Client) (packet : List ℕ) (packets : List (List ℕ)) → HasLeft c packets → (o : Option Hearing) (later : Hearing)
+    → KeepsIf c (samples_in packet) o → hearings_left later.client ≤ 1 + timeouts_left c + sum_by weight packets
+    → hearings_left (unwrap_or o later).client ≤ 1 + timeouts_left c + (weight packet + sum_by weight packets)
+packet_stays c packet packets l None later k stays = omega arith
+packet_stays c packet packets l (Some h) later k stays =
+    let left = left_is c (samples_in packet) h k in
+    let no_sample : length c.samples ≡ 0 = ap length l.no_samples in
+    let behind : sum_by weight (packets_left c) ≡ sum_by weight packets = ap (sum_by weight) l.packets_are in
+    let some = k.samples in
+    omega arith
+
+packets_stay : (c : Client) (packets : List (List ℕ)) → HasLeft c packets
+    → hearings_left (packets_hearing c packets).client ≤ 1 + timeouts_left c + sum_by weight packets
+unfolding packets_hearing
+packets_stay c [] l =
+    let same = rest_stays c (front_of (rest_of c.received)) in
+    let no_sample : length c.samples ≡ 0 = ap length l.no_samples in
+    let behind : sum_by weight (packets_left c) ≡ sum_by weight [] = ap (sum_by weight) l.packets_are in
+    omega arith
+packets_stay c (packet ∷ packets) l =
+    let less = one_less c packet packets l in
+    rw (sum_by-cons weight packet packets)
+    (packet_stays (with_one_taken c) packet packets less (packet_hearing (with_one_taken c) packet) (packets_hearing (with_one_taken c) packets)
+    (kept_packet (with_one_taken c) packet) (packets_stay (with_one_taken c) packets less))
+
+samples_stay : (c : Client) (ss : List StampedSample) → c.samples ≡ ss → hearings_left (hearing_of_samples c ss).client ≤ hearings_left c
+samples_stay c [] es =
+    let f = packets_stay c (packets_left c) (record { packets_are = refl; no_samples = es }) in
+    let no_sample : length c.samples ≡ 0 = ap length es in
+    omega arith
+samples_stay c (s ∷ ss) es = let l : length c.samples ≡ suc (length ss) = ap length es in omega arith
+
+unbroken_stays : (c : Client) (o : Option Peer) → hearings_left (hearing_unless_broken c o).client ≤ hearings_left c
+unbroken_stays c None = samples_stay c c.samples refl
+unbroken_stays c (Some p) = omega arith
+
+timeout_stays : (c : Client) (o : Option Unanswered) → next_timeout c.unanswered ≡ o → hearings_left (hearing_of_timeout c o).client ≤ hearings_left c
+timeout_stays c None et = unbroken_stays c c.broken
+timeout_stays c (Some u) et = let fewer = told_timeout c.unanswered (least_id c.unanswered) u et in omega arith
+
+-- nothing that is heard leaves more to be heard
+pub hearings_never_rise : (c : Client) → hearings_left (next_hearing c).client ≤ hearings_left c
+unfolding next_hearing
+hearings_never_rise c = timeout_stays c (next_timeout c.unanswered) refl

@@ -41,7 +41,7 @@ use Rattle.spec_machine.specs.Meanings.{up_to_nul, meant_by}
 use Rattle.spec_machine.specs.TypesByText.{tree_of_text, entry_by_type}
 use Rattle.spec_machine.specs.MoreActs.{if_type, states_reach, version_reach}
 use Rattle.spec_machine.proofs.MoreActs.{act-cases}
-use Rattle.spec_machine.specs.Requests.{MAX_WATCHES, next_watch, add_watch, add_reached, add_of_reach, add_act, plain_act, act_of}
+use Rattle.spec_machine.specs.Requests.{MAX_WATCHES, next_watch, add_watch, add_reached, add_of_reach, plain_act, act_of}
 use Rattle.spec_laws.specs.Soundness.{Each, IsSoundSymbol, IsSoundPlant}
 use Rattle.spec_laws.specs.Reachable.{IsPlaced, IsPlacedStatus, IsPlacedHandle}
 use Rattle.spec_laws.proofs.FirstMemory.{IsNamed, first-own, port_sound, symbol-named, area-named}

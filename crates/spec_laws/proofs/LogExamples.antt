@@ -1,5 +1,5 @@
 -- Whom another's writes touch, what a move may change, and what a log says of handles, by computation.
-use Rattle.std.specs.Prelude.{◌≡◌, ◌≢◌, refl, ℕ, List, [], ◌∷◌, ◌++◌, codes, bytes_eq, Bool, true, false, ◌==◌, Some, None, unwrap_or}
+use Rattle.std.specs.Prelude.{◌≡◌, refl, ℕ, List, [], ◌∷◌, ◌++◌, codes, bytes_eq, true, false, ◌==◌, unwrap_or}
 use Rattle.std.proofs.Common.{ap, inl, inr}
 use Rattle.std.proofs.lemmas.Bool.{false≢true, le-leb}
 use Rattle.spec_plant.specs.PartTexts.{name_behind, comment_behind}

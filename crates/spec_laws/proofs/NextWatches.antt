@@ -28,7 +28,7 @@ use Rattle.spec_machine.specs.Meanings.{up_to_nul, meant_by}
 use Rattle.spec_machine.specs.TypesByText.{tree_of_text}
 use Rattle.spec_machine.specs.MoreActs.{if_type, states_reach, version_reach}
 use Rattle.spec_machine.proofs.MoreActs.{act-cases}
-use Rattle.spec_machine.specs.Requests.{MAX_WATCHED, MAX_WATCHES, next_watch, add_watch, add_reached, add_of_reach, add_act, plain_act, act_of}
+use Rattle.spec_machine.specs.Requests.{MAX_WATCHED, MAX_WATCHES, next_watch, add_watch, add_reached, add_of_reach, plain_act, act_of}
 
 abbrev pub NextEffect : Client → Effect → Type 0
 NextEffect c NoEffect = Unit {0}

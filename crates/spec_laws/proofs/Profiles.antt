@@ -1,5 +1,5 @@
 -- The profile of every state, and what each profile makes of requests.
-use Rattle.std.proofs.Common.{◌≡◌, ℕ, ◌≤◌, List, [], ◌∷◌, map, length, refl, ◌∙◌, ap, arith, false, inl, inr}
+use Rattle.std.proofs.Common.{◌≡◌, ℕ, List, [], ◌∷◌, length, refl, ◌∙◌, ap, arith, false, inl, inr}
 use Rattle.std.specs.Prelude.{Option, Some, None, Result, Ok, Err, min, nat_lt, unwrap_or}
 use Rattle.std.proofs.lemmas.Bool.{cases_Bool, ltb-true}
 use Rattle.spec_plant.specs.Description.{Description}
@@ -9,7 +9,7 @@ use Rattle.ads_outside.specs.declared.event.Event.TheVariants as event
 use Rattle.ads_outside.specs.declared.moves.Move.{Move}
 use Rattle.ads_outside.specs.declared.moves.Move.TheVariants as move
 use Rattle.spec_formats.specs.Request.{ReadWrite}
-use Rattle.spec_formats.specs.Groups.{Group, ValueByHandle, ValueByName, group_in, group_of, value_by_handle, value_by_name}
+use Rattle.spec_formats.specs.Groups.{group_in, group_of}
 use Rattle.spec_machine.specs.Device.{DescriptionFault}
 use Rattle.spec_machine.specs.Connection.{Connection, connection_of}
 use Rattle.spec_machine.specs.MachineState.{MachineState, Exchange, exchange_of, after_exchange}
@@ -17,10 +17,8 @@ use Rattle.spec_machine.specs.Piece.{after_piece}
 use Rattle.spec_machine.specs.Moves.{with_gone, with_took, state_after_move, state_after}
 use Rattle.spec_machine.specs.Events.{after_reload, state_after_event}
 use Rattle.spec_machine.specs.Manner.{Manner, Strict, Wide}
-use Rattle.spec_machine.specs.Profile.{Profile}
 use Rattle.spec_machine.specs.World.{World, Setup}
-use Rattle.spec_machine.specs.Handles.{HandleStatus, Live, kept_status}
-use Rattle.spec_machine.specs.Client.{Place, Client}
+use Rattle.spec_machine.specs.Client.{Client}
 use Rattle.spec_machine.specs.Answers.{answered_group, READ_WRITE}
 use Rattle.spec_machine.specs.Writes.{Asker}
 use Rattle.spec_machine.specs.Reach.{reach_of}
@@ -28,7 +26,7 @@ use Rattle.spec_machine.specs.Reads.{read_group}
 use Rattle.spec_machine.specs.ByName.{read_write_group}
 use Rattle.spec_machine.specs.Meanings.{meant_by}
 use Rattle.spec_machine.specs.Requests.{plain_act, act_of}
-use Rattle.spec_machine.specs.MoreSums.{sum_told_read, sum_short_read, wide_sums, sums_in_manner}
+use Rattle.spec_machine.specs.MoreSums.{sum_told_read, sum_short_read, sum_add, sum_delete, wide_sums, sums_in_manner}
 use Rattle.spec_machine.specs.SumPackets.{decide_read_write, decide_more, decide_request}
 use Rattle.spec_machine.specs.Ticks.{world_after_tick}
 use Rattle.spec_machine.specs.Reloads.{world_after_reload}
@@ -135,5 +133,9 @@ more-wide d c k group offset len bytes x wide = ap (λ (y : Manner). decide_more
 
 pub wide_sums_are : WideSums
 unfolding decide_request
-wide_sums_are d c k n len bytes wide =
-    (more-wide d c k sum_told_read n len bytes d.profile.manner wide, more-wide d c k sum_short_read n len bytes d.profile.manner wide)
+wide_sums_are d c k n len bytes wide = (
+  more-wide d c k sum_told_read n len bytes d.profile.manner wide,
+  more-wide d c k sum_short_read n len bytes d.profile.manner wide,
+  more-wide d c k sum_add n len bytes d.profile.manner wide,
+  more-wide d c k sum_delete n len bytes d.profile.manner wide,
+)

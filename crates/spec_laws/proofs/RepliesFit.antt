@@ -38,7 +38,7 @@ use Rattle.spec_machine.specs.Meanings.{up_to_nul, meant_by}
 use Rattle.spec_machine.specs.TypesByText.{tree_of_text, entry_by_type}
 use Rattle.spec_machine.specs.MoreActs.{if_type, states_reach, version_reach}
 use Rattle.spec_machine.proofs.MoreActs.{act-cases}
-use Rattle.spec_machine.specs.Requests.{next_watch, add_watch, add_reached, add_of_reach, add_act, plain_act, act_of}
+use Rattle.spec_machine.specs.Requests.{next_watch, add_watch, add_reached, add_of_reach, plain_act, act_of}
 use Rattle.spec_machine.specs.Sums.{SumRequest, sum_of_reads, sum_of_writes, sum_of_read_writes, given_in_turn}
 use Rattle.spec_machine.specs.Decisions.{Decision, NoAnswer, EndConnection, AmsError, Perform, refuse}
 use Rattle.spec_machine.specs.SumPackets.{acts_of, decide_parts, decide_single}

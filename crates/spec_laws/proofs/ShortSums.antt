@@ -14,9 +14,10 @@ use Rattle.spec_machine.specs.Client.{Client}
 use Rattle.spec_machine.specs.Acts.{Outcome, outcome_of, memory_after, outcomes_of}
 use Rattle.spec_machine.specs.Writes.{Asker}
 use Rattle.spec_machine.specs.Requests.{act_of}
-use Rattle.spec_machine.specs.Sums.{SumRequest, numbers_of_heads, read_parts, write_parts, read_write_parts}
+use Rattle.spec_machine.specs.Sums.{SumRequest, numbers_of_heads, read_parts, write_parts, read_write_parts, addition_width, addition_parts, deletion_parts}
 use Rattle.spec_machine.specs.Sums.{sum_of_reads, sum_of_writes, sum_of_read_writes, sum_refusal, MAX_PARTS}
-use Rattle.spec_machine.specs.Sums.{sum_of_told_reads, sum_of_short_reads, codes_of, told, filled, filled_data, packed, given_in_turn}
+use Rattle.spec_machine.specs.Sums.{sum_of_told_reads, sum_of_short_reads, sum_of_additions, sum_of_deletions}
+use Rattle.spec_machine.specs.Sums.{codes_of, told, with_handles, filled, filled_data, packed, given_in_turn}
 use Rattle.spec_machine.specs.MoreSums.{more_sums}
 use Rattle.spec_machine.proofs.MoreSums.{EachSum, more_sums-cases}
 use Rattle.spec_machine.specs.SumPackets.{client_after_request, acts_of}
@@ -45,6 +46,13 @@ told-len (o ∷ os) =
     let ih = told-len os in
     omega (arith, e, ih)
 
+with_handles-len : (os : List Outcome) → length (with_handles os) ≡ 8 * length os
+with_handles-len [] = refl
+with_handles-len (o ∷ os) =
+    let e = length-append (to_le_bytes w32 o.code ++ to_le_bytes w32 (number32 0 o.bytes)) (with_handles os) in
+    let ih = with_handles-len os in
+    omega (arith, e, ih)
+
 read_parts-len : (n : ℕ) (heads : List ℕ) → length (read_parts n heads) ≡ n
 read_parts-len zero heads = refl
 read_parts-len (suc n) heads = ap suc (read_parts-len n (drop 12 heads))
@@ -56,6 +64,14 @@ write_parts-len (suc n) heads bytes = ap suc (write_parts-len n (drop 12 heads) 
 read_write_parts-len : (n : ℕ) (heads bytes : List ℕ) → length (read_write_parts n heads bytes) ≡ n
 read_write_parts-len zero heads bytes = refl
 read_write_parts-len (suc n) heads bytes = ap suc (read_write_parts-len n (drop 16 heads) (drop (number32 12 heads) bytes))
+
+addition_parts-len : (n width : ℕ) (heads : List ℕ) → length (addition_parts n width heads) ≡ n
+addition_parts-len zero width heads = refl
+addition_parts-len (suc n) width heads = ap suc (addition_parts-len n width (drop width heads))
+
+deletion_parts-len : (n : ℕ) (heads : List ℕ) → length (deletion_parts n heads) ≡ n
+deletion_parts-len zero heads = refl
+deletion_parts-len (suc n) heads = ap suc (deletion_parts-len n (drop 4 heads))
 
 filled-short : (len : ℕ) (bytes : List ℕ) → length bytes ≤ len → length (filled len bytes) ≤ len
 filled-short len bytes h =
@@ -185,6 +201,28 @@ short_reads-packed d k c n bytes = record {
       omega (arith, all, heads, ends, parts, gave);
 }
 
+additions-packed : (d : Setup) (k : Asker) (c : Client) (n : ℕ) (bytes : List ℕ) → IsPackedShort d k c (sum_of_additions n bytes)
+unfolding packed
+additions-packed d k c n bytes = record {
+  short = λ memory.
+      let rs = addition_parts n (addition_width n bytes) bytes in
+      let heads = with_handles-len (ends_of d k c memory rs) in
+      let ends = ends-len d k rs c memory in
+      let parts = addition_parts-len n (addition_width n bytes) bytes in
+      omega (arith, heads, ends, parts);
+}
+
+deletions-packed : (d : Setup) (k : Asker) (c : Client) (n : ℕ) (bytes : List ℕ) → IsPackedShort d k c (sum_of_deletions n bytes)
+unfolding packed
+deletions-packed d k c n bytes = record {
+  short = λ memory.
+      let rs = deletion_parts n bytes in
+      let codes = codes-len (ends_of d k c memory rs) in
+      let ends = ends-len d k rs c memory in
+      let parts = deletion_parts-len n bytes in
+      omega (arith, codes, ends, parts);
+}
+
 -- so is each sum that a server of a profile knows besides
 pub more-packed : (d : Setup) (k : Asker) (c : Client) (group : ℕ) (sum : ℕ → List ℕ → SumRequest) → more_sums d.profile group ≡ Some sum
     → (n : ℕ) (bytes : List ℕ) → IsPackedShort d k c (sum n bytes)
@@ -195,6 +233,8 @@ more-packed d k c group sum is n bytes =
       no_more = tt;
       told_reads = λ own. told_reads-packed d k c n bytes;
       short_reads = λ own. short_reads-packed d k c n bytes;
+      additions = λ own. additions-packed d k c n bytes;
+      deletions = λ own. deletions-packed d k c n bytes;
     } in
     subst Q is (more_sums-cases d.profile group Q each)
 

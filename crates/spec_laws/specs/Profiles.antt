@@ -21,8 +21,8 @@ use Rattle.spec_machine.specs.ByName.{place_of}
 use Rattle.spec_machine.specs.Meanings.{meant_name}
 use Rattle.spec_machine.specs.MoreActs.{type_by_text, type_act}
 use Rattle.spec_machine.specs.Requests.{plain_act, act_of}
-use Rattle.spec_machine.specs.Sums.{sum_of_told_reads, sum_of_short_reads}
-use Rattle.spec_machine.specs.MoreSums.{sum_told_read, sum_short_read}
+use Rattle.spec_machine.specs.Sums.{sum_of_told_reads, sum_of_short_reads, sum_of_additions, sum_of_deletions}
+use Rattle.spec_machine.specs.MoreSums.{sum_told_read, sum_short_read, sum_add, sum_delete}
 use Rattle.spec_machine.specs.SumPackets.{decide_sum, decide_read_write, decide_request}
 use Rattle.spec_machine.specs.AdsDevice.{DescriptionReading, server_step}
 use Rattle.spec_laws.specs.Isolation.{start_in}
@@ -76,8 +76,11 @@ StrictSums = (d : Setup) (c : Client) (k : Asker) (group offset len : ℕ) (byte
     → decide_request d c k (ReadWrite group offset len bytes)
     ≡ decide_read_write d c k (answered_group READ_WRITE group) (ReadWrite group offset len bytes) offset len bytes
 
--- Where the server is wide, the sums of reads that tell their lengths are sums, filled or as long as their data is.
+-- Where the server is wide, the sums of reads that tell their lengths are sums, filled or as long as their data is; so are
+-- additions and deletions of notifications.
 abbrev pub WideSums : Type 0
 WideSums = (d : Setup) (c : Client) (k : Asker) (n len : ℕ) (bytes : List ℕ) → d.profile.manner ≡ Wide
     → (decide_request d c k (ReadWrite sum_told_read n len bytes) ≡ decide_sum d c k n (length bytes) len (sum_of_told_reads n bytes))
     × (decide_request d c k (ReadWrite sum_short_read n len bytes) ≡ decide_sum d c k n (length bytes) len (sum_of_short_reads n bytes))
+    × (decide_request d c k (ReadWrite sum_add n len bytes) ≡ decide_sum d c k n (length bytes) len (sum_of_additions n bytes))
+    × (decide_request d c k (ReadWrite sum_delete n len bytes) ≡ decide_sum d c k n (length bytes) len (sum_of_deletions n bytes))

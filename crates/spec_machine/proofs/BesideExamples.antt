@@ -1,5 +1,5 @@
 -- A client beside a busy one gets what it would get alone, by computation on a short log.
-use Rattle.std.specs.Prelude.{◌≡◌, refl, ℕ, List, [], ◌∷◌, ◌++◌, codes, filter}
+use Rattle.std.specs.Prelude.{◌≡◌, refl, ℕ, List, [], ◌∷◌, ◌++◌, codes}
 use Rattle.spec_plant.specs.PartTexts.{name_behind, comment_behind}
 use Rattle.spec_formats.specs.Groups.{group_in, group_of}
 use Rattle.spec_formats.specs.Header.{header_of}

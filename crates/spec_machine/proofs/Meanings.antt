@@ -1,9 +1,8 @@
 -- What a meaning keeps of a request: it asks no more than is asked, a mode that the strict server knows is itself, and to
 -- the strict server each request is what is written.
-use Rattle.std.proofs.Common.{◌≡◌, ℕ, ◌≤◌, List, refl, ap, sym, ◌∙◌, arith, inl, inr}
-use Rattle.std.specs.Prelude.{min, ◌==◌, Option, Some, None, cond}
+use Rattle.std.proofs.Common.{◌≡◌, ℕ, ◌≤◌, List, refl, arith, inl, inr}
+use Rattle.std.specs.Prelude.{min, ◌==◌, Option, Some, None}
 use Rattle.std.proofs.lemmas.Bool.{cases_Bool, eqb-true}
-use Rattle.std.specs.Prelude.{Bool, true, false}
 use Rattle.spec_plant.specs.Sizes.{type_size}
 use Rattle.spec_plant.specs.World.{PlantPort}
 use Rattle.spec_plant.specs.Finding.{Found, found_of}

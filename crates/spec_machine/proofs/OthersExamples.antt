@@ -48,7 +48,7 @@ use Rattle.std.specs.Fmt.{digits}
 use Rattle.spec_frames.specs.Frame.{frame_bytes}
 use Rattle.spec_frames.proofs.Hex.{hex}
 use Rattle.spec_plant.specs.Description.{Rights, Read, Write}
-use Rattle.spec_machine.proofs.Plant.{q, a, q_viewer, a_viewer, packet_from, answer_to, opened, piece, reload, plant, waves, step}
+use Rattle.spec_machine.proofs.Plant.{q, q_viewer, a_viewer, packet_from, answer_to, opened, piece, reload, plant, waves, step}
 
 -- all that connection 1 is given where all others have these rights, or none, and it is opened first
 abbrev given_where : Option Rights → List Move → List ℕ

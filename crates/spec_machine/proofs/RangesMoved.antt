@@ -12,7 +12,7 @@ use Rattle.spec_plant.proofs.BlockLemmas.{same_area-true, same_area-refl, same_p
 use Rattle.spec_plant.proofs.SoundLemmas.{each-get, port_sound, port_number}
 use Rattle.spec_plant.proofs.CoveringLemmas.{stands_at}
 use Rattle.spec_plant.proofs.SameSizes.{same_type-size}
-use Rattle.spec_formats.specs.Ranges.{Range, Bytes, Bit, Size}
+use Rattle.spec_formats.specs.Ranges.{Bytes, Bit, Size}
 use Rattle.spec_machine.specs.World.{numbers_from, name_at, names_at, symbol_names, own_name, own_names, OWN_SIZE}
 use Rattle.spec_machine.specs.Access.{Addressed, WholeByte, OneBit}
 use Rattle.spec_machine.specs.Client.{Kept, is_in_part, are_kept, kept_bytes}

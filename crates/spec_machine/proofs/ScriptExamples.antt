@@ -5,7 +5,7 @@ use Rattle.hex.proofs.OnLiterals.{hex_on_literals}
 use Rattle.ads_outside.specs.declared.event.Event.TheVariants as event
 use Rattle.ads_outside.specs.declared.moves.Move.TheVariants as move
 use Rattle.ads_outside.specs.declared.reload_note.ReloadNote.TheVariants as note
-use Rattle.spec_machine.specs.BuiltLines.{BuiltLines, LineKind, Blank, Open, Bytes, Close, Tick, Reload, Room, Fail}
+use Rattle.spec_machine.specs.BuiltLines.{BuiltLines, LineKind, Open, Bytes}
 use Rattle.spec_machine.specs.LogText.{log_text_of}
 use Rattle.spec_machine.specs.Script.{kind_of, script_after, script_of}
 use Rattle.spec_machine.specs.ScriptLine.{ScriptLine, Happens, TakesAtMost, FailsNext}

@@ -106,6 +106,27 @@ record WideRows : Type 0 where
       ++ a 9 3 (codes "00000000 24000000  00000000 08000000  10070000 00000000  4d69780000000000 0000000000000000 00000000")
       ++ a 9 4 (codes "05070000 00000000") ++ a 9 5 (codes "05070000 00000000")
       ++ a 9 6 (codes "00000000 10000000  02070000 00000000  02070000 00000000")
+  -- additions without the reserved bytes of the command or with them: each result with its handle, 0 where it is refused; what is added
+  -- is sent at the next tick
+  additions : given_wide (
+      piece 1 (q 9 1 (codes "85f00000 02000000 10000000 30000000  40400000 00000000 04000000 04000000 00000000 00000000"
+      ++ codes "40400000 00000000 04000000 02000000 00000000 00000000"))
+      ∷ piece 1 (q 9 2 (codes "85f00000 01000000 08000000 28000000  40400000 00000000 02000000 03000000 00000000 00000000"
+      ++ codes "01020304 05060708 090a0b0c 0d0e0f10"))
+      ∷ tick 1000 ∷ [])
+      ≡ a 9 1 (codes "00000000 10000000  00000000 01000000  13070000 00000000") ++ a 9 2 (codes "00000000 08000000  00000000 02000000")
+      ++ stamp 1000 2 (codes "01000000 04000000 2a000000 02000000 02000000 2a00")
+  -- deletions: a notification is deleted once
+  deletions : given_wide (
+      piece 1 (added 1 (codes "40400000 00000000 04000000 04000000 00000000 00000000"))
+      ∷ piece 1 (q 9 2 (codes "86f00000 03000000 0c000000 0c000000  01000000 01000000 02000000")) ∷ tick 1000 ∷ [])
+      ≡ a 6 1 (codes "00000000 01000000") ++ a 9 2 (codes "00000000 0c000000  00000000 14070000 14070000")
+  -- the limits of both are those of all sums, and a sum inside a sum is no group
+  notes_limits : given_wide (
+      piece 1 (q 9 1 (codes "85f00000 01000000 07000000 18000000  40400000 00000000 04000000 04000000 00000000 00000000"))
+      ∷ piece 1 (q 9 2 (codes "86f00000 02000000 ffffffff 07000000  02000000 020000"))
+      ∷ piece 1 (q 9 3 (codes "82f00000 02000000 18000000 20000000  85f00000 00000000 04000000 00000000  86f00000 00000000 04000000 00000000")) ∷ [])
+      ≡ a 9 1 (codes "05070000 00000000") ++ a 9 2 (codes "05070000 00000000") ++ a 9 3 (codes "00000000 10000000  02070000 00000000  02070000 00000000")
 
 wide_rows : WideRows
 unfolding ams_length_of is_header front_of packet_of behind_frame frames_from frames_of left_behind rest_of has_same_parts has_same_members
@@ -118,4 +139,4 @@ unfolding ams_length_of is_header front_of packet_of behind_frame frames_from fr
     acts_of_log acts_by_others reply_in_forms outcome_in_all response_packet performed grouped frames_of_samples samples_at watches_after_tick
     reach_of outcomes_of memory_after_acts client_after_acts is_kept memory_after_reload world_after_reload client_reloaded answered_group
     after_packet after_packets after_piece read_group acts_of decide_request decide digits
-wide_rows = record { longer_reads = refl; as_ever = refl; over_a_reload = refl; names = refl; modes = refl; told_reads = refl }
+wide_rows = record { longer_reads = refl; as_ever = refl; over_a_reload = refl; names = refl; modes = refl; told_reads = refl; additions = refl; deletions = refl; notes_limits = refl }

@@ -1,12 +1,12 @@
 -- The bytes of all ports of a world.
 use Rattle.std.proofs.Common.{◌≡◌, ◌≢◌, ℕ, zero, suc, List, [], ◌∷◌, map, length, refl, sym, ◌∙◌, subst, arith}
-use Rattle.std.specs.Prelude.{Some, slice_get, slice_set}
+use Rattle.std.specs.Prelude.{Some, slice_get}
 use Rattle.spec_plant.specs.Description.{Area}
-use Rattle.spec_plant.specs.World.{PlantPort, ByteName, Block}
+use Rattle.spec_plant.specs.World.{PlantPort, Block}
 use Rattle.spec_plant.specs.Named.{NotNumbered, AreNumberedApart}
 use Rattle.spec_plant.specs.Sound.{Each, IsSoundPlant}
 use Rattle.spec_machine.specs.World.{World, numbers_from, name_at, names_at}
-use Rattle.spec_machine.specs.Access.{Addressed, WholeByte, addressed_name, Put, puts_of, memory_after_puts}
+use Rattle.spec_machine.specs.Access.{Addressed, WholeByte, puts_of, memory_after_puts}
 use Rattle.spec_machine.specs.Ticks.{world_after_tick}
 use Rattle.spec_machine.specs.PortBytes.{PortBytes, Holds}
 use Rattle.spec_machine.specs.PortLaws.{IsAtAnotherPort}

@@ -15,9 +15,11 @@ use Rattle.spec_machine.specs.Client.{Client}
 use Rattle.spec_machine.specs.Acts.{writes_of_acts}
 use Rattle.spec_machine.specs.Projection.{acts_of_move}
 use Rattle.spec_laws.specs.Soundness.{Each}
+use Rattle.spec_laws.proofs.Histories.{handles_are_history}
 use Rattle.spec_server.specs.Server.{read_description, server_after_in}
 use Rattle.spec_promises.specs.Asked.{Asked, asked_of_move, names_written, Leads}
 use Rattle.spec_promises.specs.Written.{IsDone, IsControlled, asked_at_move, ChangesByRequests, ServerHoldsWrites, EachHoldsWrites}
+use Rattle.spec_promises.specs.KeptHandles.{EachHandleIsHistory}
 use Rattle.spec_promises.proofs.AskedLemmas.{piece-takes_at}
 use Rattle.spec_promises.proofs.Seen.{Sees, every_request_sees}
 use Rattle.spec_promises.proofs.WriteLemmas.{write_is_done}
@@ -58,3 +60,7 @@ each_holds_writes profile d waves accepted before m = record {
 
 pub server_holds_writes : ServerHoldsWrites
 server_holds_writes d waves accepted before m = each_holds_writes strict d waves accepted before m
+
+pub each_handle_is_history : EachHandleIsHistory
+each_handle_is_history profile d waves log c k found handle port =
+    handles_are_history read_description profile d waves log c k found handle port

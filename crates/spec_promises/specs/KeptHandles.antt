@@ -1,4 +1,4 @@
--- A handle that is live before and after a reload reads afterwards what it read before.
+-- A handle that is live before and after a reload reads afterwards what it read before; and each handle is what its history says.
 use Rattle.std.specs.Prelude.{◌≡◌, ℕ, List, [], ◌∷◌, ◌++◌, length, true, false, Some}
 use Rattle.signals.specs.Wave.{Wave}
 use Rattle.ads_outside.specs.declared.event.Event.TheVariants as event
@@ -12,12 +12,13 @@ use Rattle.spec_machine.specs.Profile.{Profile, strict}
 use Rattle.spec_machine.specs.Connection.{Connection, connection_of, is_deaf}
 use Rattle.spec_machine.specs.MachineState.{MachineState}
 use Rattle.spec_machine.specs.World.{World, setup_of}
-use Rattle.spec_machine.specs.Handles.{is_live, kept_status}
+use Rattle.spec_machine.specs.Handles.{is_live, kept_status, status_of}
 use Rattle.spec_machine.specs.Client.{Client}
 use Rattle.spec_machine.specs.Acts.{Outcome}
 use Rattle.spec_machine.specs.SumLaws.{single_outcome}
 use Rattle.spec_machine.specs.Writes.{Asker}
-use Rattle.spec_server.specs.Server.{server_after_in}
+use Rattle.spec_laws.specs.Histories.{handle_history}
+use Rattle.spec_server.specs.Server.{read_description, server_start_in, server_after_in}
 
 -- what a connection reads by a handle, so many bytes
 abbrev pub read_by_handle : MachineState World Client → Connection Client → Asker → ℕ → ℕ → Outcome
@@ -57,3 +58,14 @@ KeepsHandles d waves before bytes = KeepsHandlesIn strict d waves before bytes
 abbrev pub ServerKeepsHandles : Type 0
 ServerKeepsHandles = (d : Description) (waves : List Wave) → IsAccepted d (length waves)
     → (before : List Move) (bytes : List ℕ) → KeepsHandles d waves before bytes
+
+-- In the state after a log each handle of a connection has the status that its history gives it.
+abbrev pub HandlesAreHistoryIn : Profile → Description → List Wave → List Move → Type 0
+HandlesAreHistoryIn profile d waves log = (c : ℕ) (k : Connection Client)
+    → connection_of c (server_after_in profile d waves log).connections ≡ Some k
+    → (handle port : ℕ) → kept_status k.client.handles handle port
+    ≡ status_of (handle_history read_description c (server_start_in profile d waves) log) handle port
+
+-- So of the server of each profile, over every description and every log.
+abbrev pub EachHandleIsHistory : Type 0
+EachHandleIsHistory = (profile : Profile) (d : Description) (waves : List Wave) (log : List Move) → HandlesAreHistoryIn profile d waves log

@@ -23,11 +23,11 @@ use Rattle.spec_laws.proofs.Isolated.{isolated, takes_as_alone, takes_all_as_alo
 use Rattle.spec_laws.proofs.EveryState.{every_state_fits}
 use Rattle.spec_laws.proofs.RepliesFit.{replies_fit}
 use Rattle.spec_laws.proofs.Profiles.{keeps_profile}
-use Rattle.spec_laws.proofs.Refused.{refused_reload_counts, dead_handle_touches_nothing}
+use Rattle.spec_laws.proofs.Refused.{turned_away_changes_nothing, result_changes_nothing, refused_reload_counts, dead_handle_touches_nothing}
 use Rattle.spec_server.specs.Server.{read_of_verdict, read_description, server, server_start_in}
 use Rattle.spec_server.specs.ServerLaws.{ReadsDescriptions, IsRefused, TellsReloads, ServerPlaysInTurns}
 use Rattle.spec_server.specs.ServerLaws.{ServerIsIsolated, ServerTakesAsAlone, ServerStateFits}
-use Rattle.spec_server.specs.ServerLaws.{ServerRepliesFit, ServerRefusesDeadHandles}
+use Rattle.spec_server.specs.ServerLaws.{ServerRepliesFit, ServerRefusesDeadHandles, ServerLeavesAllAtRefusals}
 use Rattle.spec_server.specs.ProfileLaws.{ServerKeepsProfile, ServerIsStrict, EachPlaysInTurns, EachIsIsolated}
 use Rattle.spec_server.specs.ProfileLaws.{EachTakesAsAlone, EachStateFits, EachRepliesFit}
 
@@ -120,3 +120,10 @@ server_refuses_dead_handles d c k handle code dead =
       add = λ len number delay cycle mode known few. refused.0.add len number delay cycle mode refl known few;
       any_form = refused.1;
     }
+
+pub server_leaves_all_at_refusals : ServerLeavesAllAtRefusals
+server_leaves_all_at_refusals = record {
+  turned_away = turned_away_changes_nothing;
+  results = result_changes_nothing;
+  reloads = refused_reload_counts;
+}

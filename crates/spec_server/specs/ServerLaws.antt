@@ -30,7 +30,7 @@ use Rattle.spec_laws.specs.Isolation.{IsUntouched}
 use Rattle.spec_laws.specs.Soundness.{ReadsAccepted}
 use Rattle.spec_laws.specs.Reachable.{AllFits}
 use Rattle.spec_laws.specs.RepliesFit.{AllAnswersFit}
-use Rattle.spec_laws.specs.Refusals.{dead_code, RefusesAnyForm}
+use Rattle.spec_laws.specs.Refusals.{TurnedAwayChangesNothing, ResultChangesNothing, RefusedReloadCounts, dead_code, RefusesAnyForm}
 use Rattle.spec_server.specs.Server.{read_description, server_device, server, server_start, server_after, server_output, server_play}
 
 -- Each description that is read is an accepted one.
@@ -104,3 +104,10 @@ pub record ServerRefuses (d : Setup) (c : Client) (k : Asker) (handle code : ℕ
 abbrev pub ServerRefusesDeadHandles : Type 0
 ServerRefusesDeadHandles = (d : Setup) (c : Client) (k : Asker) (handle code : ℕ)
     → dead_code (kept_status c.handles handle k.port.number) ≡ Some code → ServerRefuses d c k handle code
+
+-- A refusal leaves no trace: a packet that is turned away, or is told a result other than 0, leaves the world and its client, with
+-- handles and notifications, as it found them; and a reload whose description is refused leaves all but its count.
+pub record ServerLeavesAllAtRefusals : Type 0 where
+  pub turned_away : TurnedAwayChangesNothing
+  pub results : ResultChangesNothing
+  pub reloads : RefusedReloadCounts

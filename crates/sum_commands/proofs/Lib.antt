@@ -4,3 +4,5 @@ pub mod ReplyLemmas
 pub mod StopLemmas
 pub mod RunningLemmas
 pub mod LaidLemmas
+pub mod ReadLemmas
+pub mod AdditionLemmas

@@ -11,7 +11,7 @@ use Rattle.spec_machine.specs.Sums.{given_in_turn, left_in_turn}
 use Rattle.sum_commands.specs.declared.form.Form.{Form}
 use Rattle.sum_commands.specs.declared.form.Form.TheVariants as form
 use Rattle.sum_commands.specs.Parts.{asked_of}
-use Rattle.sum_commands.specs.Packing.{told_front, front_of, data_of}
+use Rattle.sum_commands.specs.Packing.{told_front, handle_front, front_of, data_of}
 use Rattle.sum_commands.specs.Forms.{HasParts, RunsAll, head_width, front_width, written_len, all_written, all_asked, part_of, parts_of, fronts_in, data_in}
 use Rattle.sum_commands.proofs.HeadLemmas.{heads-step, numbers-step}
 
@@ -28,6 +28,9 @@ all_written-step form.Writes m k heads e = numbers-step m k 12 8 heads e
 all_written-step form.ReadWrites m k heads e = numbers-step m k 16 12 heads e
 all_written-step form.ToldReads m k heads e = refl
 all_written-step form.ShortReads m k heads e = refl
+all_written-step form.Additions m k heads e = refl
+all_written-step form.ShortAdditions m k heads e = refl
+all_written-step form.Deletions m k heads e = refl
 
 all_asked-step : (form : Form) (m k : ℕ) (heads written : List ℕ) → m ≡ suc k
     → all_asked form m heads
@@ -37,6 +40,9 @@ all_asked-step form.Writes m k heads written e = refl
 all_asked-step form.ReadWrites m k heads written e = numbers-step m k 16 8 heads e
 all_asked-step form.ToldReads m k heads written e = numbers-step m k 12 8 heads e
 all_asked-step form.ShortReads m k heads written e = numbers-step m k 12 8 heads e
+all_asked-step form.Additions m k heads written e = refl
+all_asked-step form.ShortAdditions m k heads written e = refl
+all_asked-step form.Deletions m k heads written e = refl
 
 pub parts-step : (form : Form) (m k : ℕ) (heads written : List ℕ) → m ≡ suc k → HasParts form m heads written
     → HasFirst form k heads written
@@ -58,6 +64,9 @@ front-len form.Writes o = refl
 front-len form.ReadWrites o = refl
 front-len form.ToldReads o = refl
 front-len form.ShortReads o = refl
+front-len form.Additions o = refl
+front-len form.ShortAdditions o = refl
+front-len form.Deletions o = refl
 
 pub parts_of-suc : (form : Form) (k : ℕ) (heads written : List ℕ)
     → parts_of form (suc k) heads written
@@ -67,6 +76,9 @@ parts_of-suc form.Writes k heads written = refl
 parts_of-suc form.ReadWrites k heads written = refl
 parts_of-suc form.ToldReads k heads written = refl
 parts_of-suc form.ShortReads k heads written = refl
+parts_of-suc form.Additions k heads written = refl
+parts_of-suc form.ShortAdditions k heads written = refl
+parts_of-suc form.Deletions k heads written = refl
 
 fronts_in-cons : (form : Form) (o : Outcome) (os : List Outcome) → fronts_in form (o ∷ os) ≡ front_of form o ++ fronts_in form os
 fronts_in-cons form.Reads o os = flat_map-cons (λ (x : Outcome). to_le_bytes w32 x.code) o os
@@ -74,6 +86,9 @@ fronts_in-cons form.Writes o os = flat_map-cons (λ (x : Outcome). to_le_bytes w
 fronts_in-cons form.ReadWrites o os = flat_map-cons told_front o os
 fronts_in-cons form.ToldReads o os = flat_map-cons told_front o os
 fronts_in-cons form.ShortReads o os = flat_map-cons told_front o os
+fronts_in-cons form.Additions o os = flat_map-cons handle_front o os
+fronts_in-cons form.ShortAdditions o os = flat_map-cons handle_front o os
+fronts_in-cons form.Deletions o os = flat_map-cons (λ (x : Outcome). to_le_bytes w32 x.code) o os
 
 data_in-cons : (form : Form) (k : ℕ) (heads written : List ℕ) (o : Outcome) (os : List Outcome)
     → data_in form (suc k) heads (o ∷ os)
@@ -83,6 +98,9 @@ data_in-cons form.Writes k heads written o os = refl
 data_in-cons form.ReadWrites k heads written o os = flat_map-cons (λ (x : Outcome). x.bytes) o os
 data_in-cons form.ToldReads k heads written o os = refl
 data_in-cons form.ShortReads k heads written o os = flat_map-cons (λ (x : Outcome). x.bytes) o os
+data_in-cons form.Additions k heads written o os = refl
+data_in-cons form.ShortAdditions k heads written o os = refl
+data_in-cons form.Deletions k heads written o os = refl
 
 given_in_turn-cons : {S : Type 0} (given : S → Request → Outcome) (leaves : S → Request → S) (s : S) (r : Request)
     (rs : List Request)
@@ -164,6 +182,27 @@ runs-zero stands_for given leaves form.ToldReads heads written s v f out stands 
   room = omega arith;
 }
 runs-zero stands_for given leaves form.ShortReads heads written s v f out stands = record {
+  state = stands;
+  front = sym (append-nil f);
+  bytes = sym (append-nil out);
+  asked = omega arith;
+  room = omega arith;
+}
+runs-zero stands_for given leaves form.Additions heads written s v f out stands = record {
+  state = stands;
+  front = sym (append-nil f);
+  bytes = sym (append-nil out);
+  asked = omega arith;
+  room = omega arith;
+}
+runs-zero stands_for given leaves form.ShortAdditions heads written s v f out stands = record {
+  state = stands;
+  front = sym (append-nil f);
+  bytes = sym (append-nil out);
+  asked = omega arith;
+  room = omega arith;
+}
+runs-zero stands_for given leaves form.Deletions heads written s v f out stands = record {
   state = stands;
   front = sym (append-nil f);
   bytes = sym (append-nil out);

@@ -21,6 +21,9 @@ sum_reply-parts given leaves s form.Writes n bytes = sym (append-nil _)
 sum_reply-parts given leaves s form.ReadWrites n bytes = refl
 sum_reply-parts given leaves s form.ToldReads n bytes = refl
 sum_reply-parts given leaves s form.ShortReads n bytes = refl
+sum_reply-parts given leaves s form.Additions n bytes = sym (append-nil _)
+sum_reply-parts given leaves s form.ShortAdditions n bytes = sym (append-nil _)
+sum_reply-parts given leaves s form.Deletions n bytes = sym (append-nil _)
 
 -- the same, where what is written and the sum are said by equations
 pub reply-of : {S : Type 0} (given : S → Request → Outcome) (leaves : S → Request → S) (s : S) (form : Form)

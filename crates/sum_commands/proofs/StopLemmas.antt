@@ -43,6 +43,9 @@ parts-sum_in form.Writes n bytes = refl
 parts-sum_in form.ReadWrites n bytes = refl
 parts-sum_in form.ToldReads n bytes = refl
 parts-sum_in form.ShortReads n bytes = refl
+parts-sum_in form.Additions n bytes = refl
+parts-sum_in form.ShortAdditions n bytes = refl
+parts-sum_in form.Deletions n bytes = refl
 
 pub on_err : {T E P : Type 0} (r : Result T E) → P → OnErr r P
 on_err (Ok x) p = tt

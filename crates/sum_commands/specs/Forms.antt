@@ -2,13 +2,15 @@
 use Rattle.std.specs.Prelude.{◌≡◌, ◌≤◌, ℕ, ◌+◌, ◌*◌, List, [], ◌++◌, length, take, sum, flat_map}
 use Rattle.spec_formats.specs.Numbers.{number32}
 use Rattle.spec_formats.specs.Ranges.{greatest_len}
-use Rattle.spec_formats.specs.Request.{Request, Read, Write, ReadWrite}
+use Rattle.spec_formats.specs.Request.{Request, Read, Write, ReadWrite, DeleteDeviceNotification}
 use Rattle.spec_machine.specs.Acts.{Outcome}
 use Rattle.spec_machine.specs.Sums.{SumRequest, sum_of_reads, sum_of_writes, sum_of_read_writes, sum_of_told_reads, sum_of_short_reads}
+use Rattle.spec_machine.specs.Sums.{additions_of_width, sum_of_deletions, addition_parts, deletion_parts, with_handles}
 use Rattle.spec_machine.specs.Sums.{read_parts, write_parts, read_write_parts, numbers_of_heads, codes_of, told, filled_data, MAX_PARTS}
 use Rattle.spec_machine.specs.Sums.{given_in_turn, left_in_turn}
 use Rattle.sum_commands.specs.declared.form.Form.{Form}
 use Rattle.sum_commands.specs.declared.form.Form.TheVariants as form
+use Rattle.sum_commands.specs.Additions.{addition_of}
 
 abbrev pub sum_in : Form → ℕ → List ℕ → SumRequest
 sum_in form.Reads n bytes = sum_of_reads n bytes
@@ -16,6 +18,9 @@ sum_in form.Writes n bytes = sum_of_writes n bytes
 sum_in form.ReadWrites n bytes = sum_of_read_writes n bytes
 sum_in form.ToldReads n bytes = sum_of_told_reads n bytes
 sum_in form.ShortReads n bytes = sum_of_short_reads n bytes
+sum_in form.Additions n bytes = additions_of_width 40 n bytes
+sum_in form.ShortAdditions n bytes = additions_of_width 24 n bytes
+sum_in form.Deletions n bytes = sum_of_deletions n bytes
 
 -- how long the head of a part is
 abbrev pub head_width : Form → ℕ
@@ -24,6 +29,9 @@ head_width form.Writes = 12
 head_width form.ReadWrites = 16
 head_width form.ToldReads = 12
 head_width form.ShortReads = 12
+head_width form.Additions = 40
+head_width form.ShortAdditions = 24
+head_width form.Deletions = 4
 
 -- how long a part's result is in the reply, with the length of its data where that is told
 abbrev pub front_width : Form → ℕ
@@ -32,6 +40,9 @@ front_width form.Writes = 4
 front_width form.ReadWrites = 8
 front_width form.ToldReads = 8
 front_width form.ShortReads = 8
+front_width form.Additions = 8
+front_width form.ShortAdditions = 8
+front_width form.Deletions = 4
 
 -- how many bytes the first part writes
 abbrev pub written_len : Form → List ℕ → ℕ
@@ -40,6 +51,9 @@ written_len form.Writes heads = number32 8 heads
 written_len form.ReadWrites heads = number32 12 heads
 written_len form.ToldReads heads = 0
 written_len form.ShortReads heads = 0
+written_len form.Additions heads = 0
+written_len form.ShortAdditions heads = 0
+written_len form.Deletions heads = 0
 
 -- how many bytes n parts write
 abbrev pub all_written : Form → ℕ → List ℕ → ℕ
@@ -48,6 +62,9 @@ all_written form.Writes n heads = sum (numbers_of_heads n 12 8 heads)
 all_written form.ReadWrites n heads = sum (numbers_of_heads n 16 12 heads)
 all_written form.ToldReads n heads = 0
 all_written form.ShortReads n heads = 0
+all_written form.Additions n heads = 0
+all_written form.ShortAdditions n heads = 0
+all_written form.Deletions n heads = 0
 
 -- how many bytes n parts ask
 abbrev pub all_asked : Form → ℕ → List ℕ → ℕ
@@ -56,6 +73,9 @@ all_asked form.Writes n heads = 0
 all_asked form.ReadWrites n heads = sum (numbers_of_heads n 16 8 heads)
 all_asked form.ToldReads n heads = sum (numbers_of_heads n 12 8 heads)
 all_asked form.ShortReads n heads = sum (numbers_of_heads n 12 8 heads)
+all_asked form.Additions n heads = 0
+all_asked form.ShortAdditions n heads = 0
+all_asked form.Deletions n heads = 0
 
 -- the first part
 abbrev pub part_of : Form → List ℕ → List ℕ → Request
@@ -66,6 +86,9 @@ part_of form.ReadWrites heads bytes =
     ReadWrite (number32 0 heads) (number32 4 heads) (number32 8 heads) (take (number32 12 heads) bytes)
 part_of form.ToldReads heads bytes = Read (number32 0 heads) (number32 4 heads) (number32 8 heads)
 part_of form.ShortReads heads bytes = Read (number32 0 heads) (number32 4 heads) (number32 8 heads)
+part_of form.Additions heads bytes = addition_of heads
+part_of form.ShortAdditions heads bytes = addition_of heads
+part_of form.Deletions heads bytes = DeleteDeviceNotification (number32 0 heads)
 
 abbrev pub parts_of : Form → ℕ → List ℕ → List ℕ → List Request
 parts_of form.Reads n heads bytes = read_parts n heads
@@ -73,6 +96,9 @@ parts_of form.Writes n heads bytes = write_parts n heads bytes
 parts_of form.ReadWrites n heads bytes = read_write_parts n heads bytes
 parts_of form.ToldReads n heads bytes = read_parts n heads
 parts_of form.ShortReads n heads bytes = read_parts n heads
+parts_of form.Additions n heads bytes = addition_parts n 40 heads
+parts_of form.ShortAdditions n heads bytes = addition_parts n 24 heads
+parts_of form.Deletions n heads bytes = deletion_parts n heads
 
 -- the results, which stand in front
 abbrev pub fronts_in : Form → List Outcome → List ℕ
@@ -81,6 +107,9 @@ fronts_in form.Writes os = codes_of os
 fronts_in form.ReadWrites os = told os
 fronts_in form.ToldReads os = told os
 fronts_in form.ShortReads os = told os
+fronts_in form.Additions os = with_handles os
+fronts_in form.ShortAdditions os = with_handles os
+fronts_in form.Deletions os = codes_of os
 
 -- the data, which stands behind
 abbrev pub data_in : Form → ℕ → List ℕ → List Outcome → List ℕ
@@ -89,6 +118,9 @@ data_in form.Writes n heads os = []
 data_in form.ReadWrites n heads os = flat_map (λ (o : Outcome). o.bytes) os
 data_in form.ToldReads n heads os = filled_data (numbers_of_heads n 12 8 heads) os
 data_in form.ShortReads n heads os = flat_map (λ (o : Outcome). o.bytes) os
+data_in form.Additions n heads os = []
+data_in form.ShortAdditions n heads os = []
+data_in form.Deletions n heads os = []
 
 -- there are n heads, and the data that they say is written
 pub record HasParts (form : Form) (n : ℕ) (heads written : List ℕ) : Type 0 where

@@ -4,3 +4,5 @@ pub mod Forms
 pub mod SumCommand
 pub mod Packing
 pub mod Served
+pub mod Reads
+pub mod Additions

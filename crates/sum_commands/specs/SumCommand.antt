@@ -5,20 +5,23 @@ use Rattle.spec_formats.specs.Groups.{sum_read, sum_write, sum_read_write}
 use Rattle.spec_formats.specs.Request.{Request}
 use Rattle.spec_machine.specs.Acts.{Outcome}
 use Rattle.spec_machine.specs.Sums.{SumRequest, sum_of_reads, sum_of_writes, sum_of_read_writes, sum_of_told_reads, sum_of_short_reads}
-use Rattle.spec_machine.specs.Sums.{sum_refusal, packed}
-use Rattle.spec_machine.specs.MoreSums.{sum_told_read}
+use Rattle.spec_machine.specs.Sums.{sum_of_additions, sum_of_deletions, sum_refusal, packed}
+use Rattle.spec_machine.specs.MoreSums.{sum_told_read, sum_short_read, sum_add}
 use Rattle.spec_machine.specs.Sums.{given_in_turn, left_in_turn}
 use Rattle.return_codes.specs.declared.code.Code.{Code}
 use Rattle.return_codes.specs.Code.{number_of}
 
--- the sum of n parts in these bytes: reads, writes, read-writes, or reads that tell their lengths
+-- the sum of n parts in these bytes: reads, writes, read-writes, reads that tell their lengths, additions or deletions of
+-- notifications
 abbrev pub sum_of : ℕ → ℕ → List ℕ → SumRequest
 sum_of group n bytes =
     if group == sum_read then sum_of_reads n bytes
     else if group == sum_write then sum_of_writes n bytes
     else if group == sum_read_write then sum_of_read_writes n bytes
     else if group == sum_told_read then sum_of_told_reads n bytes
-    else sum_of_short_reads n bytes
+    else if group == sum_short_read then sum_of_short_reads n bytes
+    else if group == sum_add then sum_of_additions n bytes
+    else sum_of_deletions n bytes
 
 -- the code that refuses a sum
 abbrev pub refusal_in : SumRequest → ℕ → ℕ → ℕ → Option ℕ

@@ -24,6 +24,7 @@ pub(crate) fn first_written(form: Form, heads: &[u8]) -> usize
         Form::Reads | Form::ToldReads | Form::ShortReads => 0,
         Form::Writes => get32(heads, 8) as usize,
         Form::ReadWrites => get32(heads, 12) as usize,
+        Form::Additions | Form::ShortAdditions | Form::Deletions => 0,
     }
 }
 
@@ -81,6 +82,7 @@ fn total_written(form: Form, n: u32, bytes: &[u8]) -> u64
         Form::Reads | Form::ToldReads | Form::ShortReads => 0,
         Form::Writes => total(n, 12, 8, bytes),
         Form::ReadWrites => total(n, 16, 12, bytes),
+        Form::Additions | Form::ShortAdditions | Form::Deletions => 0,
     }
 }
 
@@ -95,6 +97,7 @@ fn total_asked(form: Form, n: u32, bytes: &[u8]) -> u64
         Form::Reads | Form::ToldReads | Form::ShortReads => total(n, 12, 8, bytes),
         Form::Writes => 0,
         Form::ReadWrites => total(n, 16, 8, bytes),
+        Form::Additions | Form::ShortAdditions | Form::Deletions => 0,
     }
 }
 

@@ -1,4 +1,5 @@
-//! Sum commands: many reads, writes or read-writes in one, over any service of the single commands.
+//! Sum commands: many reads, writes or read-writes, or additions or deletions of notifications, in one, over any service of the
+//! single commands.
 #![tactic(auto)]
 
 mod answers;
@@ -11,6 +12,6 @@ mod room;
 mod run;
 mod running;
 
-pub use groups::{SUM_SHORT_READ, SUM_TOLD_READ};
+pub use groups::{SUM_ADD, SUM_DELETE, SUM_SHORT_READ, SUM_TOLD_READ};
 pub use part_service::PartService;
 pub use run::run_sum;

@@ -2,6 +2,7 @@
 
 ghost use Rattle.std.specs.Prelude.{◌≡◌, ◌+◌, ◌≤◌, length, OnOk, OnErr, IfOk};
 ghost use Rattle.spec_formats.specs.Request.{Request, Read, Write, ReadWrite};
+ghost use Rattle.spec_formats.specs.Request.{AddDeviceNotification, DeleteDeviceNotification};
 
 use ads_base::{NoMemory, Octets};
 use return_codes::Code;
@@ -10,11 +11,12 @@ use std::alloc::Global;
 /// The single commands, which the parts of a sum are. What a part gives and leaves follows from the state before it: this
 /// is said of every state that the service stands for, and it stands for one at least.
 ///
-/// After want of memory of `read` or `read_write` the service is one that `may_leave` has.
-/// Beckhoff Information System, "ADS Read", "ADS Write", "ADS ReadWrite".
+/// After want of memory of `read`, `read_write` or `add` the service is one that `may_leave` has.
+/// Beckhoff Information System, "ADS Read", "ADS Write", "ADS ReadWrite", "ADS Add Device Notification", "ADS Delete Device
+/// Notification".
 pub trait PartService {
     ghost use Rattle.spec_machine.specs.Acts.{Outcome};
-    ghost use Rattle.sum_commands.specs.Parts.{Gives, code_in};
+    ghost use Rattle.sum_commands.specs.Parts.{Gives, GivesHandle, code_in};
     ghost use Rattle.sum_commands.specs.Served.{StandsForSome};
 
     // What an answer may hang on.
@@ -79,4 +81,31 @@ pub trait PartService {
         ensures asked { OnOk result (length out.new ≤ length out.old + read_len) }
         ensures refused { IfOk result (λ answer. OnErr answer (out.new ≡ out.old)) }
         ensures no_memory { OnErr result (out.new ≡ out.old) };
+
+    /// Adds a notification, and gives its handle. The delay is the greatest that the client asks for.
+    fn add(
+        &mut self,
+        alloc: Global,
+        group: u32,
+        offset: u32,
+        len: u32,
+        mode: u32,
+        delay: u32,
+        cycle: u32,
+    ) -> Result<Result<u32, Code>, NoMemory>
+        requires { StandsForSome stands_for self.old }
+        ensures gives { IfOk result (λ answer. (s : State) → stands_for self.old s
+            → GivesHandle (given s (AddDeviceNotification group offset len mode delay cycle)) answer) }
+        ensures leaves { OnOk result ((s : State) → stands_for self.old s
+            → stands_for self.new (left s (AddDeviceNotification group offset len mode delay cycle))) }
+        ensures wants { OnErr result ((s : State) → stands_for self.old s
+            → may_leave s (AddDeviceNotification group offset len mode delay cycle) self.new) };
+
+    /// Deletes the notification with a handle.
+    fn delete(&mut self, handle: u32) -> Result<(), Code>
+        requires { StandsForSome stands_for self.old }
+        ensures code { (s : State) → stands_for self.old s
+            → code_in result ≡ (given s (DeleteDeviceNotification handle)).code }
+        ensures leaves { (s : State) → stands_for self.old s
+            → stands_for self.new (left s (DeleteDeviceNotification handle)) };
 }

@@ -5,7 +5,7 @@ ghost use Rattle.ads_base.specs.Octets.{Extends};
 ghost use Rattle.spec_formats.specs.Groups.{sum_read};
 ghost use Rattle.spec_formats.specs.Ranges.{greatest_len};
 ghost use Rattle.spec_machine.specs.Sums.{MAX_PARTS};
-ghost use Rattle.spec_machine.specs.MoreSums.{sum_short_read};
+ghost use Rattle.spec_machine.specs.MoreSums.{sum_delete};
 ghost use Rattle.sum_commands.specs.Forms.{HasParts, Replies, front_width, parts_of};
 ghost use Rattle.sum_commands.specs.Served.{StandsForSome};
 ghost use Rattle.sum_commands.specs.Stops.{StopsAmong, KeepsFront};
@@ -23,7 +23,7 @@ use std::alloc::Global;
 
 /// Runs the n parts of a sum command one after another, each on the state that the part before left, and appends the
 /// data of its reply. The group is 0xF080 for reads, 0xF081 for writes and 0xF082 for read-writes; 0xF083 and 0xF084 are reads
-/// whose results tell their lengths.
+/// whose results tell their lengths; 0xF085 and 0xF086 add and delete notifications.
 ///
 /// | group | bytes | reply |
 /// |---|---|---|
@@ -32,6 +32,8 @@ use std::alloc::Global;
 /// | 0xF082 | n times group 4, offset 4, read length 4, write length 4, then the data | n times result 4 and length 4, then the data |
 /// | 0xF083 | n times group 4, offset 4, length 4 | n times result 4 and length 4, then the data, each filled with zeros to its asked length |
 /// | 0xF084 | n times group 4, offset 4, length 4 | n times result 4 and length 4, then the data |
+/// | 0xF085 | n times group 4, offset 4, length 4, mode 4, delay 4, cycle 4, and 16 reserved bytes or none | n times result 4 and handle 4 |
+/// | 0xF086 | n times handle 4 | n results of 4 |
 ///
 /// Refused, before a part is run: n above 500, 0x706; bytes that are not as long as the heads say, 0x705; `read_len`
 /// below the greatest length of the reply, or that above 2,000,000, 0x705. A part that is refused hinders no later one.
@@ -46,7 +48,7 @@ pub fn run_sum<P: PartService>(
     out: &mut Octets,
 ) -> Result<Result<(), Code>, NoMemory>
     requires from { sum_read ≤ group }
-    requires to { group ≤ sum_short_read }
+    requires to { group ≤ sum_delete }
     requires some { StandsForSome P.stands_for service.old }
 
     // Refused exactly by the code of the definition, with no part run.
@@ -67,7 +69,7 @@ pub fn run_sum<P: PartService>(
         → StopsAmong P.stands_for P.left P.may_leave (sum_of group n bytes.now).parts s service.new) }
     ensures no_memory { OnErr result (out.new ≡ out.old) }
 {
-    let form = Form::of(group);
+    let form = Form::of(group, n, bytes);
     let len = match accepted_len(form, n, read_len, bytes) {
         Ok(len) => len,
         Err(code) => return Ok(Err(code)),

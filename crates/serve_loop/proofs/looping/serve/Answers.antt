@@ -1,5 +1,5 @@
 -- What the end of the turns says of the wire.
-use Rattle.serve_loop.proofs.EndLemmas.{logs_turns, logs_offers, events_by, end_rose, no_end, stops_rose, no_stops}
+use Rattle.serve_loop.proofs.EndLemmas.{logs_turns, logs_offers, streams_of_turns, events_by, end_rose, no_end, stops_rose, no_stops}
 use Rattle.serve_loop.proofs.looping.serve.Goals as goal
 
 pub returns-clause-turns : goal.returns-clause-turns
@@ -8,6 +8,10 @@ returns-clause-turns g c = logs_turns _ _ _ _ (g.W.Wire.state c.args.wire.now) (
 pub returns-clause-offers : goal.returns-clause-offers
 returns-clause-offers g c =
     logs_offers _ _ _ _ (g.W.Wire.state c.args.wire.now) (g.W.Wire.state c.take_turns-ended.new.wire) _ _ c.take_turns-ended.ensures.serve
+
+pub returns-clause-streams : goal.returns-clause-streams
+returns-clause-streams g c =
+    streams_of_turns _ _ _ _ (g.W.Wire.state c.args.wire.now) (g.W.Wire.state c.take_turns-ended.new.wire) _ _ c.take_turns-ended.ensures.serve
 
 pub returns-clause-events : goal.returns-clause-events
 returns-clause-events g c = events_by _ _ _ _ (g.W.Wire.state c.args.wire.now) (g.W.Wire.state c.take_turns-ended.new.wire) _ _ c.take_turns-ended.ensures.serve

@@ -1,4 +1,4 @@
-use Rattle.std.proofs.Common.{◌≡◌, ◌+◌, ◌-◌, ◌*◌, ◌≤◌, suc, ◌++◌, drop, length, refl, ◌∙◌, ap, arith, rules, length-append, length-drop}
+use Rattle.std.proofs.Common.{◌≡◌, ◌+◌, ◌-◌, ◌*◌, ◌≤◌, suc, ◌++◌, drop, length, refl, ap, arith, rules, length-append, length-drop}
 use Rattle.sum_commands.specs.Forms.{head_width, front_width, written_len, part_of}
 use Rattle.sum_commands.specs.Packing.{front_of, data_of}
 use Rattle.sum_commands.proofs.StopLemmas.{parts_of-next, stops-here, stops-later, on_err}
@@ -49,6 +49,14 @@ run_first-requires-clause-room g c =
     let more : c.args.n - c.loop.counter ≡ suc k = omega arith in
     let all = times-step (c.args.n - c.loop.counter) k (front_width form) more in
     omega (arith, c.loop.invariant.room, all)
+
+pub run_first-requires-clause-small : goal.run_first-requires-clause-small
+run_first-requires-clause-small g c =
+    let form = c.loop.rest.form in
+    let k = c.args.n - (c.loop.counter + 1) in
+    let more : c.args.n - c.loop.counter ≡ suc k = omega arith in
+    let all = times-step (c.args.n - c.loop.counter) k (front_width form) more in
+    omega (arith, c.loop.invariant.small, all)
 
 pub loop-preserved : goal.loop-preserved
 loop-preserved g c =

@@ -9,5 +9,5 @@ returns-in-Ok-cut_back-clause-reply g c = λ s stands.
     let bytes = c.args.bytes.now in
     let behind = c.bytes_behind.ensures ∙ ap (λ k. drop k bytes) c.heads.ensures.len in
     let reply = reply-of g.P.PartService.given g.P.PartService.left s c.of-form.result c.args.n bytes c.bytes_behind.result.now _ behind
-    (c.of-form.ensures c.args.n bytes) in
+    c.of-form.ensures in
     kept ∙ (said s stands).bytes ∙ ap (λ x. c.args.out.now ++ x) reply

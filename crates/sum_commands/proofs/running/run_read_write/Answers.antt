@@ -1,7 +1,7 @@
 use Rattle.std.proofs.Common.{◌≡◌, ◌+◌, ◌-◌, ◌++◌, length, ◌∙◌, ap, arith, length-append}
 use Rattle.std.specs.Int.{w32, to_le_bytes}
 use Rattle.spec_formats.specs.Request.{ReadWrite}
-use Rattle.sum_commands.specs.Parts.{code_in, written_over}
+use Rattle.sum_commands.specs.Parts.{written_over}
 use Rattle.sum_commands.specs.Packing.{told_front}
 use Rattle.sum_commands.proofs.running.run_read_write.Goals as goal
 

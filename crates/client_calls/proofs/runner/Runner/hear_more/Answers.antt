@@ -9,13 +9,13 @@ pub returns-in-NotYet : goal.returns-in-NotYet
 returns-in-NotYet c =
     waiting_inside c.self.inside.client c.next.new.self (stage_kept c.self.inside.stage)
     (map output_kept c.self.inside.pending.items) c.args.self.now (heard_meant c.in_ok-heard.heard) c.self.view_is c.requires.quiet c.requires.on
-    (ap heard_meant c.in-NotYet.is) c.in_ok-heard.ensures.heard c.in_ok-heard.ensures.stands
+    (ap heard_meant c.in-NotYet.is) c.in_ok-heard.ensures.heard c.in_ok-heard.ensures.stands c.requires.going
 
 pub returns-in-Broken : goal.returns-in-Broken
 returns-in-Broken c =
     broken_inside c.self.inside.client c.next.new.self (stage_kept c.self.inside.stage) (map output_kept c.self.inside.pending.items) c.args.self.now
     (heard_meant c.in_ok-heard.heard) c.in-Broken.peer c.self.view_is c.requires.quiet c.requires.on
-    (ap heard_meant c.in-Broken.is) c.in_ok-heard.ensures.heard
+    (ap heard_meant c.in-Broken.is) c.in_ok-heard.ensures.heard c.in_ok-heard.ensures.stands c.requires.going
 
 pub returns-in_ok-take_in-in_default : goal.returns-in_ok-take_in-in_default
 returns-in_ok-take_in-in_default c =

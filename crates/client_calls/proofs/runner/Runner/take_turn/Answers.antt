@@ -1,5 +1,5 @@
 use Rattle.client_calls.specs.Turns.{Does}
-use Rattle.client_calls.proofs.WayLemmas.{way_begins, way_goes_on, way_turned, way_falls}
+use Rattle.client_calls.proofs.WayLemmas.{way_begins, way_goes_on, way_turned, way_falls, way_left}
 use Rattle.client_calls.proofs.runner.Runner.take_turn.Goals as goal
 
 pub hearings-init : goal.hearings-init
@@ -17,4 +17,5 @@ returns-in-Some c =
     record {
       turned = way_turned c.args.now c.args.self.now c.hearings.self c.do_one.new.self c.in-Some.step c.hearings.invariant s.turned;
       falls = way_falls c.args.now c.args.self.now c.hearings.self c.do_one.new.self c.in-Some.step c.hearings.invariant s;
+      left = way_left c.args.now c.args.self.now c.hearings.self c.do_one.new.self c.in-Some.step c.hearings.invariant s;
     }
