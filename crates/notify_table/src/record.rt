@@ -1,6 +1,7 @@
 //! One notification, with the bytes that it last sent.
 
-ghost use Rattle.std.specs.Prelude.{◌≡◌, ◌<◌, length, IfOk, IfSome, option_map};
+ghost use Rattle.std.specs.Prelude.{◌≡◌, ◌<◌, ◌==◌, length, IfOk, IfSome, option_map};
+ghost use Rattle.std.specs.List.{list_any};
 ghost use Rattle.symbol_table.specs.Moves.{moved_span};
 ghost use Rattle.spec_machine.specs.Watches.{is_sent, after_check};
 ghost use Rattle.spec_machine.specs.WatchedRanges.{InArea, kept_own};
@@ -153,11 +154,16 @@ fn own_kept(ports: &[u16], port: u16, first: u8, len: u8) -> Option<Watched>
     ensures moved { option_map watched_meant result ≡ kept_own ports.now port first len }
     ensures len { IfSome result (λ there. watched_len (watched_meant there) ≡ len) }
 {
-    if ports.iter().any(|number| *number == port) {
-        Some(Watched::Own { first, len })
-    } else {
-        None
+    if is_among(ports, port) {
+        return Some(Watched::Own { first, len });
     }
+    None
+}
+
+fn is_among(ports: &[u16], port: u16) -> bool
+    ensures { result ≡ list_any (λ n. n == port) ports.now }
+{
+    ports.iter().any(|number| *number == port)
 }
 
 fn moved_in_area(m: &Moves, port: u16, reach: Reach) -> Option<Watched>

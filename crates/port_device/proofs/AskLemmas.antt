@@ -16,7 +16,7 @@ use Rattle.spec_plant.specs.Finding as plant
 use Rattle.spec_plant.specs.Finding.{found_of}
 use Rattle.spec_formats.specs.Codes.{invalid_group, invalid_size}
 use Rattle.spec_formats.specs.Groups.{Group, HandleByName, ValueByName, ValueByHandle, InfoByName, ExtendedInfoByName}
-use Rattle.spec_machine.specs.World.{World}
+use Rattle.spec_machine.specs.World.{World, Setup, setup_of}
 use Rattle.spec_machine.specs.Access.{Addressed, WholeByte}
 use Rattle.spec_machine.specs.Client as client
 use Rattle.spec_machine.specs.Client.{names_of_place}
@@ -36,30 +36,30 @@ use Rattle.port_device.specs.Groups.{is_value_by_name, is_info_by_name, is_entry
 use Rattle.port_device.proofs.NameLemmas.{found_by_path, found_by_none}
 use Rattle.port_device.proofs.ReadLemmas.{answers_along, refusal_answers}
 
-pub asked_value : (c : client.Client) (p : PlantPort) (g : Option Group) (len : ℕ) (name : List ℕ) → is_value_by_name g ≡ true
-    → read_write_group c p (without_handles g) len name ≡ read_write_group c p (Some ValueByName) len name
-asked_value c p (Some ValueByName) len name h = refl
-asked_value c p g len name h = absurd (false≢true h)
+pub asked_value : (s : Setup) (c : client.Client) (p : PlantPort) (g : Option Group) (len : ℕ) (name : List ℕ) → is_value_by_name g ≡ true
+    → read_write_group s c p (without_handles g) len name ≡ read_write_group s c p (Some ValueByName) len name
+asked_value s c p (Some ValueByName) len name h = refl
+asked_value s c p g len name h = absurd (false≢true h)
 
-pub asked_info : (c : client.Client) (p : PlantPort) (g : Option Group) (len : ℕ) (name : List ℕ) → is_info_by_name g ≡ true
-    → read_write_group c p (without_handles g) len name ≡ read_write_group c p (Some InfoByName) len name
-asked_info c p (Some InfoByName) len name h = refl
-asked_info c p g len name h = absurd (false≢true h)
+pub asked_info : (s : Setup) (c : client.Client) (p : PlantPort) (g : Option Group) (len : ℕ) (name : List ℕ) → is_info_by_name g ≡ true
+    → read_write_group s c p (without_handles g) len name ≡ read_write_group s c p (Some InfoByName) len name
+asked_info s c p (Some InfoByName) len name h = refl
+asked_info s c p g len name h = absurd (false≢true h)
 
-pub asked_entry : (c : client.Client) (p : PlantPort) (g : Option Group) (len : ℕ) (name : List ℕ) → is_entry_by_name g ≡ true
-    → read_write_group c p (without_handles g) len name ≡ read_write_group c p (Some ExtendedInfoByName) len name
-asked_entry c p (Some ExtendedInfoByName) len name h = refl
-asked_entry c p g len name h = absurd (false≢true h)
+pub asked_entry : (s : Setup) (c : client.Client) (p : PlantPort) (g : Option Group) (len : ℕ) (name : List ℕ) → is_entry_by_name g ≡ true
+    → read_write_group s c p (without_handles g) len name ≡ read_write_group s c p (Some ExtendedInfoByName) len name
+asked_entry s c p (Some ExtendedInfoByName) len name h = refl
+asked_entry s c p g len name h = absurd (false≢true h)
 
-pub asked_otherwise : (c : client.Client) (p : PlantPort) (g : Option Group) (len : ℕ) (name : List ℕ) → is_value_by_name g ≡ false → is_info_by_name g ≡ false
-    → is_entry_by_name g ≡ false → read_write_group c p (without_handles g) len name ≡ Refusal invalid_group
+pub asked_otherwise : (s : Setup) (c : client.Client) (p : PlantPort) (g : Option Group) (len : ℕ) (name : List ℕ) → is_value_by_name g ≡ false → is_info_by_name g ≡ false
+    → is_entry_by_name g ≡ false → read_write_group s c p (without_handles g) len name ≡ Refusal invalid_group
 unfolding read_write_group
-asked_otherwise c p (Some ValueByName) len name h k l = absurd (false≢true (sym h))
-asked_otherwise c p (Some InfoByName) len name h k l = absurd (false≢true (sym k))
-asked_otherwise c p (Some ExtendedInfoByName) len name h k l = absurd (false≢true (sym l))
-asked_otherwise c p (Some HandleByName) len name h k l = refl
-asked_otherwise c p (Some ValueByHandle) len name h k l = refl
-asked_otherwise c p g len name h k l = refl
+asked_otherwise s c p (Some ValueByName) len name h k l = absurd (false≢true (sym h))
+asked_otherwise s c p (Some InfoByName) len name h k l = absurd (false≢true (sym k))
+asked_otherwise s c p (Some ExtendedInfoByName) len name h k l = absurd (false≢true (sym l))
+asked_otherwise s c p (Some HandleByName) len name h k l = refl
+asked_otherwise s c p (Some ValueByHandle) len name h k l = refl
+asked_otherwise s c p g len name h k l = refl
 
 -- a value
 
@@ -70,7 +70,7 @@ chosen false places = refl
 pub named_value : (w : World) (c : client.Client) (p : PlantPort) (len : ℕ) (name : List ℕ) (place : Place) (answer : Result (Unit {0}) Code) (old new : List ℕ)
     (o : Option plant.Found) → found_of p.symbols name ≡ o → FindsPlace w p o (Ok place)
     → ((named : client.Place) → IsNamed w p place named → AnswersAct w (place_read_act p named len) answer old new)
-    → AnswersAct w (read_write_group c p (Some ValueByName) len name) answer old new
+    → AnswersAct w (read_write_group (setup_of w) c p (Some ValueByName) len name) answer old new
 unfolding read_write_group
 named_value w c p len name place answer old new None e finds read = absurd finds
 named_value w c p len name place answer old new (Some led) e finds read =
@@ -80,7 +80,7 @@ named_value w c p len name place answer old new (Some led) e finds read =
     (read named finds)
 
 pub unknown_value : (w : World) (c : client.Client) (p : PlantPort) (len : ℕ) (name : List ℕ) (code : Code) (out : List ℕ) (o : Option plant.Found)
-    → found_of p.symbols name ≡ o → FindsPlace w p o (Err code) → AnswersAct w (read_write_group c p (Some ValueByName) len name) (Err code) out out
+    → found_of p.symbols name ≡ o → FindsPlace w p o (Err code) → AnswersAct w (read_write_group (setup_of w) c p (Some ValueByName) len name) (Err code) out out
 unfolding read_write_group
 unknown_value w c p len name code out None e finds =
     refusal_answers w (if_found (found_of p.symbols name) (λ f. value_act p len (place_of f))) code out
@@ -90,7 +90,7 @@ unknown_value w c p len name code out (Some led) e finds = absurd finds
 -- an info
 
 pub info_short : (w : World) (c : client.Client) (p : PlantPort) (len : ℕ) (name out : List ℕ) → nat_lt len 12 ≡ true
-    → AnswersAct w (read_write_group c p (Some InfoByName) len name) (Err C705) out out
+    → AnswersAct w (read_write_group (setup_of w) c p (Some InfoByName) len name) (Err C705) out out
 unfolding read_write_group
 info_short w c p len name out h =
     refusal_answers w (if nat_lt len 12 then Refusal invalid_size else if_found (found_of p.symbols name) (λ f. fixed_data (info_of f))) C705 out
@@ -98,7 +98,7 @@ info_short w c p len name out h =
 
 pub info_unknown : (w : World) (c : client.Client) (p : PlantPort) (types : List NamedType) (len : ℕ) (name out : List ℕ) (o : Option plant.Found)
     → nat_lt len 12 ≡ false → found_of p.symbols name ≡ o → Finds types p.symbols o None
-    → AnswersAct w (read_write_group c p (Some InfoByName) len name) (Err C710) out out
+    → AnswersAct w (read_write_group (setup_of w) c p (Some InfoByName) len name) (Err C710) out out
 unfolding read_write_group
 info_unknown w c p types len name out None h e finds =
     refusal_answers w (if nat_lt len 12 then Refusal invalid_size else if_found (found_of p.symbols name) (λ f. fixed_data (info_of f))) C710 out
@@ -117,7 +117,7 @@ info_at place = to_le_bytes w32 (byte_number (area_of place.area)) ++ to_le_byte
 
 pub info_found : (w : World) (c : client.Client) (p : PlantPort) (types : List NamedType) (len : ℕ) (name old new : List ℕ) (found : Found)
     (o : Option plant.Found) → nat_lt len 12 ≡ false → found_of p.symbols name ≡ o → Finds types p.symbols o (Some found) → new ≡ old ++ info_at found.place
-    → AnswersAct w (read_write_group c p (Some InfoByName) len name) (Ok tt) old new
+    → AnswersAct w (read_write_group (setup_of w) c p (Some InfoByName) len name) (Ok tt) old new
 unfolding read_write_group
 info_found w c p types len name old new found None h e finds put = absurd finds
 info_found w c p types len name old new found (Some led) h e finds put =
@@ -135,17 +135,17 @@ info_found w c p types len name old new found (Some led) h e finds put =
 
 -- an entry
 
-pub entry_asked : (c : client.Client) (p : PlantPort) (path : List Step) (len : ℕ) (name : List ℕ) → steps_of (plant.without_nul name) ≡ Some path
-    → read_write_group c p (Some ExtendedInfoByName) len name ≡ path_entry_act p path len
+pub entry_asked : (s : Setup) (c : client.Client) (p : PlantPort) (path : List Step) (len : ℕ) (name : List ℕ) → steps_of (plant.without_nul name) ≡ Some path
+    → read_write_group s c p (Some ExtendedInfoByName) len name ≡ path_entry_act s.profile.manner p path len
 unfolding read_write_group
-entry_asked c p path len name e = sym (ap (λ o. if_found o (λ f. fixed_reply len (entry_bytes (entry_of_part f)))) (found_by_path p.symbols name path e))
+entry_asked s c p path len name e = sym (ap (λ o. if_found o (λ f. fixed_reply len (entry_bytes (entry_of_part s.profile.manner f)))) (found_by_path p.symbols name path e))
 
 pub entry_unknown : (w : World) (c : client.Client) (p : PlantPort) (len : ℕ) (name out : List ℕ) → steps_of (plant.without_nul name) ≡ None
-    → AnswersAct w (read_write_group c p (Some ExtendedInfoByName) len name) (Err C710) out out
+    → AnswersAct w (read_write_group (setup_of w) c p (Some ExtendedInfoByName) len name) (Err C710) out out
 unfolding read_write_group
 entry_unknown w c p len name out e =
-    refusal_answers w (if_found (found_of p.symbols name) (λ f. fixed_reply len (entry_bytes (entry_of_part f)))) C710 out
-    (sym (ap (λ o. if_found o (λ f. fixed_reply len (entry_bytes (entry_of_part f)))) (found_by_none p.symbols name e)))
+    refusal_answers w (if_found (found_of p.symbols name) (λ f. fixed_reply len (entry_bytes (entry_of_part w.profile.manner f)))) C710 out
+    (sym (ap (λ o. if_found o (λ f. fixed_reply len (entry_bytes (entry_of_part w.profile.manner f)))) (found_by_none p.symbols name e)))
 
 -- answers that are passed on
 
@@ -161,7 +161,7 @@ pub value_passed : (m : PortMemory) (place : Place) (len : ℕ) (name : List ℕ
     → IfOk r (λ answer. (w : World) (p : PlantPort) (named : client.Place) → HoldsPort w p m → IsNamed w p place named
     → AnswersAct w (place_read_act p named len) answer old new)
     → IfOk r (λ answer. (w : World) (c : client.Client) (p : PlantPort) → HoldsPort w p m
-    → AnswersAct w (read_write_group c p (Some ValueByName) len name) answer old new)
+    → AnswersAct w (read_write_group (setup_of w) c p (Some ValueByName) len name) answer old new)
 value_passed m place len name (Ok answer) old new finds h = λ w c p held.
     named_value w c p len name place answer old new (found_of p.symbols name) refl (finds w p held) (λ named t. h w p named held t)
 value_passed m place len name (Err no_memory) old new finds h = h

@@ -12,6 +12,7 @@ use Rattle.spec_plant.specs.AcceptedTypes.{is_shape, is_small_shape, LIMIT}
 use Rattle.spec_plant.specs.Accepted.{size_of_symbol}
 use Rattle.spec_plant.proofs.TypeLemmas.{list_all-get}
 use Rattle.spec_formats.specs.SymbolEntry.{upload_bytes}
+use Rattle.spec_machine.specs.Manner.{Manner}
 use Rattle.spec_machine.specs.Entries.{entry_of_symbol}
 use Rattle.type_upload.proofs.TextLengths.{text-short}
 use Rattle.symbol_table.specs.Tables.{TableSymbol, SymbolTable, declared, is_placed, is_typed, IsTableWith}
@@ -58,16 +59,16 @@ entry_rows types table rows same with_ texts sized k d below =
       short_comment = short.1;
     }
 
-rows-entries : (types : List NamedType) (rows : List SymbolRow)
-    → rows_bytes types rows ≡ upload_bytes (map entry_of_symbol (map (plant_symbol types) (map declared (symbols_of_rows rows))))
-rows-entries types [] = refl
-rows-entries types (r ∷ rows) = ap (λ bs. row_bytes types r ++ bs) (rows-entries types rows)
+rows-entries : (x : Manner) (types : List NamedType) (rows : List SymbolRow)
+    → rows_bytes x types rows ≡ upload_bytes (map (entry_of_symbol x) (map (plant_symbol types) (map declared (symbols_of_rows rows))))
+rows-entries x types [] = refl
+rows-entries x types (r ∷ rows) = ap (λ bs. row_bytes x types r ++ bs) (rows-entries x types rows)
 
 -- the entries of all rows are the upload
-pub rows_are_upload : (types : List NamedType) (table : SymbolTable) (rows : List SymbolRow) → symbols_of_rows rows ≡ table.symbols
-    → rows_bytes types rows ≡ symbols_upload types table
-rows_are_upload types table rows same =
-    rows-entries types rows ∙ ap (λ (ss : List TableSymbol). upload_bytes (map entry_of_symbol (map (plant_symbol types) (map declared ss)))) same
+pub rows_are_upload : (x : Manner) (types : List NamedType) (table : SymbolTable) (rows : List SymbolRow) → symbols_of_rows rows ≡ table.symbols
+    → rows_bytes x types rows ≡ symbols_upload x types table
+rows_are_upload x types table rows same =
+    rows-entries x types rows ∙ ap (λ (ss : List TableSymbol). upload_bytes (map (entry_of_symbol x) (map (plant_symbol types) (map declared ss)))) same
 
 -- what is appended, by another name, and kept where memory sufficed
 pub put_as : (r put : Result (Unit {0}) NoMemory) (old mid new xs ys : List ℕ) → r ≡ put → xs ≡ ys

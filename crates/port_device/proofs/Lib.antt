@@ -37,3 +37,4 @@ pub mod ReloadedImage
 pub mod ReloadedPorts
 mod WritableLemmas
 mod WriteLemmas
+pub mod TypeIds

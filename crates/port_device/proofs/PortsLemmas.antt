@@ -1,10 +1,11 @@
 -- Ports by their numbers, in a plant and among the ports that hold it.
-use Rattle.std.proofs.Common.{◌≡◌, ℕ, zero, suc, ◌<◌, ◌≤◌, List, [], ◌∷◌, length, get_or, cond, refl, sym, ◌∙◌, ap, subst, true, false, arith}
+use Rattle.std.proofs.Common.{◌≡◌, ℕ, zero, suc, ◌<◌, ◌≤◌, List, [], ◌∷◌, map, length, get_or, cond, refl, sym, ◌∙◌, ap, subst, true, false, arith}
 use Rattle.std.specs.Prelude.{Bool, ◌==◌, Option, Some, None, IsSome, IfSome, MatchOption, option_map, slice_get, slice_set}
 use Rattle.std.proofs.lemmas.Option.{slice_get_read, slice_get_past}
 use Rattle.spec_plant.specs.World.{PlantPort}
 use Rattle.spec_plant.specs.Named.{port_numbered}
 use Rattle.spec_machine.specs.World.{World}
+use Rattle.spec_machine.specs.WatchedRanges.{numbers_of}
 use Rattle.port_device.specs.PortMemory.{PortMemory, PortsMemory, memory_numbered, with_numbered, with_port}
 use Rattle.port_device.specs.PlaceOfPort.{place_numbered}
 use Rattle.port_device.specs.Holds.{HoldsPort, HoldEach, HoldsPorts, HoldsFound}
@@ -12,6 +13,14 @@ use Rattle.port_device.specs.Holds.{HoldsPort, HoldEach, HoldsPorts, HoldsFound}
 -- a port and the one that holds it have one number
 pub same_number : (w : World) (p : PlantPort) (m : PortMemory) → HoldsPort w p m → m.number ≡ p.number
 same_number w p m h = h.number ∙ sym (ap (λ (q : PlantPort). q.number) h.plant)
+
+-- ports that hold a plant's have their numbers
+pub held_numbers : (w : World) (ps : List PlantPort) (ms : List PortMemory) → HoldEach w ps ms → map (λ (m : PortMemory). m.number) ms ≡ numbers_of ps
+held_numbers w [] [] h = refl
+held_numbers w [] (m ∷ ms) h = absurd h
+held_numbers w (p ∷ ps) [] h = absurd h
+held_numbers w (p ∷ ps) (m ∷ ms) h =
+    ap (λ n. n ∷ map (λ (x : PortMemory). x.number) ms) (same_number w p m (h.0)) ∙ ap (λ ns. p.number ∷ ns) (held_numbers w ps ms (h.1))
 
 each_found : (w : World) (number : ℕ) (ps : List PlantPort) (ms : List PortMemory) → HoldEach w ps ms
     → HoldsFound w (port_numbered number ps) (memory_numbered number ms)

@@ -8,6 +8,7 @@ use Rattle.spec_plant.specs.World.{plant_symbol}
 use Rattle.spec_plant.specs.Entries.{symbol_entry_length, upload_size}
 use Rattle.spec_formats.specs.SymbolEntry.{SymbolEntry, entry_len, entry_bytes, upload_bytes}
 use Rattle.spec_formats.proofs.EntryLemmas.{length-entry_fields}
+use Rattle.spec_machine.specs.Manner.{Manner}
 use Rattle.spec_machine.specs.Entries.{entry_of_symbol}
 use Rattle.std.specs.Prelude.{Result, Ok, Err, IfOk}
 use Rattle.ads_base.specs.declared.no_memory.NoMemory.{NoMemory}
@@ -15,21 +16,21 @@ use Rattle.spec_plant.specs.Description.{Port}
 use Rattle.symbol_table.specs.Tables.{SymbolTable, table_symbol, table_of, declared}
 use Rattle.symbol_table.specs.Rows.{symbol_of_row, symbols_of_rows, declared_by_rows}
 use Rattle.symbol_table.specs.declared.row.SymbolRow.{SymbolRow}
-use Rattle.port_device.specs.Uploads.{described, symbols_upload}
+use Rattle.port_device.specs.Uploads.{described}
 
 pub length-entry_bytes : (e : SymbolEntry) → length (entry_bytes e) ≡ entry_len e
 length-entry_bytes e = let fields = length-entry_fields e in omega (arith, fields)
 
-length-entry : (types : List NamedType) (s : Symbol) → length (entry_bytes (entry_of_symbol (plant_symbol types s))) ≡ symbol_entry_length types s
-length-entry types s = let e = length-entry_fields (entry_of_symbol (plant_symbol types s)) in omega (arith, e)
+length-entry : (x : Manner) (types : List NamedType) (s : Symbol) → length (entry_bytes (entry_of_symbol x (plant_symbol types s))) ≡ symbol_entry_length types s
+length-entry x types s = let e = length-entry_fields (entry_of_symbol x (plant_symbol types s)) in omega (arith, e)
 
-pub length-upload : (types : List NamedType) (ss : List Symbol)
-    → length (upload_bytes (map entry_of_symbol (map (plant_symbol types) ss))) ≡ upload_size types ss
-length-upload types [] = refl
-length-upload types (s ∷ ss) =
-    let one = length-entry types s in
-    let rest = length-upload types ss in
-    let all = length-append (entry_bytes (entry_of_symbol (plant_symbol types s))) (upload_bytes (map entry_of_symbol (map (plant_symbol types) ss))) in
+pub length-upload : (x : Manner) (types : List NamedType) (ss : List Symbol)
+    → length (upload_bytes (map (entry_of_symbol x) (map (plant_symbol types) ss))) ≡ upload_size types ss
+length-upload x types [] = refl
+length-upload x types (s ∷ ss) =
+    let one = length-entry x types s in
+    let rest = length-upload x types ss in
+    let all = length-append (entry_bytes (entry_of_symbol x (plant_symbol types s))) (upload_bytes (map (entry_of_symbol x) (map (plant_symbol types) ss))) in
     let sum = sum_by-cons (symbol_entry_length types) s ss in
     omega (arith, one, rest, all, sum)
 
@@ -55,7 +56,3 @@ described_symbols types port table same =
 pub counted_as : (r : Result ℕ NoMemory) (m n : ℕ) → m ≡ n → IfOk r (λ size. size ≡ m) → IfOk r (λ size. size ≡ n)
 counted_as (Ok size) m n e h = h ∙ e
 counted_as (Err no_memory) m n e h = h
-
-pub rows_upload : (types : List NamedType) (rows : List SymbolRow) (table : SymbolTable) → symbols_of_rows rows ≡ table.symbols
-    → upload_size types (declared_by_rows rows) ≡ length (symbols_upload types table)
-rows_upload types rows table same = ap (upload_size types) (rows_described rows table same) ∙ sym (length-upload types (described table))

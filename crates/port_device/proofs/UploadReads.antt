@@ -18,6 +18,8 @@ use Rattle.spec_plant.specs.World.{PlantPort}
 use Rattle.spec_formats.specs.Groups.{Group, AreaBytes, AreaBit, AreaSize}
 use Rattle.spec_formats.specs.Groups.{SymbolVersion, SymbolUpload, UploadInfo}
 use Rattle.spec_formats.specs.Groups.{TypeUpload, UploadInfoWithTypes}
+use Rattle.spec_machine.specs.Manner.{Manner}
+use Rattle.spec_plant.specs.Entries.{upload_size}
 use Rattle.spec_machine.specs.World.{World, Setup}
 use Rattle.spec_machine.specs.Client as client
 use Rattle.spec_machine.specs.Reach.{reach_of}
@@ -27,10 +29,10 @@ use Rattle.symbol_table.specs.Tables.{SymbolTable, table_symbol}
 use Rattle.port_device.specs.PortMemory.{PortMemory}
 use Rattle.port_device.specs.Holds.{HoldsPort}
 use Rattle.port_device.specs.Answers.{AnswersAct, IsRefusedRange, range_read_act}
-use Rattle.port_device.specs.Uploads.{upload_group, upload_act, symbols_upload, types_upload}
+use Rattle.port_device.specs.Uploads.{upload_group, upload_act, described, symbols_upload, types_upload}
 use Rattle.port_device.proofs.GroupLemmas.{is_false}
 use Rattle.port_device.proofs.ReadLemmas.{answers_along, read_by_port, read_by_range}
-use Rattle.port_device.proofs.UploadLengths.{described_symbols}
+use Rattle.port_device.proofs.UploadLengths.{described_symbols, length-upload}
 use Rattle.port_device.specs.declared.upload.Upload.{Upload}
 use Rattle.port_device.specs.declared.upload.Upload.TheVariants.{Symbols, SymbolSizes, Types, AllSizes}
 
@@ -94,10 +96,15 @@ fixed_given w len size bytes put old new e h same there =
     (refl, there ∙ ap (λ bs. old ++ bs) (same ∙ sym (append-nil bytes)))
 
 -- the upload of a port's table is that of the plant's port
-pub upload_at_port : (w : World) (p : PlantPort) (m : PortMemory) → HoldsPort w p m → symbols_upload m.types m.table ≡ symbol_upload_of p
-upload_at_port w p m h =
-    ap (λ (ss : List Symbol). upload_bytes (map entry_of_symbol (map (plant_symbol m.types) ss))) (described_symbols m.types h.port m.table h.table.same)
-    ∙ sym (ap (λ (q : PlantPort). upload_bytes (map entry_of_symbol q.symbols)) h.plant)
+pub upload_at_port : (w : World) (p : PlantPort) (m : PortMemory) → HoldsPort w p m → (x : Manner) → symbols_upload x m.types m.table ≡ symbol_upload_of x p
+upload_at_port w p m h x =
+    ap (λ (ss : List Symbol). upload_bytes (map (entry_of_symbol x) (map (plant_symbol m.types) ss))) (described_symbols m.types h.port m.table h.table.same)
+    ∙ sym (ap (λ (q : PlantPort). upload_bytes (map (entry_of_symbol x) q.symbols)) h.plant)
+
+-- its length is that of its symbols' entries
+pub size_at_port : (w : World) (p : PlantPort) (m : PortMemory) → HoldsPort w p m → (x : Manner) (size : ℕ) → size ≡ upload_size m.types (described m.table)
+    → size ≡ length (symbol_upload_of x p)
+size_at_port w p m h x size e = e ∙ sym (length-upload x m.types (described m.table)) ∙ ap length (upload_at_port w p m h x)
 
 -- so many symbols has the plant's port
 pub count_at_port : (w : World) (p : PlantPort) (m : PortMemory) → HoldsPort w p m → length m.table.symbols ≡ length p.symbols
@@ -110,21 +117,21 @@ abbrev pub four_bytes : List ℕ → List ℕ
 four_bytes numbers = flat_map (to_le_bytes w32) numbers
 
 pub sizes_put : (w : World) (p : PlantPort) (m : PortMemory) (count size : ℕ) → HoldsPort w p m → count ≡ length m.table.symbols
-    → size ≡ length (symbols_upload m.types m.table) → four_bytes (count ∷ size ∷ []) ≡ upload_info_of p
+    → size ≡ upload_size m.types (described m.table) → four_bytes (count ∷ size ∷ []) ≡ upload_info_of w.profile.manner p
 sizes_put w p m count size h ec es =
     let counts = ec ∙ count_at_port w p m h in
-    let sizes = es ∙ ap length (upload_at_port w p m h) in
+    let sizes = size_at_port w p m h w.profile.manner size es in
     ap (λ n. four_bytes (n ∷ size ∷ [])) counts ∙ ap (λ n. four_bytes (length p.symbols ∷ n ∷ [])) sizes
 
 pub all_sizes_put : (w : World) (p : PlantPort) (m : PortMemory) (count size named bytes : ℕ) → HoldsPort w p m → count ≡ length m.table.symbols
-    → size ≡ length (symbols_upload m.types m.table) → named ≡ length m.types → bytes ≡ length (types_upload m.types)
-    → four_bytes (count ∷ size ∷ named ∷ bytes ∷ 0 ∷ 0 ∷ []) ≡ upload_info_with_types_of w.plant p
+    → size ≡ upload_size m.types (described m.table) → named ≡ length m.types → bytes ≡ length (types_upload m.types)
+    → four_bytes (count ∷ size ∷ named ∷ bytes ∷ 0 ∷ 0 ∷ []) ≡ upload_info_with_types_of w.profile.manner w.plant p
 all_sizes_put w p m count size named bytes h ec es en eb =
     let counts = ec ∙ count_at_port w p m h in
-    let sizes = es ∙ ap length (upload_at_port w p m h) in
+    let sizes = size_at_port w p m h w.profile.manner size es in
     let types = en ∙ ap (λ (ts : List NamedType). length ts) h.types in
     let own = eb ∙ ap (λ (ts : List NamedType). length (types_upload ts)) h.types in
     ap (λ n. four_bytes (n ∷ size ∷ named ∷ bytes ∷ 0 ∷ 0 ∷ [])) counts
     ∙ ap (λ n. four_bytes (length p.symbols ∷ n ∷ named ∷ bytes ∷ 0 ∷ 0 ∷ [])) sizes
-    ∙ ap (λ n. four_bytes (length p.symbols ∷ length (symbol_upload_of p) ∷ n ∷ bytes ∷ 0 ∷ 0 ∷ [])) types
-    ∙ ap (λ n. four_bytes (length p.symbols ∷ length (symbol_upload_of p) ∷ length w.plant.types ∷ n ∷ 0 ∷ 0 ∷ [])) own
+    ∙ ap (λ n. four_bytes (length p.symbols ∷ length (symbol_upload_of w.profile.manner p) ∷ n ∷ bytes ∷ 0 ∷ 0 ∷ [])) types
+    ∙ ap (λ n. four_bytes (length p.symbols ∷ length (symbol_upload_of w.profile.manner p) ∷ length w.plant.types ∷ n ∷ 0 ∷ 0 ∷ [])) own

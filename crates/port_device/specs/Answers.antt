@@ -23,6 +23,7 @@ use Rattle.spec_machine.specs.Client as client
 use Rattle.spec_machine.specs.NumberedPlaces.{NumberedPlace, is_same_place}
 use Rattle.spec_machine.specs.Acts.{Act, Outcome, fixed_data, outcome_of}
 use Rattle.spec_machine.specs.ByName.{place_of, if_found}
+use Rattle.spec_machine.specs.Manner.{Manner}
 use Rattle.spec_machine.specs.Entries.{entry_of_part}
 use Rattle.spec_formats.specs.SymbolEntry.{entry_bytes}
 use Rattle.spec_machine.specs.Reach.{addressed_by_range, addressed_in_place}
@@ -77,8 +78,8 @@ abbrev pub place_read_act : PlantPort → client.Place → ℕ → Act
 place_read_act p named len = read_act (addressed_in_place p.number named len)
 
 -- the entry of what a path leads to
-abbrev pub path_entry_act : PlantPort → List Step → ℕ → Act
-path_entry_act p path len = if_found (found_of_steps p.symbols path) (λ f. fixed_reply len (entry_bytes (entry_of_part f)))
+abbrev pub path_entry_act : Manner → PlantPort → List Step → ℕ → Act
+path_entry_act manner p path len = if_found (found_of_steps p.symbols path) (λ f. fixed_reply len (entry_bytes (entry_of_part manner f)))
 
 -- the place of what a name leads to; 0x710 where it leads to nothing
 abbrev pub FindsPlace : World → PlantPort → Option Found → Result Place Code → Type 0

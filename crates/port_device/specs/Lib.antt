@@ -2,6 +2,7 @@ pub mod Manners
 pub mod PortMemory
 pub mod Holds
 pub mod Answers
+pub mod Own
 pub mod Endings
 pub mod Changed
 pub mod Groups

@@ -4,7 +4,7 @@ ghost use Rattle.std.specs.Prelude.{◌≡◌, ◌++◌, IfOk, OnOk, OnErr};
 ghost use Rattle.std.specs.Int.{w32, to_le_bytes};
 ghost use Rattle.spec_plant.specs.World.{PlantPort};
 ghost use Rattle.spec_formats.specs.Groups.{group_of, ValueByName, InfoByName};
-ghost use Rattle.spec_machine.specs.World.{World};
+ghost use Rattle.spec_machine.specs.World.{World, setup_of};
 ghost use Rattle.spec_machine.specs.ByName.{read_write_group};
 ghost use Rattle.spec_machine.specs.Client as client;
 ghost use Rattle.index_groups.specs.AreaGroups.{byte_number};
@@ -42,7 +42,7 @@ impl Port {
         out: &mut Octets,
     ) -> Result<Result<(), Code>, NoMemory>
         ensures answer { IfOk result (λ answer. (w : World) (c : client.Client) (p : PlantPort) → HoldsPort w p self.now
-            → AnswersAct w (read_write_group c p (without_handles (group_of group)) len name.now) answer out.old out.new) }
+            → AnswersAct w (read_write_group (setup_of w) c p (without_handles (group_of group)) len name.now) answer out.old out.new) }
         ensures no_memory { OnErr result (out.new ≡ out.old) }
     {
         if is_value_by_name(group) {
@@ -66,7 +66,7 @@ impl Port {
         out: &mut Octets,
     ) -> Result<Result<(), Code>, NoMemory>
         ensures answer { IfOk result (λ answer. (w : World) (c : client.Client) (p : PlantPort) → HoldsPort w p self.now
-            → AnswersAct w (read_write_group c p (Some ValueByName) len name.now) answer out.old out.new) }
+            → AnswersAct w (read_write_group (setup_of w) c p (Some ValueByName) len name.now) answer out.old out.new) }
         ensures no_memory { OnErr result (out.new ≡ out.old) }
     {
         match self.place(name) {
@@ -84,7 +84,7 @@ impl Port {
         out: &mut Octets,
     ) -> Result<Result<(), Code>, NoMemory>
         ensures answer { IfOk result (λ answer. (w : World) (c : client.Client) (p : PlantPort) → HoldsPort w p self.now
-            → AnswersAct w (read_write_group c p (Some InfoByName) len name.now) answer out.old out.new) }
+            → AnswersAct w (read_write_group (setup_of w) c p (Some InfoByName) len name.now) answer out.old out.new) }
         ensures no_memory { OnErr result (out.new ≡ out.old) }
     {
         if len < 12 {

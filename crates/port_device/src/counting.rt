@@ -6,7 +6,7 @@ ghost use Rattle.spec_plant.specs.Entries.{symbol_entry_length, upload_size};
 ghost use Rattle.symbol_table.specs.Rows.{symbol_of_row, declared_by_rows, IsSizedRow};
 ghost use Rattle.symbol_table.specs.Tables.{declared, IsTableWith};
 ghost use Rattle.type_layout.specs.NamedTypes.{types_of};
-ghost use Rattle.port_device.specs.Uploads.{described, symbols_upload, types_upload};
+ghost use Rattle.port_device.specs.Uploads.{described, types_upload};
 
 use ads_base::{NoMemory, Octets};
 use std::alloc::Global;
@@ -18,7 +18,7 @@ use type_upload::put_types;
 pub(crate) fn symbols_size(alloc: Global, types: &Types, table: &Table) -> Result<u32, NoMemory>
     requires table { IsTableWith (types_of types.now) table.now }
     requires few { upload_size (types_of types.now) (described table.now) ≤ 2000000 }
-    ensures { IfOk result (λ size. size ≡ length (symbols_upload (types_of types.now) table.now)) }
+    ensures { IfOk result (λ size. size ≡ upload_size (types_of types.now) (described table.now)) }
 {
     rows_size(alloc, types, table.symbols())
 }

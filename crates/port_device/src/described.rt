@@ -10,7 +10,7 @@ ghost use Rattle.spec_formats.specs.SymbolEntry.{entry_bytes};
 ghost use Rattle.spec_machine.specs.ByName.{read_write_group};
 ghost use Rattle.spec_machine.specs.Client as client;
 ghost use Rattle.spec_machine.specs.Reads.{fixed_reply};
-ghost use Rattle.spec_machine.specs.World.{World};
+ghost use Rattle.spec_machine.specs.World.{World, setup_of};
 ghost use Rattle.symbol_info.specs.Entry.{entry_meant, HasShortTexts};
 ghost use Rattle.symbol_table.specs.FoundPlaces.{Finds};
 ghost use Rattle.symbol_table.specs.Tables.{TableSymbol, IsTableOf};
@@ -18,8 +18,10 @@ ghost use Rattle.type_layout.specs.NamedTypes.{types_of};
 ghost use Rattle.type_layout.specs.Shapes.{shape_of_ref};
 ghost use Rattle.port_device.specs.Answers.{AnswersAct, path_entry_act};
 ghost use Rattle.port_device.specs.Holds.{HoldsPort};
+ghost use Rattle.port_device.specs.Manners.{manner_of};
 ghost use Rattle.port_device.specs.Rows.{entry_at};
 
+use crate::Manner;
 use crate::entries::flags_of;
 use crate::naming::{find_in, without_nul};
 use crate::port::Port;
@@ -46,7 +48,7 @@ impl Port {
         out: &mut Octets,
     ) -> Result<Result<(), Code>, NoMemory>
         ensures answer { IfOk result (λ answer. (w : World) (c : client.Client) (p : PlantPort) → HoldsPort w p self.now
-            → AnswersAct w (read_write_group c p (Some ExtendedInfoByName) len name.now) answer out.old out.new) }
+            → AnswersAct w (read_write_group (setup_of w) c p (Some ExtendedInfoByName) len name.now) answer out.old out.new) }
         ensures no_memory { OnErr result (out.new ≡ out.old) }
     {
         match Path::read(without_nul(name)) {
@@ -63,7 +65,7 @@ impl Port {
         out: &mut Octets,
     ) -> Result<Result<(), Code>, NoMemory>
         ensures answer { IfOk result (λ answer. (w : World) (p : PlantPort) → HoldsPort w p self.now
-            → AnswersAct w (path_entry_act p path.now len) answer out.old out.new) }
+            → AnswersAct w (path_entry_act w.profile.manner p path.now len) answer out.old out.new) }
         ensures no_memory { OnErr result (out.new ≡ out.old) }
     {
         match find_in::<Brand>(&self.table, &self.types, path, Blank::new(1)) {
@@ -85,7 +87,7 @@ impl Port {
             → Finds self.now.types (map (plant_symbol self.now.types) port.symbols)
             (found_of_steps (map (plant_symbol self.now.types) port.symbols) path.now) (Some found.now) }
         ensures answer { IfOk result (λ answer. (w : World) (p : PlantPort) → HoldsPort w p self.now
-            → AnswersAct w (path_entry_act p path.now len) answer out.old out.new) }
+            → AnswersAct w (path_entry_act w.profile.manner p path.now len) answer out.old out.new) }
         ensures no_memory { OnErr result (out.new ≡ out.old) }
     {
         let mut name = Octets::new(alloc);
@@ -94,6 +96,7 @@ impl Port {
         let mut kind = Octets::new(alloc);
         type_text(alloc, &self.types, found.kind, &mut kind)?;
         let entry = entry_at(
+            self.manner,
             &self.table,
             &self.types,
             found.place,
@@ -108,6 +111,7 @@ impl Port {
 
 // What an entry tells of a part at a place, with the type of the part and the three texts.
 fn entry_at<'a>(
+    manner: Manner,
     table: &Table,
     types: &Types,
     place: Place,
@@ -120,14 +124,14 @@ fn entry_at<'a>(
     requires sized { IsSized (types_of types.now) (shape_of_ref t) }
     requires there { place.symbol < length table.now.symbols }
     ensures { (s : TableSymbol) → slice_get table.now.symbols place.symbol ≡ Some s
-        → entry_meant result ≡ entry_at (types_of types.now) s place (shape_of_ref t.entry) name.now kind.now comment.now }
+        → entry_meant result ≡ entry_at (manner_of manner) (types_of types.now) s place (shape_of_ref t.entry) name.now kind.now comment.now }
 {
     let row = &table.symbols()[place.symbol as usize];
     Entry {
         group: byte_group(place.area),
         offset: place.at,
         size: place.len,
-        type_id: type_id(types, t),
+        type_id: type_id(manner, types, t),
         flags: flags_of(row.persistent, row.read_only),
         name,
         kind,

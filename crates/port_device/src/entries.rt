@@ -13,9 +13,11 @@ ghost use Rattle.symbol_table.specs.Tables.{declared, IsTableWith};
 ghost use Rattle.type_layout.specs.NamedTypes.{types_of};
 ghost use Rattle.type_layout.specs.Shapes.{shape_of};
 ghost use Rattle.type_layout.specs.Spelled.{Extends};
+ghost use Rattle.port_device.specs.Manners.{manner_of};
 ghost use Rattle.port_device.specs.Uploads.{symbols_upload, has_short_texts};
 ghost use Rattle.port_device.specs.Rows.{rows_bytes, row_bytes, IsEntryRow};
 
+use crate::Manner;
 use crate::type_ids::type_id;
 use ads_base::{NoMemory, Octets};
 use index_groups::byte_group;
@@ -28,35 +30,37 @@ use type_layout::{Types, type_text};
 /// built with.
 pub(crate) fn put_symbols(
     alloc: Global,
+    manner: Manner,
     types: &Types,
     table: &Table,
     out: &mut Octets,
 ) -> Result<(), NoMemory>
     requires table { IsTableWith (types_of types.now) table.now }
     requires texts { IsTrue (list_all has_short_texts table.now.symbols) }
-    ensures ok { OnOk result (out.new ≡ out.old ++ symbols_upload (types_of types.now) table.now) }
+    ensures ok { OnOk result (out.new ≡ out.old ++ symbols_upload (manner_of manner) (types_of types.now) table.now) }
     ensures no_memory { OnErr result (out.new ≡ out.old) }
 {
     let before = out.len();
-    let put = append_rows(alloc, types, table.symbols(), out);
+    let put = append_rows(alloc, manner, types, table.symbols(), out);
     out.cut_back(before, put)
 }
 
 // After want of memory a part of the entries may stand there.
 fn append_rows(
     alloc: Global,
+    manner: Manner,
     types: &Types,
     rows: &[SymbolRow],
     out: &mut Octets,
 ) -> Result<(), NoMemory>
     requires types { AreTypes (types_of types.now) }
     requires rows { All (IsEntryRow (types_of types.now)) rows.now }
-    ensures ok { OnOk result (out.new ≡ out.old ++ rows_bytes (types_of types.now) rows.now) }
+    ensures ok { OnOk result (out.new ≡ out.old ++ rows_bytes (manner_of manner) (types_of types.now) rows.now) }
     ensures no_memory { OnErr result (Extends out.old out.new) }
 {
     let mut text = Octets::new(alloc);
     for row in rows {
-        append_row(alloc, types, row, &mut text, out)?;
+        append_row(alloc, manner, types, row, &mut text, out)?;
     }
     Ok(())
 }
@@ -65,6 +69,7 @@ fn append_rows(
 #[tactic(auto, using(type_upload::proofs::LayoutLemmas::names_are_there))]
 fn append_row(
     alloc: Global,
+    manner: Manner,
     types: &Types,
     row: &SymbolRow,
     text: &mut Octets,
@@ -72,26 +77,31 @@ fn append_row(
 ) -> Result<(), NoMemory>
     requires types { AreTypes (types_of types.now) }
     requires row { IsEntryRow (types_of types.now) row.now }
-    ensures ok { OnOk result (out.new ≡ out.old ++ row_bytes (types_of types.now) row.now) }
+    ensures ok { OnOk result (out.new ≡ out.old ++ row_bytes (manner_of manner) (types_of types.now) row.now) }
     ensures no_memory { OnErr result (out.new ≡ out.old) }
 {
     text.cut(0);
     type_text(alloc, types, row.kind.as_ref(), text)?;
-    let entry = entry_of_row(types, row, text.as_slice());
+    let entry = entry_of_row(manner, types, row, text.as_slice());
     put_entry(alloc, &entry, out)
 }
 
-fn entry_of_row<'a>(types: &Types, row: &'a SymbolRow, text: &'a [u8]) -> Entry<'a>
+fn entry_of_row<'a>(
+    manner: Manner,
+    types: &Types,
+    row: &'a SymbolRow,
+    text: &'a [u8],
+) -> Entry<'a>
     requires types { AreTypes (types_of types.now) }
     requires row { IsEntryRow (types_of types.now) row.now }
     requires text { text.now ≡ type_text (tree_of (types_of types.now) (shape_of row.now.kind)) }
-    ensures { entry_meant result ≡ entry_of_symbol (plant_symbol (types_of types.now) (declared (symbol_of_row row.now))) }
+    ensures { entry_meant result ≡ entry_of_symbol (manner_of manner) (plant_symbol (types_of types.now) (declared (symbol_of_row row.now))) }
 {
     Entry {
         group: byte_group(row.area),
         offset: row.at,
         size: row.len,
-        type_id: type_id(types, row.kind.as_ref()),
+        type_id: type_id(manner, types, row.kind.as_ref()),
         flags: flags_of(row.persistent, row.read_only),
         name: row.name.as_slice(),
         kind: text,

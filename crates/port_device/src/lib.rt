@@ -17,6 +17,7 @@ mod manner;
 mod marks;
 mod moving;
 mod naming;
+mod own;
 mod persistent;
 mod persists;
 mod port;
@@ -32,6 +33,7 @@ mod writing;
 
 pub use group::{Group, group_named};
 pub use manner::Manner;
+pub use own::states_range;
 pub use port::Port;
 pub use ports::Ports;
 pub use writing::{RUN, STOP};

@@ -1,13 +1,14 @@
 //! All ports of a plant.
 
-ghost use Rattle.std.specs.Prelude.{◌≡◌, ◌==◌, List, Option, option_map, IfOk};
+ghost use Rattle.std.specs.Prelude.{◌≡◌, ◌==◌, List, map, Option, option_map, IfOk};
 ghost use Rattle.std.specs.Option.{option_copied};
 ghost use Rattle.std.specs.Borrow.{sem};
 ghost use Rattle.signals.specs.Wave.{Wave};
 ghost use Rattle.spec_plant.specs.Description.{Rights};
 ghost use Rattle.type_layout.specs.Descriptions.{description_of};
-ghost use Rattle.spec_machine.specs.World.{world_of, world_in};
-ghost use Rattle.port_device.specs.PortMemory.{memory_numbered};
+ghost use Rattle.spec_machine.specs.World.{World, world_of, world_in};
+ghost use Rattle.spec_machine.specs.WatchedRanges.{numbers_of};
+ghost use Rattle.port_device.specs.PortMemory.{PortMemory, memory_numbered};
 ghost use Rattle.port_device.specs.Holds.{HoldsPorts, MayBeBuilt};
 ghost use Rattle.port_device.specs.PlaceOfPort.{place_numbered};
 ghost use Rattle.port_device.specs.Manners.{manner_of};
@@ -84,6 +85,13 @@ impl Ports {
         self.version
     }
 
+    /// The numbers of the ports, in their order.
+    pub fn numbers(&self, alloc: Global) -> Result<Vec<u16>, NoMemory>
+        ensures { IfOk result (λ numbers. (w : World) → HoldsPorts w self.now → numbers.items ≡ numbers_of w.plant.ports) }
+    {
+        numbers_in(alloc, self.ports.as_slice())
+    }
+
     /// The port with a number.
     pub fn find(&self, port: u16) -> Option<&Port>
         ensures { option_copied result ≡ memory_numbered port self.now.ports }
@@ -111,6 +119,22 @@ fn place_of(ports: &[Port], ams_port: u16) -> usize
         }
     }
     ports.len()
+}
+
+fn numbers_in(alloc: Global, ports: &[Port]) -> Result<Vec<u16>, NoMemory>
+    ensures { IfOk result (λ numbers. numbers.items ≡ map (λ (m : PortMemory). m.number) ports.now) }
+{
+    let mut numbers = Vec::new(alloc);
+    for port in ports {
+        numbers.push(number_of(port))?;
+    }
+    Ok(numbers)
+}
+
+fn number_of(port: &Port) -> u16
+    ensures { result ≡ port.now.number }
+{
+    port.ams_port
 }
 
 fn has_number(port: &Port, ams_port: u16) -> bool

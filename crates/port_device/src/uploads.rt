@@ -52,13 +52,13 @@ impl Port {
         out: &mut Octets,
     ) -> Result<Result<(), Code>, NoMemory>
         ensures answer { IfOk result (λ answer. (w : World) (p : PlantPort) → HoldsPort w p self.now
-            → AnswersAct w (fixed_reply len (symbol_upload_of p)) answer out.old out.new) }
+            → AnswersAct w (fixed_reply len (symbol_upload_of w.profile.manner p)) answer out.old out.new) }
         ensures no_memory { OnErr result (out.new ≡ out.old) }
     {
         if len < self.uploads.symbols {
             return Ok(Err(Code::C705));
         }
-        put_symbols(alloc, &self.types, &self.table, out)?;
+        put_symbols(alloc, self.manner, &self.types, &self.table, out)?;
         Ok(Ok(()))
     }
 
@@ -88,7 +88,7 @@ impl Port {
         out: &mut Octets,
     ) -> Result<Result<(), Code>, NoMemory>
         ensures answer { IfOk result (λ answer. (w : World) (p : PlantPort) → HoldsPort w p self.now
-            → AnswersAct w (fixed_reply len (upload_info_of p)) answer out.old out.new) }
+            → AnswersAct w (fixed_reply len (upload_info_of w.profile.manner p)) answer out.old out.new) }
         ensures no_memory { OnErr result (out.new ≡ out.old) }
     {
         if len < 8 {
@@ -106,7 +106,7 @@ impl Port {
         out: &mut Octets,
     ) -> Result<Result<(), Code>, NoMemory>
         ensures answer { IfOk result (λ answer. (w : World) (p : PlantPort) → HoldsPort w p self.now
-            → AnswersAct w (fixed_reply len (upload_info_with_types_of w.plant p)) answer out.old out.new) }
+            → AnswersAct w (fixed_reply len (upload_info_with_types_of w.profile.manner w.plant p)) answer out.old out.new) }
         ensures no_memory { OnErr result (out.new ≡ out.old) }
     {
         if len < 24 {

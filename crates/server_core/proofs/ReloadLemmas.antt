@@ -47,6 +47,7 @@ use Rattle.server_core.specs.HoldsWorld.{HoldsState}
 use Rattle.server_core.specs.Outcomes.{fault_of, outcome_of, TakesEvent}
 use Rattle.server_core.specs.Reloading.{Refuses, reloaded, Exchanges, Accepts}
 use Rattle.server_core.specs.Served.{served, World, ServedConnection, ServedState}
+use Rattle.spec_machine.specs.WatchedRanges.{numbers_of}
 use Rattle.session.specs.Reloading.{AreMoves, IsReloadable}
 use Rattle.server_core.specs.ServerView.{ServerView, view_of}
 use Rattle.server_core.specs.Serves.{EachStands, StandsEach, ServesEach, ServesSome, IsServing, FollowsEach}
@@ -156,34 +157,41 @@ accepts_takes old new waves text answer d outcome is verdict accepts some = reco
         (accepts.follows waves x s)
 
 -- each session that is not closing can be told of the moves to another world
-told_each : (w z : World) (moves : List KeptPlace) (ts : List Turned) (es : List (ℕ × Waiting)) (ps : List ServedConnection)
-    → AreMoves w.plant z.plant moves → length ts ≡ length es
-    → EachStands w.plant (conns_of ts es) ps → All (λ (t : Turned). t.skip ≡ false → IsReloadable moves t.session) ts
-told_each w z moves [] es ps moved e each = λ k d below. absurd (omega (arith, below))
-told_each w z moves (t ∷ ts) [] ps moved e each = absurd (omega (arith, e))
-told_each w z moves (t ∷ ts) (f ∷ fs) [] moved e each = absurd each
-told_each w z moves (t ∷ ts) (f ∷ fs) (p ∷ ps) moved e each =
-    all_cons (λ (t : Turned). t.skip ≡ false → IsReloadable moves t.session) t ts
+told_each : (w z : World) (moves : List KeptPlace) (numbers : List ℕ) (ts : List Turned) (es : List (ℕ × Waiting)) (ps : List ServedConnection)
+    → AreMoves w.plant z.plant moves numbers → length ts ≡ length es
+    → EachStands w.plant (conns_of ts es) ps → All (λ (t : Turned). t.skip ≡ false → IsReloadable moves numbers t.session) ts
+told_each w z moves numbers [] es ps moved e each = λ k d below. absurd (omega (arith, below))
+told_each w z moves numbers (t ∷ ts) [] ps moved e each = absurd (omega (arith, e))
+told_each w z moves numbers (t ∷ ts) (f ∷ fs) [] moved e each = absurd each
+told_each w z moves numbers (t ∷ ts) (f ∷ fs) (p ∷ ps) moved e each =
+    all_cons (λ (t : Turned). t.skip ≡ false → IsReloadable moves numbers t.session) t ts
     (λ open_. record { old = w.plant; new = z.plant; client = p.client; moved = moved; stands = each.0.client (sym each.0.closing ∙ open_) })
-    (told_each w z moves ts fs ps moved (omega (arith, e)) each.1)
+    (told_each w z moves numbers ts fs ps moved (omega (arith, e)) each.1)
 
 -- the moves between what old and new ports hold
-pub moved_between : (w z : World) (old new : PortsMemory) (moves : List KeptPlace) → HoldsPorts w old → HoldsPorts z new
-    → ((a b : World) → HoldsPorts a old → HoldsPorts b new → AreKeptSymbols a.plant b.plant (kept_symbols_of moves)) → AreMoves w.plant z.plant moves
-moved_between w z old new moves held held_new kept = record { old_sound = held.plant_sound; new_sound = held_new.plant_sound; kept = kept w z held held_new }
+pub moved_between : (w z : World) (old new : PortsMemory) (moves : List KeptPlace) (numbers : List ℕ) → HoldsPorts w old → HoldsPorts z new
+    → ((a b : World) → HoldsPorts a old → HoldsPorts b new → AreKeptSymbols a.plant b.plant (kept_symbols_of moves))
+    → ((b : World) → HoldsPorts b new → numbers ≡ numbers_of b.plant.ports) → AreMoves w.plant z.plant moves numbers
+moved_between w z old new moves numbers held held_new kept are = record {
+  old_sound = held.plant_sound;
+  new_sound = held_new.plant_sound;
+  kept = kept w z held held_new;
+  ports_are = are z held_new;
+}
 
-pub can_tell : (v : ServerView) (ports : PortsMemory) (moves : List KeptPlace) (d : Description) (ts : List Turned) → IsServing v
+pub can_tell : (v : ServerView) (ports : PortsMemory) (moves : List KeptPlace) (numbers : List ℕ) (d : Description) (ts : List Turned) → IsServing v
     → ((w : World) → HoldsPorts w v.device.ports → HoldsPorts (world_after_reload w d) ports)
-    → ((a b : World) → HoldsPorts a v.device.ports → HoldsPorts b ports → AreKeptSymbols a.plant b.plant (kept_symbols_of moves)) → ts ≡ v.sessions
-    → All (λ (t : Turned). t.skip ≡ false → IsReloadable moves t.session) ts
-can_tell v ports moves d ts serving reloads kept same =
+    → ((a b : World) → HoldsPorts a v.device.ports → HoldsPorts b ports → AreKeptSymbols a.plant b.plant (kept_symbols_of moves))
+    → ((b : World) → HoldsPorts b ports → numbers ≡ numbers_of b.plant.ports) → ts ≡ v.sessions
+    → All (λ (t : Turned). t.skip ≡ false → IsReloadable moves numbers t.session) ts
+can_tell v ports moves numbers d ts serving reloads kept are same =
     let x = serving.some.state in
     let s = serving.some.serves in
     let w = x.state.world in
     let z = world_after_reload w d in
-    subst (λ (us : List Turned). All (λ (t : Turned). t.skip ≡ false → IsReloadable moves t.session) us) (sym same)
-    (told_each w z moves v.sessions v.entries (present x.state.connections)
-    (moved_between w z v.device.ports ports moves s.device.world.ports (reloads w s.device.world.ports) kept)
+    subst (λ (us : List Turned). All (λ (t : Turned). t.skip ≡ false → IsReloadable moves numbers t.session) us) (sym same)
+    (told_each w z moves numbers v.sessions v.entries (present x.state.connections)
+    (moved_between w z v.device.ports ports moves numbers s.device.world.ports (reloads w s.device.world.ports) kept are)
     s.aligned s.connections.each)
 
 -- the plant of a description, the profile and the signals as before

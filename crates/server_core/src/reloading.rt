@@ -53,11 +53,19 @@ impl Server {
     {
         let ports = self.device.ports.reload(alloc, d)?;
         let moves = self.device.ports.moves(alloc, &ports)?;
+        let numbers = ports.numbers(alloc)?;
         let others = self.device.admission.others();
         let admission = Admission::build(alloc, &d.routes, others)?;
         self.clients.touched = Touched::All;
         let sessions = self.clients.sessions.as_mut_slice();
-        tell_all(alloc, sessions, &moves, self.device.net, self.device.moment)?;
+        tell_all(
+            alloc,
+            sessions,
+            &moves,
+            numbers.as_slice(),
+            self.device.net,
+            self.device.moment,
+        )?;
         let version = ports.version();
         self.device = Device {
             net: d.net,

@@ -10,14 +10,14 @@ use Rattle.spec_formats.specs.Codes.{symbol_not_found, no_more_notifications, wa
 use Rattle.spec_formats.specs.Codes.{notification_handle_invalid}
 use Rattle.spec_formats.specs.Numbers.{number32}
 use Rattle.spec_formats.specs.Groups.{Group, AreaBytes, AreaBit, ValueByHandle, ReleaseHandle, HandleByName, SumRead, SumWrite, SumReadWrite}
-use Rattle.spec_formats.specs.Ranges.{Range, Bytes, Bit, Size, range_in}
+use Rattle.spec_formats.specs.Ranges.{Range, Bytes, Bit, Size, range_in, greatest_len}
 use Rattle.spec_formats.specs.Request.{Request, ReadDeviceInfo, Read, Write, ReadState, WriteControl}
 use Rattle.spec_formats.specs.Request.{AddDeviceNotification, DeleteDeviceNotification, DeviceNotification}
 use Rattle.spec_formats.specs.Request.{ReadWrite}
 use Rattle.spec_machine.specs.World.{Setup, numbers_from, state_names, state_bytes, RUN, STOP}
 use Rattle.spec_machine.specs.Access.{Addressed, WholeByte, addressed_name, Put, puts_of}
-use Rattle.spec_machine.specs.Acts.{Act, Refusal, Allowed, writing, changing}
-use Rattle.spec_machine.specs.Reads.{read_group}
+use Rattle.spec_machine.specs.Acts.{Act, Refusal, Allowed, fixed_data, writing, changing}
+use Rattle.spec_machine.specs.Reads.{fixed_reply, read_act, read_group}
 use Rattle.std.specs.Int.{w32, to_le_bytes}
 use Rattle.port_device.specs.Groups.{without_handles}
 use Rattle.spec_machine.specs.Answers.{answered_group, READ, WRITE, ADD_DEVICE_NOTIFICATION, READ_WRITE}
@@ -27,8 +27,13 @@ use Rattle.spec_machine.specs.Watches.{Mode}
 use Rattle.spec_machine.specs.Client.{Client, Place, names_of_place, Grants, Releases, Adds, Deletes}
 use Rattle.spec_machine.specs.Handles.{HandleStatus, Never, Released, Outdated, Live, kept_status, live_count}
 use Rattle.spec_machine.specs.Reach.{addressed_by_range, addressed_by_status, addressed_in_place, reach_of}
-use Rattle.spec_machine.specs.Meanings.{meant_by}
-use Rattle.spec_machine.specs.Requests.{MAX_WATCHED, MAX_WATCHES, mode_of, next_watch, add_watch, add_reached, add_act}
+use Rattle.spec_machine.specs.Meanings.{up_to_nul, meant_by}
+use Rattle.spec_machine.specs.TypesByText.{tree_of_text, entry_by_type}
+use Rattle.spec_machine.specs.MoreActs.{if_type, type_act, states_reach, version_reach}
+use Rattle.spec_machine.proofs.MoreActs.{act-cases}
+use Rattle.spec_plant.specs.Trees.{TypeTree}
+use Rattle.spec_formats.specs.TypeEntry.{type_upload_bytes}
+use Rattle.spec_machine.specs.Requests.{MAX_WATCHED, MAX_WATCHES, mode_of, next_watch, add_watch, add_reached, add_of_reach, add_act}
 use Rattle.spec_machine.specs.Requests.{is_watch_of, delete_act, plain_act, act_of}
 use Rattle.spec_machine.specs.Sums.{SumRequest, sum_of_reads, sum_of_writes, sum_of_read_writes, given_in_turn}
 use Rattle.spec_machine.specs.MoreSums.{more_sums}
@@ -38,7 +43,7 @@ use Rattle.spec_machine.specs.Writes.{Asker, may_write, may_control, are_writabl
 use Rattle.spec_machine.proofs.AreaNames.{names_are_of_areas}
 use Rattle.spec_machine.proofs.WorldBytes.{areas_are_at_their_ports}
 use Rattle.session.proofs.GrantLemmas.{IsIdle, port-idle}
-use Rattle.session.proofs.SingleLemmas.{read-idle}
+use Rattle.session.proofs.SingleLemmas.{reached-idle, read-idle}
 use Rattle.session.proofs.OtherPorts.{PutsAt, PutAllAt}
 
 puts-at : (port : ℕ) (places : List Addressed) (values : List ℕ) → AreAtPort port places
@@ -151,11 +156,10 @@ reached-nothing c k mode len cycle (Ok watched) =
     (if-nothing (nat_le MAX_WATCHES (length c.watches) || nat_le MAX_NUMBER c.additions) (Refusal no_more_notifications)
     (let w = next_watch c k mode cycle watched in changing (to_le_bytes w32 w.handle) (Adds w)) tt refl)
 
-add-nothing : (c : Client) (k : Asker) (g : Option Group) (offset len cycle : ℕ) (mode : Option Mode) → WritesNothing (add_act c k g offset len cycle mode)
-add-nothing c k g offset len cycle None = tt
-add-nothing c k g offset len cycle (Some mode) =
-    if-nothing (nat_lt MAX_WATCHED len) (Refusal watch_too_big) (add_reached c k mode len cycle (reach_of c k.port g offset len)) tt
-    (reached-nothing c k mode len cycle (reach_of c k.port g offset len))
+add-nothing : (c : Client) (k : Asker) (len cycle : ℕ) (mode : Option Mode) (r : Result (List Addressed) ℕ) → WritesNothing (add_of_reach c k len cycle mode r)
+add-nothing c k len cycle None r = tt
+add-nothing c k len cycle (Some mode) r =
+    if-nothing (nat_lt MAX_WATCHED len) (Refusal watch_too_big) (add_reached c k mode len cycle r) tt (reached-nothing c k mode len cycle r)
 
 delete-nothing : (c : Client) (k : Asker) (handle : ℕ) → WritesNothing (delete_act c k handle)
 delete-nothing c k handle =
@@ -187,16 +191,37 @@ plain-at d c k ReadState = tt
 plain-at d c k (WriteControl ads device bytes) = control-at k ads device
 plain-at d c k (AddDeviceNotification group offset len mode delay cycle) =
     nothing-at k.port.number (add_act c k (answered_group ADD_DEVICE_NOTIFICATION group) offset len cycle (mode_of mode))
-    (add-nothing c k (answered_group ADD_DEVICE_NOTIFICATION group) offset len cycle (mode_of mode))
+    (add-nothing c k len cycle (mode_of mode) (reach_of c k.port (answered_group ADD_DEVICE_NOTIFICATION group) offset len))
 plain-at d c k (DeleteDeviceNotification handle) = nothing-at k.port.number (delete_act c k handle) (delete-nothing c k handle)
 plain-at d c k (DeviceNotification bytes) = tt
 plain-at d c k (ReadWrite group offset len bytes) =
     nothing-at k.port.number (read_write_group c k.port (answered_group READ_WRITE group) len bytes)
     (named-nothing c k.port (answered_group READ_WRITE group) len bytes)
 
+type-nothing : (len : ℕ) (o : Option TypeTree) → WritesNothing (if_type o len)
+type-nothing len None = tt
+type-nothing len (Some tree) =
+    let bytes = type_upload_bytes (entry_by_type tree ∷ []) in
+    if-nothing (nat_lt greatest_len (length bytes)) (Refusal invalid_size) (fixed_reply len bytes) tt
+    (if-nothing (nat_lt len (length bytes)) (Refusal invalid_size) (fixed_data bytes) tt refl)
+
 pub act-at : (d : Setup) (c : Client) (k : Asker) (r : Request) → PutsAt k.port.number (act_of d c k r)
-unfolding act_of
-act-at d c k r = plain-at d c k (meant_by d.profile c k.port r)
+act-at d c k r =
+    act-cases d c k (PutsAt k.port.number)
+    (record {
+      states = λ offset len.
+          nothing-at k.port.number (read_act (states_reach k.port.number offset len))
+          (idle-nothing (read_act (states_reach k.port.number offset len)) (reached-idle (states_reach k.port.number offset len)));
+      watched_states = λ offset len cycle mode.
+          nothing-at k.port.number (add_of_reach c k len cycle mode (states_reach k.port.number offset len))
+          (add-nothing c k len cycle mode (states_reach k.port.number offset len));
+      watched_version = λ len cycle mode.
+          nothing-at k.port.number (add_of_reach c k len cycle mode (version_reach k.port.number len))
+          (add-nothing c k len cycle mode (version_reach k.port.number len));
+      types = λ len bytes.
+          nothing-at k.port.number (type_act d.plant len bytes) (type-nothing len (tree_of_text d.plant.types (up_to_nul bytes)));
+    })
+    r (plain-at d c k (meant_by d.profile c k.port r))
 
 -- and so do the acts of parts
 pub acts-at : (d : Setup) (c : Client) (k : Asker) (rs : List Request) → PutAllAt k.port.number (acts_of d c k rs)

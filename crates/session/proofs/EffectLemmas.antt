@@ -23,7 +23,7 @@ use Rattle.port_device.specs.Groups.{without_handles}
 use Rattle.session.specs.Asking.{Asking, act_asked}
 use Rattle.session.specs.Single.{SameNotes}
 use Rattle.session.proofs.GrantLemmas.{IsIdle, port-idle}
-use Rattle.session.proofs.SingleLemmas.{read-idle}
+use Rattle.session.proofs.SingleLemmas.{read-act-idle}
 use Rattle.session.proofs.WriteLemmas.{permitted-quiet}
 
 -- of the handles alone, if of anything
@@ -54,9 +54,7 @@ permitted-effect : (k : Asker) (b : Bool) (bytes : List ℕ) (r : Result (List A
 permitted-effect k b bytes r = subst IsOfHandles (sym (permitted-quiet k b bytes r)) tt
 
 pub read-effect : (a : Asking) (group offset len : ℕ) → IsOfHandles (effect_of (act_asked a (Read group offset len)))
-unfolding act_of plain_act
-read-effect a group offset len =
-    idle-effect (act_asked a (Read group offset len)) (read-idle (setup_of a.world) a.client a.asker.port (answered_group _ group) offset _)
+read-effect a group offset len = idle-effect (act_asked a (Read group offset len)) (read-act-idle a group offset len)
 
 release-effect : (c : Client) (p : PlantPort) (bytes : List ℕ) → IsOfHandles (effect_of (release_act c p bytes))
 release-effect c p bytes = go (length bytes == 4) (is_releasable (kept_status c.handles (number32 0 bytes) p.number))

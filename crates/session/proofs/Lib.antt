@@ -2,6 +2,7 @@ pub mod LookLemmas
 pub mod ValueLemmas
 pub mod PortsKept
 pub mod MeaningLemmas
+pub mod OwnLemmas
 pub mod ReadLemmas
 pub mod HandleChanges
 pub mod WriteLemmas

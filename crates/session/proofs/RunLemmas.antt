@@ -31,7 +31,7 @@ use Rattle.spec_machine.specs.Sums.{given_in_turn}
 use Rattle.spec_machine.specs.SumPackets.{acts_of, decide_single, decide_read_write, decide_more, decide_request}
 use Rattle.spec_machine.specs.Writes.{Asker, may_control, control_act}
 use Rattle.spec_machine.specs.HandleLaws.{AgreeingWatches}
-use Rattle.spec_machine.specs.WatchedRanges.{is_same_range}
+use Rattle.spec_machine.specs.WatchedRanges.{is_same_watched}
 use Rattle.spec_machine.proofs.PortBytesLemmas.{reads_states}
 use Rattle.sum_commands.specs.Parts.{code_in}
 use Rattle.port_device.specs.PortMemory.{PortMemory}
@@ -60,9 +60,9 @@ pub rejoin : (a b : Asking) (m m' : PortMemory) (s s' : SessionState) → AsksSe
     → b.world.plant ≡ a.world.plant → s'.watches ≡ s.watches → AsksSession b m' s'
 rejoin a b m m' s s' h asks same plant_is watches_are =
     let own = h.stands in
-    let W : List PlantPort → Type 0 = λ ports. AgreeingWatches (is_same_range ports) a.client.watches s.watches.watches in
-    let V : List (Watch (List Addressed)) → Type 0 = λ ws. AgreeingWatches (is_same_range b.world.plant.ports) ws s.watches.watches in
-    let T : WatchTable → Type 0 = λ t. AgreeingWatches (is_same_range b.world.plant.ports) b.client.watches t.watches in
+    let W : List PlantPort → Type 0 = λ ports. AgreeingWatches (is_same_watched ports) a.client.watches s.watches.watches in
+    let V : List (Watch (List Addressed)) → Type 0 = λ ws. AgreeingWatches (is_same_watched b.world.plant.ports) ws s.watches.watches in
+    let T : WatchTable → Type 0 = λ t. AgreeingWatches (is_same_watched b.world.plant.ports) b.client.watches t.watches in
     record {
       held = asks.held;
       stands = record {

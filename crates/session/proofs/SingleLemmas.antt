@@ -79,7 +79,7 @@ if-idle false act idle = idle
 fixed-idle : (len : ℕ) (bytes : List ℕ) → IsIdle (fixed_reply len bytes)
 fixed-idle len bytes = if-idle (nat_lt len (length bytes)) (fixed_data bytes) (refl, refl)
 
-reached-idle : (r : Result (List Addressed) ℕ) → IsIdle (read_act r)
+pub reached-idle : (r : Result (List Addressed) ℕ) → IsIdle (read_act r)
 reached-idle (Err code) = tt
 reached-idle (Ok places) = (refl, refl)
 
@@ -94,11 +94,18 @@ read-idle d c p (Some TypeUpload) offset len =
 read-idle d c p (Some UploadInfoWithTypes) offset len = fixed-idle len (upload_info_with_types_of d.plant p)
 read-idle d c p g offset len = reached-idle (reach_of c p g offset len)
 
-pub read-leaves : (a : Asking) (group offset len : ℕ) (m : PortMemory) (kept : Kept) → Asks a m kept → Asks (asking_after a (Read group offset len)) m kept
+pub read-act-idle : (a : Asking) (group offset len : ℕ) → IsIdle (act_asked a (Read group offset len))
 unfolding act_of plain_act
+read-act-idle a group offset len =
+    let d = setup_of a.world in
+    let meant = read_len_in d.profile.manner a.client a.asker.port (answered_group READ group) offset len in
+    of_more IsIdle (more_read d.profile.manner a.asker.port.number group offset len) (read_group d a.client a.asker.port (answered_group READ group) offset meant)
+    (read-more IsIdle d.profile.manner a.asker.port.number group offset len (reached-idle (states_reach a.asker.port.number offset len)))
+    (read-idle d a.client a.asker.port (answered_group READ group) offset meant)
+
+pub read-leaves : (a : Asking) (group offset len : ℕ) (m : PortMemory) (kept : Kept) → Asks a m kept → Asks (asking_after a (Read group offset len)) m kept
 read-leaves a group offset len m kept asks =
-    idle-leaves a (act_asked a (Read group offset len)) m kept
-    (read-idle (setup_of a.world) a.client a.asker.port (answered_group _ group) offset _) asks
+    idle-leaves a (act_asked a (Read group offset len)) m kept (read-act-idle a group offset len) asks
 
 -- only bytes are others, twice
 pub keeps-both : (first second third : PortMemory) → KeepsDescription first second → KeepsDescription second third → KeepsDescription first third

@@ -1,4 +1,4 @@
--- The checks of a tick, where what is watched is told by ranges, are those where it is told by names.
+-- The checks of a tick, where what is watched is told by ranges and own bytes, are those where it is told by names.
 use Rattle.std.proofs.Common.{◌≡◌, ℕ, ◌+◌, Bool, true, false, cond, List, [], ◌∷◌, ◌++◌, map, refl, sym, ap, subst, ◌∙◌}
 use Rattle.std.specs.Prelude.{Option, Some, None, ◌&&◌, nat_lt, nat_le}
 use Rattle.std.specs.List.{All}
@@ -8,15 +8,15 @@ use Rattle.std.proofs.lemmas.List.Elements.{All-nil, All-cons}
 use Rattle.spec_plant.specs.Description.{size_in}
 use Rattle.spec_plant.specs.Named.{port_numbered}
 use Rattle.spec_plant.specs.World.{PlantPort}
-use Rattle.spec_formats.specs.Ranges.{Range, Bytes, Bit, Size}
+use Rattle.spec_formats.specs.Ranges.{Bytes, Bit, Size}
 use Rattle.spec_machine.specs.Access.{Addressed, WholeByte, OneBit, values_at}
 use Rattle.spec_machine.specs.Client.{Client}
 use Rattle.spec_machine.specs.HandleLaws.{AgreeingWatch, AgreeingWatches}
 use Rattle.spec_machine.specs.Stamps.{frames_of_samples, samples_at, watches_after_tick}
 use Rattle.spec_machine.specs.Ticks.{client_after_tick}
-use Rattle.spec_machine.specs.WatchedRanges.{are_same_addressed, is_range_at, is_same_range}
+use Rattle.spec_machine.specs.WatchedRanges.{Watched, InArea, Own, are_same_addressed, is_watched_at, is_same_watched}
 use Rattle.spec_machine.specs.Watches.{Watch, is_due, is_sent, after_check, checked_watch, samples_of}
-use Rattle.spec_machine.specs.World.{World, name_at, names_at}
+use Rattle.spec_machine.specs.World.{World, name_at, names_at, own_names, OWN_SIZE}
 use Rattle.port_device.specs.Holds.{HoldsPorts}
 use Rattle.port_device.specs.PortMemory.{PortsMemory}
 use Rattle.notify_table.specs.Table.{WatchTable}
@@ -28,44 +28,49 @@ use Rattle.session.specs.SessionState.{SessionState}
 use Rattle.session.specs.StandsFor.{StandsFor}
 use Rattle.spec_machine.proofs.RangesMoved.{are_same-true}
 
--- what is found in a range is what stands under the names of its bytes
-found_by_names : (w : World) (o : Option PlantPort) (watched : List Addressed) (range : Range)
-    → option_map_or (is_range_at watched range) o false ≡ true
-    → IsInFound o range × (bytes_found w o range ≡ values_at w.memory watched)
+-- what is found of what is watched is what stands under the names of its bytes
+found_by_names : (w : World) (o : Option PlantPort) (named : List Addressed) (watched : Watched)
+    → option_map_or (is_watched_at named watched) o false ≡ true
+    → IsInFound o watched × (bytes_found w o watched ≡ values_at w.memory named)
 found_by_names w None watched range t = absurd (false≢true t)
-found_by_names w (Some p) watched (Bytes area offset len) t =
+found_by_names w (Some p) named (Own first len) t =
+    let names = map WholeByte (own_names p.number first len) in
+    let outer = and_parts (nat_lt 0 len && nat_le (first + len) OWN_SIZE) (are_same_addressed named names) t in
+    let inner = and_parts (nat_lt 0 len) (nat_le (first + len) OWN_SIZE) outer.0 in
+    (leb-true _ _ inner.1, ap (values_at w.memory) (sym (are_same-true named names outer.1)))
+found_by_names w (Some p) watched (InArea (Bytes area offset len)) t =
     let names = map WholeByte (names_at p area offset len) in
     let outer = and_parts (nat_lt 0 len && nat_le (offset + len) (size_in p.sizes area)) (are_same_addressed watched names) t in
     let inner = and_parts (nat_lt 0 len) (nat_le (offset + len) (size_in p.sizes area)) outer.0 in
     (leb-true _ _ inner.1, ap (values_at w.memory) (sym (are_same-true watched names outer.1)))
-found_by_names w (Some p) watched (Bit area offset bit) t =
+found_by_names w (Some p) watched (InArea (Bit area offset bit)) t =
     let names = OneBit (name_at p area offset) bit ∷ [] in
     let parts = and_parts (nat_lt offset (size_in p.sizes area)) (are_same_addressed watched names) t in
     (ltb-true _ _ parts.0, ap (values_at w.memory) (sym (are_same-true watched names parts.1)))
-found_by_names w (Some p) watched (Size area) t = absurd (false≢true t)
+found_by_names w (Some p) watched (InArea (Size area)) t = absurd (false≢true t)
 
 module _ (w : World) where
-  abbrev agrees : Watch (List Addressed) → Watch Range → Type 0
-  agrees u v = AgreeingWatch (is_same_range w.plant.ports) u v
+  abbrev agrees : Watch (List Addressed) → Watch Watched → Type 0
+  agrees u v = AgreeingWatch (is_same_watched w.plant.ports) u v
 
-  found_alike : (u : Watch (List Addressed)) (v : Watch Range) → agrees u v → IsInPort w v × (found_in w v ≡ values_at w.memory u.watched)
+  found_alike : (u : Watch (List Addressed)) (v : Watch Watched) → agrees u v → IsInPort w v × (found_in w v ≡ values_at w.memory u.watched)
   found_alike u v h =
       subst (λ n. IsInFound (port_numbered n w.plant.ports) v.watched
       × (bytes_found w (port_numbered n w.plant.ports) v.watched ≡ values_at w.memory u.watched)) (sym h.port)
       (found_by_names w (port_numbered u.port w.plant.ports) u.watched v.watched h.watched)
 
   -- what notifications watch lies in their ports
-  pub all_in_ports : (us : List (Watch (List Addressed))) (vs : List (Watch Range)) → AgreeingWatches (is_same_range w.plant.ports) us vs
+  pub all_in_ports : (us : List (Watch (List Addressed))) (vs : List (Watch Watched)) → AgreeingWatches (is_same_watched w.plant.ports) us vs
       → All (IsInPort w) vs
   all_in_ports [] [] h = All-nil (IsInPort w)
   all_in_ports (u ∷ us) (v ∷ vs) h = All-cons (IsInPort w) v vs ((found_alike u v h.0).0) (all_in_ports us vs h.1)
   all_in_ports [] (v ∷ vs) h = absurd h
   all_in_ports (u ∷ us) [] h = absurd h
 
-  same_sample : (now : ℕ) (bytes : List ℕ) (u : Watch (List Addressed)) (v : Watch Range) → agrees u v → samples_of now bytes v ≡ samples_of now bytes u
+  same_sample : (now : ℕ) (bytes : List ℕ) (u : Watch (List Addressed)) (v : Watch Watched) → agrees u v → samples_of now bytes v ≡ samples_of now bytes u
   same_sample now bytes u v h = rw (h.handle, h.port, h.address, h.mode, h.cycle, h.last, h.sent) refl
 
-  samples_alike : (now : ℕ) (us : List (Watch (List Addressed))) (vs : List (Watch Range)) → AgreeingWatches (is_same_range w.plant.ports) us vs
+  samples_alike : (now : ℕ) (us : List (Watch (List Addressed))) (vs : List (Watch Watched)) → AgreeingWatches (is_same_watched w.plant.ports) us vs
       → samples_found now w vs ≡ samples_at w.memory now us
   unfolding samples_at
   samples_alike now [] [] h = refl
@@ -76,19 +81,19 @@ module _ (w : World) where
   samples_alike now [] (v ∷ vs) h = absurd h
   samples_alike now (u ∷ us) [] h = absurd h
 
-  agree_where : (a b : Bool) (x y : Watch (List Addressed)) (p q : Watch Range) → b ≡ a → agrees x p → agrees y q → agrees (cond a x y) (cond b p q)
+  agree_where : (a b : Bool) (x y : Watch (List Addressed)) (p q : Watch Watched) → b ≡ a → agrees x p → agrees y q → agrees (cond a x y) (cond b p q)
   agree_where true true x y p q e yes_ no_ = yes_
   agree_where false false x y p q e yes_ no_ = no_
   agree_where true false x y p q e yes_ no_ = absurd cc
   agree_where false true x y p q e yes_ no_ = absurd cc
 
-  same_due : (now : ℕ) (u : Watch (List Addressed)) (v : Watch Range) → agrees u v → is_due now v ≡ is_due now u
+  same_due : (now : ℕ) (u : Watch (List Addressed)) (v : Watch Watched) → agrees u v → is_due now v ≡ is_due now u
   same_due now u v h = rw (h.cycle, h.last) refl
 
-  same_sent : (bytes : List ℕ) (u : Watch (List Addressed)) (v : Watch Range) → agrees u v → is_sent bytes v ≡ is_sent bytes u
+  same_sent : (bytes : List ℕ) (u : Watch (List Addressed)) (v : Watch Watched) → agrees u v → is_sent bytes v ≡ is_sent bytes u
   same_sent bytes u v h = rw (h.last, h.mode, h.sent) refl
 
-  checked_alike : (now : ℕ) (bytes : List ℕ) (u : Watch (List Addressed)) (v : Watch Range) → agrees u v
+  checked_alike : (now : ℕ) (bytes : List ℕ) (u : Watch (List Addressed)) (v : Watch Watched) → agrees u v
       → agrees (checked_watch now bytes u) (checked_watch now bytes v)
   checked_alike now bytes u v h =
       agree_where (is_due now u) (is_due now v) (after_check now bytes u) u (after_check now bytes v) v (same_due now u v h)
@@ -98,8 +103,8 @@ module _ (w : World) where
       (record { handle = h.handle; port = h.port; address = h.address; mode = h.mode; cycle = h.cycle; last = refl; sent = h.sent; watched = h.watched }))
       h
 
-  watches_alike : (now : ℕ) (us : List (Watch (List Addressed))) (vs : List (Watch Range)) → AgreeingWatches (is_same_range w.plant.ports) us vs
-      → AgreeingWatches (is_same_range w.plant.ports) (watches_after_tick w.memory now us) (map (λ (v : Watch Range). checked_watch now (found_in w v) v) vs)
+  watches_alike : (now : ℕ) (us : List (Watch (List Addressed))) (vs : List (Watch Watched)) → AgreeingWatches (is_same_watched w.plant.ports) us vs
+      → AgreeingWatches (is_same_watched w.plant.ports) (watches_after_tick w.memory now us) (map (λ (v : Watch Watched). checked_watch now (found_in w v) v) vs)
   unfolding watches_after_tick
   watches_alike now [] [] h = tt
   watches_alike now (u ∷ us) (v ∷ vs) h = (

@@ -1,16 +1,18 @@
 -- What a check finds in a range of a port.
-use Rattle.std.proofs.Common.{◌≡◌, ℕ, ◌/◌, ◌%◌, ◌^◌, ◌<◌, ◌≤◌, List, [], ◌∷◌, length, get_or, Option, Some, None, refl, sym, ap, subst, ◌∙◌, arith}
+use Rattle.std.proofs.Common.{◌≡◌, ℕ, ◌/◌, ◌%◌, ◌^◌, ◌<◌, ◌≤◌, List, [], ◌∷◌, length, take, drop, get_or, Option, Some, None, refl, sym, ap, subst, ◌∙◌, arith}
 use Rattle.std.proofs.Math.Nat.{div-eq_of_lt}
 use Rattle.std.proofs.Math.Pow.{pow_mono}
 use Rattle.spec_plant.specs.Description.{Area}
 use Rattle.spec_plant.specs.Named.{port_numbered}
 use Rattle.spec_plant.specs.World.{PlantPort}
-use Rattle.spec_formats.specs.Ranges.{Range, Bytes, Bit}
-use Rattle.spec_machine.specs.World.{World, names_at, numbers_from}
+use Rattle.spec_formats.specs.Ranges.{Bytes, Bit}
+use Rattle.spec_machine.specs.WatchedRanges.{Watched, InArea, Own}
+use Rattle.spec_machine.specs.World.{World, names_at, numbers_from, own_bytes}
+use Rattle.spec_machine.proofs.PortBytesLemmas.{reads_own}
 use Rattle.port_device.proofs.PortsLemmas.{found_is_held}
 use Rattle.port_device.specs.Holds.{HoldsPort, HoldsPorts, HoldsFound}
 use Rattle.port_device.specs.PortMemory.{PortMemory, PortsMemory, memory_numbered}
-use Rattle.session.specs.Checks.{bytes_found, IsInSizes, IsInFound, IsReadable}
+use Rattle.session.specs.Checks.{bytes_found, IsThereIn, IsInFound, IsReadable, IsThere}
 
 -- the plant's sizes are the table's
 same_sizes : (w : World) (p : PlantPort) (m : PortMemory) → HoldsPort w p m → p.sizes ≡ m.table.sizes
@@ -31,15 +33,15 @@ port_found w m number f holds found =
     by_found None None held same = absurd cc
 
 -- what can be read lies in the port that was found
-pub in_found : (m : PortsMemory) (number : ℕ) (range : Range) (f : PortMemory) → IsReadable m number range
-    → memory_numbered number m.ports ≡ Some f → IsInSizes f.table.sizes range
+pub in_found : (m : PortsMemory) (number : ℕ) (range : Watched) (f : PortMemory) → IsReadable m number range
+    → memory_numbered number m.ports ≡ Some f → IsThereIn f.table.sizes range
 in_found m number range f readable found =
     let (p, at, held) = port_found readable.world m number f readable.holds found in
-    let within : IsInSizes p.sizes range = subst (λ (o : Option PlantPort). IsInFound o range) at readable.within in
-    subst (λ sizes. IsInSizes sizes range) (same_sizes readable.world p f held) within
+    let within : IsThereIn p.sizes range = subst (λ (o : Option PlantPort). IsInFound o range) at readable.within in
+    subst (λ sizes. IsThereIn sizes range) (same_sizes readable.world p f held) within
 
 -- and it was found
-pub not_missing : (m : PortsMemory) (number : ℕ) (range : Range) → IsReadable m number range
+pub not_missing : (m : PortsMemory) (number : ℕ) (range : Watched) → IsReadable m number range
     → memory_numbered number m.ports ≡ None → ⊥
 not_missing m number range readable missing =
     by_found (port_numbered number readable.world.plant.ports) (memory_numbered number m.ports)
@@ -50,23 +52,29 @@ not_missing m number range readable missing =
     by_found (Some p) None held within same = held
     by_found (Some p) (Some g) held within same = cc
 
+-- the own bytes that were found are those under their names
+pub own_found : (w : World) (o : Option PlantPort) (p : PlantPort) (f : PortMemory) (first len : ℕ) → o ≡ Some p → HoldsPort w p f → first + len ≤ 5
+    → take len (drop first (own_bytes f.bytes.ads f.bytes.device f.bytes.version)) ≡ bytes_found w o (Own first len)
+own_found w o p f first len e held within =
+    sym (reads_own w.memory p f.bytes first len held.holds within) ∙ ap (λ x. bytes_found w x (Own first len)) (sym e)
+
 -- a bit that can be read stands in a byte that can
-pub byte_of_bit : (m : PortsMemory) (number : ℕ) (area : Area) (at_ bit : ℕ) → IsReadable m number (Bit area at_ bit)
-    → IsReadable m number (Bytes area at_ 1)
+pub byte_of_bit : (m : PortsMemory) (number : ℕ) (area : Area) (at_ bit : ℕ) → IsReadable m number (InArea (Bit area at_ bit))
+    → IsReadable m number (InArea (Bytes area at_ 1))
 byte_of_bit m number area at_ bit readable = record {
   world = readable.world;
   holds = readable.holds;
   within = whole (port_numbered number readable.world.plant.ports) readable.within;
 }
   where
-    whole : (o : Option PlantPort) → IsInFound o (Bit area at_ bit) → IsInFound o (Bytes area at_ 1)
+    whole : (o : Option PlantPort) → IsInFound o (InArea (Bit area at_ bit)) → IsInFound o (InArea (Bytes area at_ 1))
     whole None within = within
     whole (Some p) within = omega (arith, within)
 
 -- a bit of the byte that was found
 pub bit_found : (w : World) (o : Option PlantPort) (area : Area) (at_ bit value : ℕ) (bytes : List ℕ)
-    → bytes ≡ bytes_found w o (Bytes area at_ 1) → length bytes ≡ 1 → value ≡ (get_or bytes 0 0 / 2 ^ bit) % 2
-    → value ∷ [] ≡ bytes_found w o (Bit area at_ bit)
+    → bytes ≡ bytes_found w o (InArea (Bytes area at_ 1)) → length bytes ≡ 1 → value ≡ (get_or bytes 0 0 / 2 ^ bit) % 2
+    → value ∷ [] ≡ bytes_found w o (InArea (Bit area at_ bit))
 unfolding names_at numbers_from
 bit_found w None area at_ bit value bytes found one is = absurd (let none = rw found at one in omega (arith, none))
 bit_found w (Some p) area at_ bit value bytes found one is = rw (is, found) refl

@@ -10,12 +10,11 @@ use Rattle.std.proofs.lemmas.List.{append-nil, length-map, get_or-map, take_more
 use Rattle.std.proofs.lemmas.List.Elements.{All-head, All-tail, All-nil, All-cons, All-weaker, All-map, All-filter}
 use Rattle.std.proofs.lemmas.List.Sums.{fold-append, length-filter, count_by-le-length}
 use Rattle.spec_plant.specs.Named.{port_numbered}
-use Rattle.spec_formats.specs.Ranges.{Range}
+use Rattle.spec_machine.specs.WatchedRanges.{Watched}
 use Rattle.spec_machine.specs.Watches.{Watch, AddressedSample, is_due, is_sent, samples_of, addressed_sample}
 use Rattle.spec_machine.specs.World.{World}
-use Rattle.index_groups.specs.Access.{range_meant}
 use Rattle.notify_table.specs.declared.spec.Spec.{Spec}
-use Rattle.notify_table.specs.Specs.{new_watch, before_checks, address_of}
+use Rattle.notify_table.specs.Specs.{watched_meant, new_watch, before_checks, address_of}
 use Rattle.notify_table.specs.Table.{WatchTable, IsTable, watched_len, watch_of_handle, is_numbered, table_after, Checked}
 use Rattle.notify_table.specs.Table.{handle_of, due_handles}
 use Rattle.notify_table.proofs.CallerLemmas.{due_is_live, rises_tail, above_first}
@@ -39,17 +38,17 @@ find_holds P p (x ∷ xs) all =
 
 -- the notification that was added as this watches at most 2,048 bytes
 pub spec_is_short : (handle : ℕ) (t : WatchTable) (s : Spec) → IsTable t
-    → Some (new_watch handle s) ≡ option_map before_checks (watch_of_handle handle t) → watched_len (range_meant s.reach) ≤ 2048
+    → Some (new_watch handle s) ≡ option_map before_checks (watch_of_handle handle t) → watched_len (watched_meant s.watched) ≤ 2048
 spec_is_short handle t s table asked =
     by_watch (watch_of_handle handle t)
-    (find_holds (λ (v : Watch Range). (0 < watched_len v.watched) × (watched_len v.watched ≤ 2048)) (is_numbered handle) t.watches table.watched) asked
+    (find_holds (λ (v : Watch Watched). (0 < watched_len v.watched) × (watched_len v.watched ≤ 2048)) (is_numbered handle) t.watches table.watched) asked
   where
-    by_watch : (o : Option (Watch Range)) → IfSome o (λ (v : Watch Range). (0 < watched_len v.watched) × (watched_len v.watched ≤ 2048))
-        → Some (new_watch handle s) ≡ option_map before_checks o → watched_len (range_meant s.reach) ≤ 2048
+    by_watch : (o : Option (Watch Watched)) → IfSome o (λ (v : Watch Watched). (0 < watched_len v.watched) × (watched_len v.watched ≤ 2048))
+        → Some (new_watch handle s) ≡ option_map before_checks o → watched_len (watched_meant s.watched) ≤ 2048
     by_watch None few same = absurd cc
     by_watch (Some v) few same =
         let e : new_watch handle s ≡ before_checks v = cc in
-        let watched : range_meant s.reach ≡ v.watched = ap (λ (u : Watch Range). u.watched) e in
+        let watched : watched_meant s.watched ≡ v.watched = ap (λ (u : Watch Watched). u.watched) e in
         rw watched few.1
 
 -- the sample that a check sends, if it sends one
@@ -61,7 +60,7 @@ sample_where false s handle bytes = []
 pub check_is : (w : World) (now handle : ℕ) (old new : WatchTable) (before after : List GroupText) (s : Spec) (bytes : List ℕ) (sent : Bool)
     → IsSomeAnd (watch_of_handle handle old) (λ v. new_watch handle s ≡ before_checks v)
     → IsSomeAnd (watch_of_handle handle old) (λ v. IsTrue (is_due now v))
-    → bytes ≡ bytes_found w (port_numbered s.port w.plant.ports) (range_meant s.reach)
+    → bytes ≡ bytes_found w (port_numbered s.port w.plant.ports) (watched_meant s.watched)
     → IfSome (watch_of_handle handle old) (λ v. sent ≡ is_sent bytes v)
     → new ≡ table_after old (Checked handle now bytes)
     → after ≡ groups_after before (sample_where sent s handle bytes)
@@ -71,24 +70,24 @@ check_is w now handle old new before after s bytes sent is due found sends table
   groups = groups ∙ ap (groups_after before) (by_sample (watch_of_handle handle old) is due sends);
 }
   where
-    found_is : (v : Watch Range) → new_watch handle s ≡ before_checks v → bytes ≡ found_in w v
+    found_is : (v : Watch Watched) → new_watch handle s ≡ before_checks v → bytes ≡ found_in w v
     found_is v e =
-        let port : s.port ≡ v.port = ap (λ (u : Watch Range). u.port) e in
-        let watched : range_meant s.reach ≡ v.watched = ap (λ (u : Watch Range). u.watched) e in
-        found ∙ (ap (λ n. bytes_found w (port_numbered n w.plant.ports) (range_meant s.reach)) port
+        let port : s.port ≡ v.port = ap (λ (u : Watch Watched). u.port) e in
+        let watched : watched_meant s.watched ≡ v.watched = ap (λ (u : Watch Watched). u.watched) e in
+        found ∙ (ap (λ n. bytes_found w (port_numbered n w.plant.ports) (watched_meant s.watched)) port
         ∙ ap (λ r. bytes_found w (port_numbered v.port w.plant.ports) r) watched)
 
-    by_watch : (o : Option (Watch Range)) → IsSomeAnd o (λ v. new_watch handle s ≡ before_checks v)
+    by_watch : (o : Option (Watch Watched)) → IsSomeAnd o (λ v. new_watch handle s ≡ before_checks v)
         → IfSome o (λ v. new ≡ table_after old (Checked handle now (found_in w v)))
     by_watch None e = tt
     by_watch (Some v) e = table ∙ ap (λ b. table_after old (Checked handle now b)) (found_is v e)
 
-    by_sent : (v : Watch Range) → new_watch handle s ≡ before_checks v → IsTrue (is_due now v) → (b : Bool) → b ≡ is_sent bytes v
+    by_sent : (v : Watch Watched) → new_watch handle s ≡ before_checks v → IsTrue (is_due now v) → (b : Bool) → b ≡ is_sent bytes v
         → sample_where b s handle bytes ≡ samples_of now bytes v
-    by_sent v e d true is = rw (d, sym is) (ap (λ (u : Watch Range). addressed_sample bytes u ∷ []) e)
+    by_sent v e d true is = rw (d, sym is) (ap (λ (u : Watch Watched). addressed_sample bytes u ∷ []) e)
     by_sent v e d false is = rw (d, sym is) refl
 
-    by_sample : (o : Option (Watch Range)) → IsSomeAnd o (λ v. new_watch handle s ≡ before_checks v)
+    by_sample : (o : Option (Watch Watched)) → IsSomeAnd o (λ v. new_watch handle s ≡ before_checks v)
         → IsSomeAnd o (λ v. IsTrue (is_due now v)) → IfSome o (λ v. sent ≡ is_sent bytes v)
         → sample_where sent s handle bytes ≡ samples_for now (found_in w) o
     by_sample None e d sends = absurd e
@@ -96,23 +95,23 @@ check_is w now handle old new before after s bytes sent is due found sends table
 
 -- ---- handles rise
 
-above_watches : (v : Watch Range) (vs : List (Watch Range)) → IsStrictlyIncreasing (map handle_of (v ∷ vs))
-    → All (λ (u : Watch Range). v.handle < u.handle) vs
+above_watches : (v : Watch Watched) (vs : List (Watch Watched)) → IsStrictlyIncreasing (map handle_of (v ∷ vs))
+    → All (λ (u : Watch Watched). v.handle < u.handle) vs
 above_watches v vs rises = λ k d below.
     let more = above_first v.handle (map handle_of vs) rises k (handle_of d) (omega (arith, length-map vs handle_of)) in
     let at_place = get_or-map handle_of vs k d (handle_of d) below in
     omega (arith, more, at_place)
 
 -- the one that is found is the only one with its handle
-only_one : (handle : ℕ) (v : Watch Range) (vs : List (Watch Range)) → IsStrictlyIncreasing (map handle_of vs)
-    → find (is_numbered handle) vs ≡ Some v → All (λ (u : Watch Range). u.handle ≡ handle → u ≡ v) vs
-only_one handle v [] rises found = All-nil (λ (u : Watch Range). u.handle ≡ handle → u ≡ v)
+only_one : (handle : ℕ) (v : Watch Watched) (vs : List (Watch Watched)) → IsStrictlyIncreasing (map handle_of vs)
+    → find (is_numbered handle) vs ≡ Some v → All (λ (u : Watch Watched). u.handle ≡ handle → u ≡ v) vs
+only_one handle v [] rises found = All-nil (λ (u : Watch Watched). u.handle ≡ handle → u ≡ v)
 only_one handle v (u ∷ us) rises found =
-    let P = λ (x : Watch Range). x.handle ≡ handle → x ≡ v in
+    let P = λ (x : Watch Watched). x.handle ≡ handle → x ≡ v in
     elim (cases_eq u.handle handle) [
       | inl same ↦
           let first : u ≡ v = (let e = rw (eq-eqb u.handle handle same) at found in cc) in
-          All-cons P u us (λ e. first) (All-weaker (λ (x : Watch Range). u.handle < x.handle) P (λ x above e. absurd (omega (arith, above, e, same))) us
+          All-cons P u us (λ e. first) (All-weaker (λ (x : Watch Watched). u.handle < x.handle) P (λ x above e. absurd (omega (arith, above, e, same))) us
           (above_watches u us rises))
       | inr other ↦
           All-cons P u us (λ e. absurd (other e))
@@ -138,7 +137,7 @@ not_yet w now i handles old t gs checked rises within =
 
 -- a due one is live
 due_at : (now i : ℕ) (handles : List ℕ) (t : WatchTable) → IsTable t → handles ≡ due_handles now t → i < length handles
-    → IsSomeAnd (watch_of_handle (get_or handles i 0) t) (λ (v : Watch Range). IsTrue (is_due now v))
+    → IsSomeAnd (watch_of_handle (get_or handles i 0) t) (λ (v : Watch Watched). IsTrue (is_due now v))
 due_at now i handles t table all within =
     due_is_live now (get_or handles i 0) t table
     (subst (λ (hs : List ℕ). list_any (λ h. nat_eq h (get_or handles i 0)) hs ≡ true) all (listed handles i within))
@@ -159,7 +158,7 @@ check_asked ports now i handles old t gs readable checked table rises all within
     (both (watch_of_handle (get_or handles i 0) old) (due_at now i handles old table all within)
     (find_holds (IsInPort readable.world) (is_numbered (get_or handles i 0)) old.watches readable.within))
   where
-    both : (o : Option (Watch Range)) → IsSomeAnd o (λ (v : Watch Range). IsTrue (is_due now v)) → IfSome o (IsInPort readable.world)
+    both : (o : Option (Watch Watched)) → IsSomeAnd o (λ (v : Watch Watched). IsTrue (is_due now v)) → IfSome o (IsInPort readable.world)
         → IsSomeAnd o (λ v. IsTrue (is_due now v) × IsReadable ports v.port v.watched)
     both None due within = due
     both (Some v) due within = (due, record { world = readable.world; holds = readable.holds; within = within })
@@ -187,14 +186,14 @@ one_more_checked w now i handles old t new gs after checked check table rises al
           ∙ ap (λ l. samples_among now w old before ++ l) (append-nil (samples_for now (found_in w) (watch_of_handle h old))))))));
     })
   where
-    by_watch : (o : Option (Watch Range)) → o ≡ watch_of_handle (get_or handles i 0) old → IsSomeAnd o (λ (v : Watch Range). IsTrue (is_due now v))
+    by_watch : (o : Option (Watch Watched)) → o ≡ watch_of_handle (get_or handles i 0) old → IsSomeAnd o (λ (v : Watch Watched). IsTrue (is_due now v))
         → IfSome o (λ v. new ≡ table_after t (Checked (get_or handles i 0) now (found_in w v)))
         → new ≡ record old { watches = map (checked_among now (found_in w) (take i handles ++ get_or handles i 0 ∷ [])) old.watches }
     by_watch None is due one = absurd due
     by_watch (Some v) is due one =
         let h = get_or handles i 0 in
         let only = only_one h v old.watches table.rise (sym is) in
-        let finds = All-weaker (λ (u : Watch Range). u.handle ≡ h → u ≡ v) (λ (u : Watch Range). u.handle ≡ h → found_in w v ≡ found_in w u)
+        let finds = All-weaker (λ (u : Watch Watched). u.handle ≡ h → u ≡ v) (λ (u : Watch Watched). u.handle ≡ h → found_in w v ≡ found_in w u)
         (λ u is_v e. ap (found_in w) (sym (is_v e))) old.watches only in
         one ∙ (ap (λ (k : WatchTable). table_after k (Checked h now (found_in w v))) checked.watches
         ∙ ap (λ ws. let k : WatchTable = record old { watches = ws } in k)
@@ -202,7 +201,7 @@ one_more_checked w now i handles old t new gs after checked check table rises al
 
 -- ---- all checks
 
-samples_behind : (now : ℕ) (found : Watch Range → List ℕ) (v : Watch Range) (vs : List (Watch Range)) (hs : List ℕ) → All (λ h. v.handle < h) hs
+samples_behind : (now : ℕ) (found : Watch Watched → List ℕ) (v : Watch Watched) (vs : List (Watch Watched)) (hs : List ℕ) → All (λ h. v.handle < h) hs
     → flat_map (λ h. samples_for now found (find (is_numbered h) (v ∷ vs))) hs ≡ flat_map (λ h. samples_for now found (find (is_numbered h) vs)) hs
 samples_behind now found v vs [] above = refl
 samples_behind now found v vs (h ∷ hs) above =
@@ -210,22 +209,22 @@ samples_behind now found v vs (h ∷ hs) above =
     rw (ne_eqb v.handle h (omega arith))
     (ap (λ l. samples_for now found (find (is_numbered h) vs) ++ l) (samples_behind now found v vs hs (All-tail (λ k. v.handle < k) h hs above)))
 
-samples_all : (now : ℕ) (found : Watch Range → List ℕ) (vs : List (Watch Range)) → IsStrictlyIncreasing (map handle_of vs)
-    → flat_map (λ h. samples_for now found (find (is_numbered h) vs)) (map handle_of (filter (λ (u : Watch Range). is_due now u) vs))
-    ≡ flat_map (λ (u : Watch Range). samples_of now (found u) u) vs
+samples_all : (now : ℕ) (found : Watch Watched → List ℕ) (vs : List (Watch Watched)) → IsStrictlyIncreasing (map handle_of vs)
+    → flat_map (λ h. samples_for now found (find (is_numbered h) vs)) (map handle_of (filter (λ (u : Watch Watched). is_due now u) vs))
+    ≡ flat_map (λ (u : Watch Watched). samples_of now (found u) u) vs
 samples_all now found [] rises = refl
 samples_all now found (v ∷ vs) rises =
-    let above = All-map (λ h. v.handle < h) handle_of (filter (λ (u : Watch Range). is_due now u) vs)
-    (All-filter (λ (u : Watch Range). is_due now u) (λ (u : Watch Range). v.handle < u.handle) vs (above_watches v vs rises)) in
-    let behind = samples_behind now found v vs (map handle_of (filter (λ (u : Watch Range). is_due now u) vs)) above in
+    let above = All-map (λ h. v.handle < h) handle_of (filter (λ (u : Watch Watched). is_due now u) vs)
+    (All-filter (λ (u : Watch Watched). is_due now u) (λ (u : Watch Watched). v.handle < u.handle) vs (above_watches v vs rises)) in
+    let behind = samples_behind now found v vs (map handle_of (filter (λ (u : Watch Watched). is_due now u) vs)) above in
     let rest = samples_all now found vs (rises_tail v.handle (map handle_of vs) rises) in
     elim (cases_Bool (is_due now v)) [
       | inl due ↦
-          let kept : filter (λ (u : Watch Range). is_due now u) (v ∷ vs) ≡ v ∷ filter (λ (u : Watch Range). is_due now u) vs = rw due refl in
+          let kept : filter (λ (u : Watch Watched). is_due now u) (v ∷ vs) ≡ v ∷ filter (λ (u : Watch Watched). is_due now u) vs = rw due refl in
           let first : find (is_numbered v.handle) (v ∷ vs) ≡ Some v = rw (eq-eqb v.handle v.handle refl) refl in
-          ap (λ (us : List (Watch Range)). flat_map (λ h. samples_for now found (find (is_numbered h) (v ∷ vs))) (map handle_of us)) kept
+          ap (λ (us : List (Watch Watched)). flat_map (λ h. samples_for now found (find (is_numbered h) (v ∷ vs))) (map handle_of us)) kept
           ∙ (ap (λ o. samples_for now found o ++ flat_map (λ h. samples_for now found (find (is_numbered h) (v ∷ vs)))
-          (map handle_of (filter (λ (u : Watch Range). is_due now u) vs))) first
+          (map handle_of (filter (λ (u : Watch Watched). is_due now u) vs))) first
           ∙ ap (λ l. samples_of now (found v) v ++ l) (behind ∙ rest))
       | inr early ↦ rw early (behind ∙ rest)
     ]
@@ -247,9 +246,9 @@ few_due now handles t table all =
       arith,
       table.few,
       ap length all,
-      length-map (filter (λ (u : Watch Range). is_due now u) t.watches) handle_of,
-      length-filter (λ (u : Watch Range). is_due now u) t.watches,
-      count_by-le-length (λ (u : Watch Range). is_due now u) t.watches,
+      length-map (filter (λ (u : Watch Watched). is_due now u) t.watches) handle_of,
+      length-filter (λ (u : Watch Watched). is_due now u) t.watches,
+      count_by-le-length (λ (u : Watch Watched). is_due now u) t.watches,
     )
 
 pub on_ok_always : {T E P : Type 0} (r : Result T E) → P → OnOk r P

@@ -1,8 +1,8 @@
 -- What a notification is to watch: bytes, a bit, or the first bytes of a value by its handle.
-use Rattle.std.proofs.Common.{◌≡◌, ℕ, ◌+◌, ◌<◌, ◌≤◌, true, false, List, [], ◌∷◌, map, refl, sym, ap, subst, ◌∙◌, arith, inl, inr}
+use Rattle.std.proofs.Common.{◌≡◌, ◌≢◌, ℕ, ◌+◌, ◌<◌, ◌≤◌, true, false, List, [], ◌∷◌, map, refl, sym, ap, subst, ◌∙◌, arith, inl, inr}
 use Rattle.std.specs.Prelude.{Option, Some, None, Result, Ok, Err, IfOk, ◌&&◌, ◌==◌, nat_lt, nat_le, slice_get, bytes_eq, option_and_then, ◌||◌, ◌/◌}
 use Rattle.std.specs.Option.{option_map_or}
-use Rattle.std.proofs.lemmas.Bool.{cases_Bool, and_parts, and_from, eqb-true, leb-true, le-leb, lt-ltb, le-ltb, false≢true}
+use Rattle.std.proofs.lemmas.Bool.{cases_Bool, and_parts, and_from, eqb-true, eq-eqb, ne_eqb, leb-true, le-leb, lt-ltb, le-ltb, false≢true}
 use Rattle.return_codes.specs.declared.code.Code.{Code}
 use Rattle.return_codes.specs.declared.code.Code.TheVariants.{C702, C705}
 use Rattle.return_codes.specs.Code.{number_of}
@@ -13,7 +13,7 @@ use Rattle.spec_plant.specs.World.{PlantPort, PlantSymbol, symbol_size, lower_na
 use Rattle.spec_plant.proofs.BlockLemmas.{same_area-true}
 use Rattle.spec_plant.proofs.SoundLemmas.{each-get}
 use Rattle.spec_formats.specs.Groups.{Group, AreaBytes, AreaBit, AreaSize, ValueByHandle, HandleByName, ValueByName, ReleaseHandle, InfoByName, SymbolVersion}
-use Rattle.spec_formats.specs.Groups.{ExtendedInfoByName, SymbolUpload, UploadInfo, TypeUpload, UploadInfoWithTypes, SumRead, SumWrite, SumReadWrite, group_of}
+use Rattle.spec_formats.specs.Groups.{ExtendedInfoByName, SymbolUpload, UploadInfo, TypeUpload, UploadInfoWithTypes, SumRead, SumWrite, SumReadWrite, group_of, symbol_version}
 use Rattle.spec_formats.specs.Ranges.{Range, Size, range_in, range_of, byte_range, bit_range, greatest_len}
 use Rattle.spec_machine.specs.Access.{Addressed, WholeByte, OneBit}
 use Rattle.spec_machine.specs.Answers.{if_answered, answered_group, ADD_DEVICE_NOTIFICATION}
@@ -21,13 +21,17 @@ use Rattle.spec_machine.specs.Client as client
 use Rattle.spec_machine.specs.Handles.{HandleStatus, Never, Released, Outdated, Live, kept_status}
 use Rattle.spec_machine.specs.NumberedPlaces.{is_place_in, is_place_at}
 use Rattle.spec_machine.specs.Reach.{reach_of, addressed_by_range, addressed_by_status}
-use Rattle.spec_machine.specs.WatchedRanges.{are_same_addressed, is_range_at, is_same_range}
-use Rattle.spec_machine.specs.World.{World, name_at, names_at}
+use Rattle.spec_machine.specs.WatchedRanges.{Watched, InArea, Own, are_same_addressed, is_range_at, is_watched_at, is_same_watched}
+use Rattle.spec_machine.specs.World.{World, name_at, names_at, own_names, OWN_SIZE}
+use Rattle.spec_machine.specs.Manner.{Wide}
+use Rattle.spec_machine.specs.MoreActs.{device_data, states_reach, version_reach}
 use Rattle.spec_machine.proofs.PlacesMoved.{same_places_have_same_bytes}
 use Rattle.index_groups.specs.declared.access.Reach.{Reach}
 use Rattle.index_groups.specs.declared.access.Reach.TheVariants as value
 use Rattle.index_groups.specs.Access.{range_meant, answer_meant, IsWithin}
 use Rattle.notify_table.specs.Table.{watched_len}
+use Rattle.notify_table.specs.declared.spec.Watched as code
+use Rattle.notify_table.specs.declared.spec.Watched.TheVariants as kind
 use Rattle.port_device.specs.Answers.{numbered}
 use Rattle.port_device.specs.Holds.{HoldsPort}
 use Rattle.port_device.specs.PortMemory.{PortMemory}
@@ -37,7 +41,7 @@ use Rattle.session.specs.Asking.{Asking}
 use Rattle.session.specs.Asks.{LooksUp}
 use Rattle.session.specs.HandleGroups.{is_value_by_handle}
 use Rattle.session.specs.StandsFor.{is_place_of}
-use Rattle.session.specs.Watching.{is_byte_or_bit, IsWatched}
+use Rattle.session.specs.Watching.{is_byte_or_bit, addition_reach, IsWatched}
 use Rattle.spec_machine.proofs.RangesMoved.{are_same-refl}
 
 -- ---- bytes and bits
@@ -48,7 +52,7 @@ same_sizes w p m h = ap (λ (q : PlantPort). q.sizes) h.plant ∙ sym (ap (λ t.
 -- what an access to bytes or a bit names has the length that was asked for
 record IsAreaRange (sizes : Sizes) (len : ℕ) (r : Result Range ℕ) : Type 0 where
   none : (area : Area) → r ≡ Ok (Size area) → ⊥
-  long : IfOk r (λ range. watched_len range ≡ len)
+  long : IfOk r (λ range. watched_len (InArea range) ≡ len)
 
 byte_range-is : (sizes : Sizes) (area : Area) (size offset len : ℕ) → IsAreaRange sizes len (byte_range area size offset len)
 unfolding byte_range
@@ -79,7 +83,7 @@ area_range-is (Some (AreaBit area)) sizes offset len is = bit_range-is sizes are
 area_range-is _ sizes offset len is = absurd (false≢true is)
 
 -- a range within its area, where it has a byte
-range_named : (p : PlantPort) (reach : Reach) → IsWithin p.sizes reach → 0 < watched_len (range_meant reach)
+range_named : (p : PlantPort) (reach : Reach) → IsWithin p.sizes reach → 0 < watched_len (InArea (range_meant reach))
     → (watched : List Addressed) → addressed_by_range p (Ok (range_meant reach)) ≡ Ok watched → is_range_at watched (range_meant reach) p ≡ true
 range_named p (value.Bytes area offset len) within some watched is =
     let names = map WholeByte (names_at p (area_of area) offset len) in
@@ -95,23 +99,28 @@ range_named p (value.Bit area offset bit) within some watched is =
 range_named p (value.Size area) within some watched is = absurd (omega (arith, some))
 
 -- at a port that is found by its number
-at_found : (ports : List PlantPort) (p : PlantPort) (watched : List Addressed) (range : Range) → port_numbered p.number ports ≡ Some p
-    → is_range_at watched range p ≡ true → is_same_range ports p.number watched range ≡ true
-at_found ports p watched range found is = subst (λ o. option_map_or (is_range_at watched range) o false ≡ true) (sym found) is
+at_found : (ports : List PlantPort) (p : PlantPort) (named : List Addressed) (watched : Watched) → port_numbered p.number ports ≡ Some p
+    → is_watched_at named watched p ≡ true → is_same_watched ports p.number named watched ≡ true
+at_found ports p named watched found is = subst (λ o. option_map_or (is_watched_at named watched) o false ≡ true) (sym found) is
+
+-- an access to an area as what is watched
+abbrev pub in_area : Result Reach Code → Result code.Watched Code
+in_area (Ok reach) = Ok (kind.InArea reach)
+in_area (Err refusal) = Err refusal
 
 -- an access to bytes or a bit, or the code that refuses it
 area_watched : (ports : List PlantPort) (p : PlantPort) (len : ℕ) (r : Result Range ℕ) (answer : Result Reach Code)
     → port_numbered p.number ports ≡ Some p → IsAreaRange p.sizes len r → answer_meant answer ≡ r → IfOk answer (IsWithin p.sizes)
-    → IsWatched ports p.number len (addressed_by_range p r) answer
-area_watched ports p len r (Err code) found area is within = subst (λ q. IsWatched ports p.number len (addressed_by_range p q) (Err code)) is refl
+    → IsWatched ports p.number len (addressed_by_range p r) (in_area answer)
+area_watched ports p len r (Err refusal) found area is within = subst (λ q. IsWatched ports p.number len (addressed_by_range p q) (Err refusal)) is refl
 area_watched ports p len r (Ok (value.Bytes a offset n)) found area is within =
-    subst (λ q. IsWatched ports p.number len (addressed_by_range p q) (Ok (value.Bytes a offset n))) is
-    (λ some. at_found ports p (map WholeByte (names_at p (area_of a) offset n)) (range_meant (value.Bytes a offset n)) found
+    subst (λ q. IsWatched ports p.number len (addressed_by_range p q) (Ok (kind.InArea (value.Bytes a offset n)))) is
+    (λ some. at_found ports p (map WholeByte (names_at p (area_of a) offset n)) (InArea (range_meant (value.Bytes a offset n))) found
     (range_named p (value.Bytes a offset n) within
-    (let long : n ≡ len = subst (λ q. IfOk q (λ range. watched_len range ≡ len)) (sym is) area.long in omega (arith, long, some)) _ refl))
+    (let long : n ≡ len = subst (λ q. IfOk q (λ range. watched_len (InArea range) ≡ len)) (sym is) area.long in omega (arith, long, some)) _ refl))
 area_watched ports p len r (Ok (value.Bit a offset bit)) found area is within =
-    subst (λ q. IsWatched ports p.number len (addressed_by_range p q) (Ok (value.Bit a offset bit))) is
-    (λ some. at_found ports p (OneBit (name_at p (area_of a) offset) bit ∷ []) (range_meant (value.Bit a offset bit)) found
+    subst (λ q. IsWatched ports p.number len (addressed_by_range p q) (Ok (kind.InArea (value.Bit a offset bit)))) is
+    (λ some. at_found ports p (OneBit (name_at p (area_of a) offset) bit ∷ []) (InArea (range_meant (value.Bit a offset bit))) found
     (range_named p (value.Bit a offset bit) within (omega arith) _ refl))
 area_watched ports p len r (Ok (value.Size a)) found area is within = absurd (area.none (area_of a) (sym is))
 
@@ -126,7 +135,7 @@ reach_of_area c p _ offset len is = absurd (false≢true is)
 pub watched_in_area : (a : Asking) (m : PortMemory) (group offset len : ℕ) (answer : Result Reach Code) → HoldsPort a.world a.asker.port m
     → is_byte_or_bit (group_of group) ≡ true → answer_meant answer ≡ range_of m.table.sizes group offset len → IfOk answer (IsWithin m.table.sizes)
     → IsWatched a.world.plant.ports a.asker.port.number len
-    (reach_of a.client a.asker.port (answered_group ADD_DEVICE_NOTIFICATION group) offset len) answer
+    (reach_of a.client a.asker.port (answered_group ADD_DEVICE_NOTIFICATION group) offset len) (in_area answer)
 unfolding answered_group range_of
 watched_in_area a m group offset len answer held kind rule within =
     let p = a.asker.port in
@@ -134,17 +143,17 @@ watched_in_area a m group offset len answer held kind rule within =
     let rule_ : answer_meant answer ≡ range_in (group_of group) p.sizes offset len =
     subst (λ s. answer_meant answer ≡ range_in (group_of group) s offset len) (sym sizes) rule in
     let within_ : IfOk answer (IsWithin p.sizes) = subst (λ s. IfOk answer (IsWithin s)) (sym sizes) within in
-    subst (λ r. IsWatched a.world.plant.ports p.number len r answer) (sym (reach_of_area a.client p (group_of group) offset len kind))
+    subst (λ r. IsWatched a.world.plant.ports p.number len r (in_area answer)) (sym (reach_of_area a.client p (group_of group) offset len kind))
     (area_watched a.world.plant.ports p len (range_in (group_of group) p.sizes offset len) answer held.sound.found
     (area_range-is (group_of group) p.sizes offset len kind) rule_ within_)
 
 -- and what is watched there is as long as was asked for
 pub area_len : (sizes : Sizes) (group offset len : ℕ) (answer : Result Reach Code) → is_byte_or_bit (group_of group) ≡ true
-    → answer_meant answer ≡ range_of sizes group offset len → IfOk answer (λ reach. watched_len (range_meant reach) ≡ len)
+    → answer_meant answer ≡ range_of sizes group offset len → IfOk answer (λ reach. watched_len (InArea (range_meant reach)) ≡ len)
 unfolding range_of
 area_len sizes group offset len (Err code) kind rule = tt
 area_len sizes group offset len (Ok reach) kind rule =
-    subst (λ q. IfOk q (λ range. watched_len range ≡ len)) (sym rule) (area_range-is (group_of group) sizes offset len kind).long
+    subst (λ q. IfOk q (λ range. watched_len (InArea range) ≡ len)) (sym rule) (area_range-is (group_of group) sizes offset len kind).long
 
 -- ---- other groups
 
@@ -187,7 +196,7 @@ unfolding reach_of
 reach_of_value c p (Some ValueByHandle) handle len is = refl
 reach_of_value c p _ handle len is = absurd (false≢true is)
 
-pub watched_by_value : (a : Asking) (group handle len : ℕ) (answer : Result Reach Code) → is_value_by_handle (group_of group) ≡ true
+pub watched_by_value : (a : Asking) (group handle len : ℕ) (answer : Result code.Watched Code) → is_value_by_handle (group_of group) ≡ true
     → IsWatched a.world.plant.ports a.asker.port.number len
     (addressed_by_status a.asker.port.number (kept_status a.client.handles handle a.asker.port.number) len) answer
     → IsWatched a.world.plant.ports a.asker.port.number len
@@ -238,7 +247,7 @@ live_in_area w p m place named held is =
 pub live_watched : (a : Asking) (m : PortMemory) (place : Place) (len : ℕ) (s : HandleStatus client.Place) → HoldsPort a.world a.asker.port m
     → LooksUp a.world.plant.ports a.asker.port.number s (Ok place) → len ≤ place.len
     → IsWatched a.world.plant.ports a.asker.port.number len (addressed_by_status a.asker.port.number s len)
-    (Ok (value.Bytes place.area place.«at» len))
+    (Ok (kind.InArea (value.Bytes place.area place.«at» len)))
 live_watched a m place len (Live named) held looks short =
     let p = a.asker.port in
     let lies = live_in_area a.world p m place named held looks in
@@ -246,7 +255,7 @@ live_watched a m place len (Live named) held looks short =
     let names = same_places_have_same_bytes a.world.plant p p.number len named
     (numbered place) held.plant_sound held.sound.found looks (omega (arith, lies.long)) in
     rw fits (λ some.
-    at_found a.world.plant.ports p (map WholeByte (client.names_of_place p.number named len)) (range_meant (value.Bytes place.area place.«at» len))
+    at_found a.world.plant.ports p (map WholeByte (client.names_of_place p.number named len)) (InArea (range_meant (value.Bytes place.area place.«at» len)))
     held.sound.found
     (and_from (nat_lt 0 len && nat_le (place.«at» + len) (size_in p.sizes (area_of place.area))) _
     (and_from (nat_lt 0 len) (nat_le (place.«at» + len) (size_in p.sizes (area_of place.area))) (lt-ltb 0 len some)
@@ -275,3 +284,48 @@ dead_watched ports port len Never code looks = ap number_of (sym looks)
 dead_watched ports port len Released code looks = ap number_of (sym looks)
 dead_watched ports port len Outdated code looks = ap number_of (sym looks)
 dead_watched ports port len (Live named) code looks = absurd looks
+
+-- ---- a port's own bytes
+
+own_named : (ports : List PlantPort) (p : PlantPort) (first len : ℕ) → port_numbered p.number ports ≡ Some p → first + len ≤ 5
+    → IsWatched ports p.number len (Ok (map WholeByte (own_names p.number first len))) (Ok (kind.Own first len))
+own_named ports p first len found within some =
+    let names = map WholeByte (own_names p.number first len) in
+    at_found ports p names (Own first len) found
+    (and_from (nat_lt 0 len && nat_le (first + len) OWN_SIZE) _
+    (and_from (nat_lt 0 len) (nat_le (first + len) OWN_SIZE) (lt-ltb 0 len some) (le-leb _ _ within)) (are_same-refl names))
+
+-- bytes of the state words
+pub states_watched : (ports : List PlantPort) (p : PlantPort) (first len : ℕ) → port_numbered p.number ports ≡ Some p → first + len ≤ 4
+    → states_reach p.number first len ≡ Ok (map WholeByte (own_names p.number first len))
+    → IsWatched ports p.number len (states_reach p.number first len) (Ok (kind.Own first len))
+states_watched ports p first len found within reached =
+    subst (λ r. IsWatched ports p.number len r (Ok (kind.Own first len))) (sym reached) (own_named ports p first len found (omega (arith, within)))
+
+pub states_refused : (ports : List PlantPort) (p : PlantPort) (first len : ℕ) (refusal : Code) → states_reach p.number first len ≡ Err (number_of refusal)
+    → IsWatched ports p.number len (states_reach p.number first len) (Err refusal)
+states_refused ports p first len refusal reached = subst (λ r. IsWatched ports p.number len r (Err refusal)) (sym reached) refl
+
+-- the version
+pub version_watched : (ports : List PlantPort) (p : PlantPort) (len : ℕ) → port_numbered p.number ports ≡ Some p → len ≡ 1
+    → IsWatched ports p.number len (version_reach p.number len) (Ok (kind.Own 4 1))
+version_watched ports p len found one =
+    let P : ℕ → Type 0 = λ n. IsWatched ports p.number n (version_reach p.number n) (Ok (kind.Own 4 1)) in
+    subst P (sym one) (own_named ports p 4 1 found (omega arith))
+
+pub version_refused : (ports : List PlantPort) (p : PlantPort) (len : ℕ) → len ≢ 1
+    → IsWatched ports p.number len (version_reach p.number len) (Err C705)
+version_refused ports p len other = rw (ne_eqb len 1 other) refl
+
+-- what is reached of a wide port besides
+pub reaches_states : (c : client.Client) (p : PlantPort) (group offset len : ℕ) → group ≡ device_data
+    → addition_reach Wide c p group offset len ≡ states_reach p.number offset len
+reaches_states c p group offset len is = rw (eq-eqb group device_data is) refl
+
+pub reaches_version : (c : client.Client) (p : PlantPort) (group offset len : ℕ) → group ≢ device_data → group ≡ symbol_version
+    → addition_reach Wide c p group offset len ≡ version_reach p.number len
+reaches_version c p group offset len other is = rw (ne_eqb group device_data other, eq-eqb group symbol_version is) refl
+
+pub reaches_plain : (c : client.Client) (p : PlantPort) (group offset len : ℕ) → group ≢ device_data → group ≢ symbol_version
+    → addition_reach Wide c p group offset len ≡ reach_of c p (answered_group ADD_DEVICE_NOTIFICATION group) offset len
+reaches_plain c p group offset len other neither = rw (ne_eqb group device_data other, ne_eqb group symbol_version neither) refl

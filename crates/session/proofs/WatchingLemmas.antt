@@ -1,6 +1,6 @@
 -- A notification is added or deleted, in the session and in the machine.
 use Rattle.std.proofs.Common.{◌≡◌, ℕ, ◌+◌, ◌<◌, ◌≤◌, Bool, true, false, not, cond, List, [], ◌∷◌, ◌++◌, length, inl, inr, refl, sym, ap, subst, ◌∙◌, arith}
-use Rattle.std.specs.Prelude.{Some, None, Result, Ok, Err, IsTrue, IsErr, IsOk, IfOk, IfErr, OnOk, OnErr, ◌↔◌, ◌||◌, ◌&&◌, ◌==◌, nat_le, filter}
+use Rattle.std.specs.Prelude.{Option, Some, None, option_map, unwrap_or, Result, Ok, Err, IsTrue, IsErr, IsOk, IfOk, IfErr, OnOk, OnErr, ◌↔◌, ◌||◌, ◌&&◌, ◌==◌, nat_le, filter}
 use Rattle.std.specs.List.{list_any}
 use Rattle.std.specs.Int.{w32, to_le_bytes}
 use Rattle.std.proofs.lemmas.Bool.{cases_Bool, lt-ltb, le-ltb, eq-eqb, ne_eqb, false≢true}
@@ -16,11 +16,13 @@ use Rattle.spec_machine.specs.Client.{client_after, Adds, Deletes}
 use Rattle.spec_machine.specs.HandleLaws.{Test, AgreeingWatch, AgreeingWatches}
 use Rattle.spec_machine.specs.Reach.{reach_of}
 use Rattle.spec_machine.specs.Meanings.{mode_in}
-use Rattle.spec_machine.specs.Requests.{plain_act, act_of, mode_of, add_act, add_reached, next_watch, delete_act, is_watch_of}
+use Rattle.spec_machine.specs.Manner.{Manner, Strict, Wide}
+use Rattle.spec_machine.specs.MoreActs.{own_reach, more_add}
+use Rattle.spec_machine.specs.Requests.{plain_act, act_of, mode_of, add_of_reach, add_reached, next_watch, delete_act, is_watch_of}
 use Rattle.spec_machine.specs.Watches as machine
 use Rattle.spec_machine.specs.Watches.{Watch}
-use Rattle.spec_machine.specs.WatchedRanges.{is_same_range}
-use Rattle.index_groups.specs.declared.access.Reach.{Reach}
+use Rattle.spec_machine.specs.WatchedRanges.{is_same_watched}
+use Rattle.notify_table.specs.declared.spec.Watched as code
 use Rattle.notify_table.specs.declared.spec.Spec.{Spec}
 use Rattle.notify_table.specs.declared.spec.WatchFull.{WatchFull}
 use Rattle.notify_table.specs.Specs.{address_of, mode_meant, new_watch}
@@ -28,7 +30,7 @@ use Rattle.notify_table.specs.Table.{WatchTable, is_full, is_live, table_after, 
 use Rattle.session.specs.Asking.{Asking, act_asked}
 use Rattle.session.specs.SessionState.{SessionState}
 use Rattle.session.specs.StandsFor.{StandsFor}
-use Rattle.session.specs.Watching.{IsWatched, AsksFor, IsSpecAsked, AddsAs, DeletesAs, ChangesClient}
+use Rattle.session.specs.Watching.{addition_reach, IsWatched, AsksFor, IsSpecAsked, AddsAs, DeletesAs, ChangesClient}
 
 -- ---- what is asked for
 
@@ -37,26 +39,40 @@ module _ (a : Asking) (group offset len mode delay cycle : ℕ) where
   asked = act_asked a (AddDeviceNotification group offset len mode delay cycle)
 
   abbrev reached : Result (List Addressed) ℕ
-  reached = reach_of a.client a.asker.port (answered_group ADD_DEVICE_NOTIFICATION group) offset len
+  reached = addition_reach a.world.profile.manner a.client a.asker.port group offset len
 
-  asked-is : asked ≡ add_act a.client a.asker (answered_group ADD_DEVICE_NOTIFICATION group) offset len cycle (mode_of (mode_in a.world.profile.manner mode))
+  asked-is : asked ≡ add_of_reach a.client a.asker len cycle (mode_of (mode_in a.world.profile.manner mode)) reached
   unfolding act_of plain_act
-  asked-is = refl
+  asked-is = by_manner a.world.profile.manner
+    where
+      plain : Result (List Addressed) ℕ
+      plain = reach_of a.client a.asker.port (answered_group ADD_DEVICE_NOTIFICATION group) offset len
+
+      by_reach : (f : Result (List Addressed) ℕ → Act) (o : Option (Result (List Addressed) ℕ)) → unwrap_or (option_map f o) (f plain) ≡ f (unwrap_or o plain)
+      by_reach f None = refl
+      by_reach f (Some r) = refl
+
+      by_manner : (x : Manner)
+          → unwrap_or (more_add x a.client a.asker group offset len mode cycle) (add_of_reach a.client a.asker len cycle (mode_of (mode_in x mode)) plain)
+          ≡ add_of_reach a.client a.asker len cycle (mode_of (mode_in x mode)) (addition_reach x a.client a.asker.port group offset len)
+      by_manner Strict = refl
+      by_manner Wide =
+          by_reach (add_of_reach a.client a.asker len cycle (mode_of (mode_in Wide mode))) (own_reach a.asker.port.number group offset len)
 
   -- no mode
   pub asked_no_mode : mode_of (mode_in a.world.profile.manner mode) ≡ None → IsSpecAsked a asked (Err C713)
   asked_no_mode none =
-      asked-is ∙ ap (add_act a.client a.asker (answered_group ADD_DEVICE_NOTIFICATION group) offset len cycle) none
+      asked-is ∙ ap (λ m. add_of_reach a.client a.asker len cycle m reached) none
 
   -- too much
   pub asked_too_much : (m : machine.Mode) → Some m ≡ mode_of (mode_in a.world.profile.manner mode) → 2048 < len → IsSpecAsked a asked (Err C717)
   asked_too_much m is big =
-      asked-is ∙ (ap (add_act a.client a.asker (answered_group ADD_DEVICE_NOTIFICATION group) offset len cycle) (sym is)
+      asked-is ∙ (ap (λ o. add_of_reach a.client a.asker len cycle o reached) (sym is)
       ∙ rw (lt-ltb 2048 len big) refl)
 
   reached-is : (m : machine.Mode) → Some m ≡ mode_of (mode_in a.world.profile.manner mode) → len ≤ 2048 → asked ≡ add_reached a.client a.asker m len cycle reached
   reached-is m is few =
-      asked-is ∙ (ap (add_act a.client a.asker (answered_group ADD_DEVICE_NOTIFICATION group) offset len cycle) (sym is)
+      asked-is ∙ (ap (λ o. add_of_reach a.client a.asker len cycle o reached) (sym is)
       ∙ rw (le-ltb 2048 len few) refl)
 
   -- nothing that can be watched
@@ -70,22 +86,22 @@ module _ (a : Asking) (group offset len mode delay cycle : ℕ) where
       by_reach (Ok watched) same = absurd same
 
   -- no byte
-  pub asked_nothing : (m : machine.Mode) (reach : Reach) → Some m ≡ mode_of (mode_in a.world.profile.manner mode) → len ≡ 0
-      → IsWatched a.world.plant.ports a.asker.port.number len reached (Ok reach) → IsSpecAsked a asked (Err C705)
-  asked_nothing m reach is none named = reached-is m is (omega arith) ∙ by_reach reached named
+  pub asked_nothing : (m : machine.Mode) (watched : code.Watched) → Some m ≡ mode_of (mode_in a.world.profile.manner mode) → len ≡ 0
+      → IsWatched a.world.plant.ports a.asker.port.number len reached (Ok watched) → IsSpecAsked a asked (Err C705)
+  asked_nothing m watched is none named = reached-is m is (omega arith) ∙ by_reach reached named
     where
-      by_reach : (r : Result (List Addressed) ℕ) → IsWatched a.world.plant.ports a.asker.port.number len r (Ok reach)
+      by_reach : (r : Result (List Addressed) ℕ) → IsWatched a.world.plant.ports a.asker.port.number len r (Ok watched)
           → add_reached a.client a.asker m len cycle r ≡ Refusal (number_of C705)
       by_reach (Err n) same = absurd same
-      by_reach (Ok watched) same = rw (eq-eqb len 0 none) refl
+      by_reach (Ok reached_) same = rw (eq-eqb len 0 none) refl
 
   -- a notification
   pub asked_for : (spec : Spec) → Some (mode_meant spec.mode) ≡ mode_of (mode_in a.world.profile.manner mode) → len ≤ 2048 → 0 < len
-      → IsWatched a.world.plant.ports a.asker.port.number len reached (Ok spec.reach)
+      → IsWatched a.world.plant.ports a.asker.port.number len reached (Ok spec.watched)
       → spec.port ≡ a.asker.port.number → a.asker.address ≡ address_of spec.to → spec.cycle ≡ cycle → AsksFor a asked spec
   asked_for spec is few some named port address cycle_is = by_reach reached refl named
     where
-      by_reach : (r : Result (List Addressed) ℕ) → reached ≡ r → IsWatched a.world.plant.ports a.asker.port.number len r (Ok spec.reach)
+      by_reach : (r : Result (List Addressed) ℕ) → reached ≡ r → IsWatched a.world.plant.ports a.asker.port.number len r (Ok spec.watched)
           → AsksFor a asked spec
       by_reach (Err n) at_ same = absurd same
       by_reach (Ok watched) at_ same = record {
@@ -128,7 +144,7 @@ full-same : (a : Asking) (s : SessionState) → StandsFor a.world.plant a.client
     → is_full s.watches ≡ (nat_le 512 (length a.client.watches) || nat_le 4294967295 a.client.additions)
 full-same a s stands =
     ap (λ n. nat_le 512 n || nat_le 4294967295 s.watches.additions)
-    (agreeing-length (is_same_range a.world.plant.ports) a.client.watches s.watches.watches stands.watches)
+    (agreeing-length (is_same_watched a.world.plant.ports) a.client.watches s.watches.watches stands.watches)
     ∙ ap (λ n. nat_le 512 (length a.client.watches) || nat_le 4294967295 n) stands.additions
 
 -- no further one
@@ -149,8 +165,8 @@ add_done a act s spec handle watches stands asks room handle_is left =
     let is : act ≡ changing (to_le_bytes w32 asks.watch.handle) (Adds asks.watch) = asks.act_is ∙ rw test refl in
     let number : handle ≡ a.client.additions + 1 = handle_is ∙ ap (λ n. n + 1) stands.additions in
     let same : asks.watch.handle ≡ handle = sym asks.agrees.handle ∙ sym number in
-    let agrees : AgreeingWatch (is_same_range a.world.plant.ports) asks.watch (new_watch handle spec) =
-    subst (λ n. AgreeingWatch (is_same_range a.world.plant.ports) asks.watch (new_watch n spec)) (sym number) asks.agrees in
+    let agrees : AgreeingWatch (is_same_watched a.world.plant.ports) asks.watch (new_watch handle spec) =
+    subst (λ n. AgreeingWatch (is_same_watched a.world.plant.ports) asks.watch (new_watch n spec)) (sym number) asks.agrees in
     rw (is, left) (record {
       ends = ap (λ b. let o : Outcome = record { code = 0; bytes = b } in o) (append-nil (to_le_bytes w32 asks.watch.handle)
           ∙ ap (to_le_bytes w32) same);
@@ -158,7 +174,7 @@ add_done a act s spec handle watches stands asks room handle_is left =
         stands = record {
           handles = stands.handles;
           additions = ap (λ n. n + 1) stands.additions;
-          watches = agreeing-more (is_same_range a.world.plant.ports) a.client.watches s.watches.watches asks.watch (new_watch handle spec)
+          watches = agreeing-more (is_same_watched a.world.plant.ports) a.client.watches s.watches.watches asks.watch (new_watch handle spec)
               stands.watches agrees;
         };
         memory = refl;
@@ -231,7 +247,7 @@ deleted-is a handle = refl
 pub delete_none : (a : Asking) (s : SessionState) (number handle : ℕ) → StandsFor a.world.plant a.client s → number ≡ a.asker.port.number
     → is_live number handle s.watches ≡ false → DeletesAs a (act_asked a (DeleteDeviceNotification handle)) (Err C714) s
 delete_none a s number handle stands port none =
-    let same = live-same (is_same_range a.world.plant.ports) number handle a.client.watches s.watches.watches stands.watches in
+    let same = live-same (is_same_watched a.world.plant.ports) number handle a.client.watches s.watches.watches stands.watches in
     let test : list_any (is_watch_of a.asker.port.number handle) a.client.watches ≡ false =
     subst (λ n. list_any (is_watch_of n handle) a.client.watches ≡ false) port (sym same ∙ none) in
     let is : act_asked a (DeleteDeviceNotification handle) ≡ Refusal (number_of C714) = deleted-is a handle ∙ rw test refl in
@@ -243,7 +259,7 @@ pub delete_done : (a : Asking) (s : SessionState) (number handle : ℕ) (watches
     → DeletesAs a (act_asked a (DeleteDeviceNotification handle)) (Ok tt) (record s { watches = watches })
 unfolding client_after memory_after_puts
 delete_done a s number handle watches stands port live left =
-    let same = live-same (is_same_range a.world.plant.ports) number handle a.client.watches s.watches.watches stands.watches in
+    let same = live-same (is_same_watched a.world.plant.ports) number handle a.client.watches s.watches.watches stands.watches in
     let test : list_any (is_watch_of a.asker.port.number handle) a.client.watches ≡ true =
     subst (λ n. list_any (is_watch_of n handle) a.client.watches ≡ true) port (sym same ∙ live) in
     let is : act_asked a (DeleteDeviceNotification handle) ≡ changing [] (Deletes handle) = deleted-is a handle ∙ rw test refl in
@@ -253,7 +269,7 @@ delete_done a s number handle watches stands port live left =
         stands = record {
           handles = stands.handles;
           additions = stands.additions;
-          watches = left-same (is_same_range a.world.plant.ports) handle a.client.watches s.watches.watches stands.watches;
+          watches = left-same (is_same_watched a.world.plant.ports) handle a.client.watches s.watches.watches stands.watches;
         };
         memory = refl;
       };

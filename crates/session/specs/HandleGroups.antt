@@ -1,9 +1,15 @@
 -- The groups of handles and of sums, which a session answers and no port does. No public clause cites this file.
-use Rattle.std.specs.Prelude.{ℕ, Bool, true, false, ◌||◌, Option, Some, is_some}
+use Rattle.std.specs.Prelude.{ℕ, Bool, true, false, ◌||◌, ◌==◌, Option, Some, is_some}
 use Rattle.spec_formats.specs.Groups.{Group, HandleByName, ValueByHandle, ValueByName, InfoByName, ExtendedInfoByName}
 use Rattle.spec_formats.specs.Groups.{ReleaseHandle, SumRead, SumWrite, SumReadWrite, group_of}
-use Rattle.spec_machine.specs.Manner.{Manner}
+use Rattle.spec_machine.specs.Manner.{Manner, Strict, Wide}
+use Rattle.spec_machine.specs.MoreActs.{device_data}
 use Rattle.spec_machine.specs.MoreSums.{sums_in_manner}
+
+-- whether a Read of the group of a number is of the state words, to a server of this manner
+abbrev pub reads_states : Manner → ℕ → Bool
+reads_states Strict number = false
+reads_states Wide number = number == device_data
 
 abbrev pub is_handle_by_name : Option Group → Bool
 is_handle_by_name (Some HandleByName) = true

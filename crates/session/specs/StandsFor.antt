@@ -1,11 +1,11 @@
 -- Which client of the machine a session stands for: its handles and its notifications are the client's, told by
--- numbers and ranges in place of names.
+-- numbers and places in place of names.
 use Rattle.std.specs.Prelude.{◌≡◌, List}
 use Rattle.spec_plant.specs.World.{Plant, PlantPort}
 use Rattle.spec_machine.specs.Handles.{Handle}
 use Rattle.spec_machine.specs.HandleLaws.{Test, AgreeingHandles, AgreeingWatches, handles_of}
 use Rattle.spec_machine.specs.NumberedPlaces.{is_same_place}
-use Rattle.spec_machine.specs.WatchedRanges.{is_same_range}
+use Rattle.spec_machine.specs.WatchedRanges.{is_same_watched}
 use Rattle.spec_machine.specs.Client as client
 use Rattle.symbol_table.specs.declared.place.Place.{Place}
 use Rattle.sym_handles.specs.History.{History, Represents}
@@ -27,4 +27,4 @@ pub record KeptFor (ports : List PlantPort) (handles : List (Handle client.Place
 pub record StandsFor (plant : Plant) (c : client.Client) (s : SessionState) : Type 0 where
   pub handles : KeptFor plant.ports c.handles s.handles
   pub additions : s.watches.additions ≡ c.additions
-  pub watches : AgreeingWatches (is_same_range plant.ports) c.watches s.watches.watches
+  pub watches : AgreeingWatches (is_same_watched plant.ports) c.watches s.watches.watches

@@ -1,5 +1,5 @@
 -- What a notification is to watch, and how its addition and its deletion end.
-use Rattle.std.specs.Prelude.{◌≡◌, true, false, ℕ, ◌+◌, ◌<◌, List, [], Bool, Option, Some, Result, Ok, Err}
+use Rattle.std.specs.Prelude.{◌≡◌, true, false, ℕ, ◌+◌, ◌<◌, List, [], Bool, Option, Some, Result, Ok, Err, unwrap_or}
 use Rattle.std.specs.Int.{w32, to_le_bytes}
 use Rattle.return_codes.specs.declared.code.Code.{Code}
 use Rattle.return_codes.specs.Code.{number_of}
@@ -8,15 +8,19 @@ use Rattle.spec_formats.specs.Codes.{no_error}
 use Rattle.spec_formats.specs.Groups.{Group, AreaBytes, AreaBit}
 use Rattle.spec_machine.specs.Access.{Addressed}
 use Rattle.spec_machine.specs.Acts.{Act, Refusal, Outcome, outcome_of, memory_after, effect_of}
+use Rattle.spec_machine.specs.Answers.{answered_group, ADD_DEVICE_NOTIFICATION}
+use Rattle.spec_machine.specs.Client as client
 use Rattle.spec_machine.specs.Client.{client_after}
 use Rattle.spec_machine.specs.HandleLaws.{AgreeingWatch}
+use Rattle.spec_machine.specs.Manner.{Manner, Strict, Wide}
+use Rattle.spec_machine.specs.MoreActs.{own_reach}
+use Rattle.spec_machine.specs.Reach.{reach_of}
 use Rattle.spec_machine.specs.Requests.{add_watch}
 use Rattle.spec_machine.specs.Watches.{Watch}
-use Rattle.spec_machine.specs.WatchedRanges.{is_same_range}
-use Rattle.index_groups.specs.declared.access.Reach.{Reach}
-use Rattle.index_groups.specs.Access.{range_meant}
+use Rattle.spec_machine.specs.WatchedRanges.{is_same_watched}
+use Rattle.notify_table.specs.declared.spec.Watched.{Watched}
 use Rattle.notify_table.specs.declared.spec.Spec.{Spec}
-use Rattle.notify_table.specs.Specs.{new_watch}
+use Rattle.notify_table.specs.Specs.{new_watch, watched_meant}
 use Rattle.session.specs.Asking.{Asking}
 use Rattle.session.specs.SessionState.{SessionState}
 use Rattle.session.specs.StandsFor.{StandsFor}
@@ -27,12 +31,18 @@ is_byte_or_bit (Some (AreaBytes area)) = true
 is_byte_or_bit (Some (AreaBit area)) = true
 is_byte_or_bit group = false
 
--- a range of a port is what an access addresses, or the code refuses both
-abbrev pub IsWatched : List PlantPort → ℕ → ℕ → Result (List Addressed) ℕ → Result Reach Code → Type 0
-IsWatched ports port len (Ok watched) (Ok reach) = 0 < len → is_same_range ports port watched (range_meant reach) ≡ true
+-- what an addition reaches of a server of this manner, or the code that refuses it
+abbrev pub addition_reach : Manner → client.Client → PlantPort → ℕ → ℕ → ℕ → Result (List Addressed) ℕ
+addition_reach Strict c p group offset len = reach_of c p (answered_group ADD_DEVICE_NOTIFICATION group) offset len
+addition_reach Wide c p group offset len =
+    unwrap_or (own_reach p.number group offset len) (reach_of c p (answered_group ADD_DEVICE_NOTIFICATION group) offset len)
+
+-- what is watched at a port is what an access addresses, or the code refuses both
+abbrev pub IsWatched : List PlantPort → ℕ → ℕ → Result (List Addressed) ℕ → Result Watched Code → Type 0
+IsWatched ports port len (Ok named) (Ok watched) = 0 < len → is_same_watched ports port named (watched_meant watched) ≡ true
 IsWatched ports port len (Err number) (Err code) = number ≡ number_of code
-IsWatched ports port len (Ok watched) (Err code) = ⊥
-IsWatched ports port len (Err number) (Ok reach) = ⊥
+IsWatched ports port len (Ok named) (Err code) = ⊥
+IsWatched ports port len (Err number) (Ok watched) = ⊥
 
 -- a number of 32 bits is answered, or a code
 abbrev pub AnswersNumber : Outcome → Result ℕ Code → Type 0
@@ -61,7 +71,7 @@ pub record DeletesAs (a : Asking) (act : Act) (answer : Result (Unit {0}) Code) 
 pub record AsksFor (a : Asking) (act : Act) (spec : Spec) : Type 0 where
   pub watch : Watch (List Addressed)
   pub act_is : act ≡ add_watch a.client watch
-  pub agrees : AgreeingWatch (is_same_range a.world.plant.ports) watch (new_watch (a.client.additions + 1) spec)
+  pub agrees : AgreeingWatch (is_same_watched a.world.plant.ports) watch (new_watch (a.client.additions + 1) spec)
 
 -- the notification that is asked for, or the code that refuses it before the limits are looked at
 abbrev pub IsSpecAsked : Asking → Act → Result Spec Code → Type 0

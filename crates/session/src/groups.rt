@@ -9,6 +9,20 @@ use index_groups::{HANDLE_BY_NAME, RELEASE_HANDLE, VALUE_BY_HANDLE, VALUE_BY_NAM
 use port_device::{Group, Port, group_named};
 use sum_commands::{SUM_SHORT_READ, SUM_TOLD_READ};
 
+/// The group of a port's state words, which the wide server alone knows (ADSIGRP_DEVICE_DATA).
+pub(crate) const DEVICE_DATA: u32 = 0xF100;
+
+/// Whether the group of a number is that of the state words of a wide port.
+#[inline(always)]
+pub(crate) fn is_device_data(port: &Port, number: u32) -> bool
+    ensures { result ≡ groups.reads_states port.now.manner number }
+{
+    if number != DEVICE_DATA {
+        return false;
+    }
+    port.is_wide()
+}
+
 /// Whether the group of a number gives a handle by a name.
 pub(crate) fn is_handle_by_name(number: u32) -> bool
     ensures { result ≡ groups.is_handle_by_name (group_of number) }

@@ -3,10 +3,10 @@
 ghost use Rattle.std.specs.Prelude.{◌≡◌, ◌+◌, ◌≤◌, length, IfOk, OnOk, OnErr};
 ghost use Rattle.spec_formats.specs.Request.{Read};
 ghost use Rattle.port_device.specs.Answers.{AnswersAct};
-ghost use Rattle.session.specs.Asking.{Asking, act_asked, plain_asked};
+ghost use Rattle.session.specs.Asking.{Asking, act_asked, plain_asked, meant_in};
 ghost use Rattle.session.specs.Asks.{Asks, SomeAsks};
 
-use crate::groups::is_value_by_handle;
+use crate::groups::{is_device_data, is_value_by_handle};
 use crate::looking::read_value;
 use crate::meaning::read_len;
 use crate::requests::ReadRequest;
@@ -17,7 +17,7 @@ use std::alloc::Global;
 use sym_handles::Handles;
 
 /// Appends what Read gives: a value by its handle, or what the port gives of the group. A wide port gives of a value by its
-/// handle what it has, where more is asked.
+/// handle what it has, where more is asked, and its state words by their group.
 /// Beckhoff Information System, "ADS Read".
 #[inline(always)]
 pub(crate) fn read(
@@ -33,6 +33,28 @@ pub(crate) fn read(
     ensures answer { IfOk result (λ answer. (a : Asking) → Asks a port.now handles.now
         → AnswersAct a.world (act_asked a (Read asked.now.group asked.now.offset asked.now.len)) answer out.old out.new) }
     ensures asked { OnOk result (length out.new ≤ length out.old + asked.now.len) }
+    ensures no_memory { OnErr result (out.new ≡ out.old) }
+{
+    if is_device_data(port, asked.group) {
+        return port.read_states(alloc, asked.offset, asked.len, out);
+    }
+    read_meant(alloc, handles, port, ams_port, asked, out)
+}
+
+// The same of a group that every port has.
+#[inline(always)]
+fn read_meant(
+    alloc: Global,
+    handles: &Handles,
+    port: &Port,
+    ams_port: u16,
+    asked: &ReadRequest,
+    out: &mut Octets,
+) -> Result<Result<(), Code>, NoMemory>
+    requires some { SomeAsks port.now handles.now }
+    requires number { ams_port ≡ port.now.number }
+    ensures answer { IfOk result (λ answer. (a : Asking) → Asks a port.now handles.now
+        → AnswersAct a.world (plain_asked a (meant_in a (Read asked.now.group asked.now.offset asked.now.len))) answer out.old out.new) }
     ensures no_memory { OnErr result (out.new ≡ out.old) }
 {
     let len = read_len(handles, port, ams_port, asked);

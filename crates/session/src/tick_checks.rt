@@ -6,8 +6,7 @@ ghost use Rattle.spec_plant.specs.Named.{port_numbered};
 ghost use Rattle.spec_machine.specs.Stamps.{frames_of_samples};
 ghost use Rattle.spec_machine.specs.Watches.{is_due};
 ghost use Rattle.spec_machine.specs.World.{World};
-ghost use Rattle.index_groups.specs.Access.{range_meant};
-ghost use Rattle.notify_table.specs.Specs.{new_watch, before_checks};
+ghost use Rattle.notify_table.specs.Specs.{watched_meant, new_watch, before_checks};
 ghost use Rattle.notify_table.specs.Table.{watch_of_handle, watched_len, due_handles, IsTable};
 ghost use Rattle.port_device.specs.Holds.{HoldsPorts};
 ghost use Rattle.session.specs.Checks.{bytes_found, IsReadable, AreReadable, IsCheck, AreChecked, samples_found, table_checked};
@@ -16,10 +15,10 @@ ghost use Rattle.session.specs.NoteFrames.{produced_of, IsNoteFrame};
 
 use crate::FrameList;
 use crate::notes_groups::NoteGroups;
-use crate::tick_bytes::{bit_in, bytes_in};
+use crate::tick_bytes::{bit_in, bytes_in, own_in, part_of};
 use ads_base::{NetId, NoMemory, Steps};
 use index_groups::Reach;
-use notify_table::{Handles32, Spec, Watches};
+use notify_table::{Handles32, Spec, Watched, Watches};
 use port_device::Ports;
 use std::alloc::Global;
 use std::marker::Brand;
@@ -104,22 +103,27 @@ fn check_spec(
     requires spec { IsSomeAnd (watch_of_handle handle watches.old) (λ v. new_watch handle spec.now ≡ before_checks v) }
     requires due { IsSomeAnd (watch_of_handle handle watches.old)
         (λ v. IsTrue (is_due now v) × IsReadable ports.now v.port v.watched) }
-    requires short { watched_len (range_meant spec.now.reach) ≤ 2048 }
+    requires short { watched_len (watched_meant spec.now.watched) ≤ 2048 }
     requires few { groups.old.added < 512 }
     ensures check { OnOk result ((w : World) → HoldsPorts w ports.now
         → IsCheck w now handle watches.old groups.old.groups watches.new groups.new.groups) }
     ensures added { groups.new.added ≤ groups.old.added + 1 }
 {
-    match spec.reach {
-        Reach::Bytes { area, at, len } => {
+    match spec.watched {
+        Watched::InArea(Reach::Bytes { area, at, len }) => {
             let bytes = bytes_in(ports, spec.port, area, at, len);
             check_bytes(alloc, watches, handle, now, spec, bytes, groups)
         }
-        Reach::Bit { area, at, bit } => {
+        Watched::InArea(Reach::Bit { area, at, bit }) => {
             let byte = [bit_in(ports, spec.port, area, at, bit)];
             check_bytes(alloc, watches, handle, now, spec, &byte, groups)
         }
-        Reach::Size { area: _ } => unreachable!(),
+        Watched::InArea(Reach::Size { area: _ }) => unreachable!(),
+        Watched::Own { first, len } => {
+            let own = own_in(ports, spec.port);
+            let bytes = part_of(&own, usize::from(first), usize::from(len));
+            check_bytes(alloc, watches, handle, now, spec, bytes, groups)
+        }
     }
 }
 
@@ -135,10 +139,10 @@ fn check_bytes(
 ) -> Result<(), NoMemory>
     requires spec { IsSomeAnd (watch_of_handle handle watches.old) (λ v. new_watch handle spec.now ≡ before_checks v) }
     requires due { IsSomeAnd (watch_of_handle handle watches.old) (λ v. IsTrue (is_due now v)) }
-    requires len { length bytes.now ≡ watched_len (range_meant spec.now.reach) }
+    requires len { length bytes.now ≡ watched_len (watched_meant spec.now.watched) }
     requires short { length bytes.now ≤ 2048 }
     requires few { groups.old.added < 512 }
-    ensures check { OnOk result ((w : World) → bytes.now ≡ bytes_found w (port_numbered spec.now.port w.plant.ports) (range_meant spec.now.reach)
+    ensures check { OnOk result ((w : World) → bytes.now ≡ bytes_found w (port_numbered spec.now.port w.plant.ports) (watched_meant spec.now.watched)
         → IsCheck w now handle watches.old groups.old.groups watches.new groups.new.groups) }
     ensures added { groups.new.added ≤ groups.old.added + 1 }
 {

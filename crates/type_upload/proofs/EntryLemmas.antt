@@ -4,13 +4,15 @@ use Rattle.std.specs.Prelude.{flat_map}
 use Rattle.std.proofs.lemmas.List.{append-nil, take_more, take_all, flat_map_more}
 use Rattle.std.proofs.lemmas.Grind.{flat_map-append}
 use Rattle.std.proofs.lemmas.Option.{unwrap_or-slice_get}
-use Rattle.spec_formats.specs.TypeEntry.{TypeFields, TypeEntry, sub_bytes, type_bytes, type_upload_bytes}
+use Rattle.spec_formats.specs.TypeEntry.{Dimension, TypeFields, TypeEntry, sub_bytes, type_bytes, type_upload_bytes}
 use Rattle.spec_plant.specs.Listed.{NamedType}
 use Rattle.spec_plant.specs.Trees.{TypeTree, StructTree, MemberTrees, NoMember, tree_at, trees_of}
 use Rattle.spec_plant.specs.Sizes.{type_size}
 use Rattle.spec_plant.specs.Entries.{type_id}
+use Rattle.spec_plant.specs.Spelling.{type_text}
+use Rattle.type_upload.specs.Alone.{entry_alone}
 use Rattle.spec_plant.proofs.TypeLemmas.{length-trees_behind}
-use Rattle.spec_formats.specs.TypeUpload.{members_fields, named_fields, entry_of_type, entries_of_types}
+use Rattle.spec_formats.specs.TypeUpload.{dimensions_of, members_fields, named_fields, entry_of_type, entries_of_types}
 use Rattle.type_upload.specs.WrittenFields.{front_bytes}
 use Rattle.type_upload.specs.NextMembers.{tree_bytes}
 
@@ -27,6 +29,25 @@ structure_written name members size id count read subs old mid new es ei en ec e
     let entry : TypeEntry = record { fields = named_fields (StructTree name members) name []; subs = members_fields 0 members } in
     let same : front ++ subs ≡ tree_bytes (StructTree name members) = rw (es, ei, en, ec, eb) (sym (append-nil (type_bytes entry))) in
     f ∙ (ap (λ (l : List ℕ). l ++ subs) e ∙ (append_assoc old front subs ∙ ap (λ (l : List ℕ). old ++ l) same))
+
+-- an entry without members
+pub alone_written : (tree : TypeTree) (size id : ℕ) (name kind : List ℕ) (dims : List Dimension) (old new : List ℕ)
+    → size ≡ type_size tree → name ≡ type_text tree → dims ≡ dimensions_of tree
+    → new ≡ old ++ front_bytes (record {
+      size = size;
+      offset = 0;
+      type_id = id;
+      flags = 1;
+      name = name;
+      type_name = kind;
+      comment = [];
+      dimensions = dims;
+    }) 0 0
+    → new ≡ old ++ type_bytes (entry_alone tree id kind)
+alone_written tree size id name kind dims old new es en ed e =
+    let front = front_bytes (entry_alone tree id kind).fields 0 0 in
+    let same : new ≡ old ++ front = rw (es, en, ed) at e in
+    same ∙ ap (λ (l : List ℕ). old ++ l) (sym (append-nil front))
 
 -- the upload, tree by tree
 pub upload-trees : (ts : List TypeTree) → type_upload_bytes (entries_of_types ts) ≡ flat_map tree_bytes ts

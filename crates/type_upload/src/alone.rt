@@ -68,8 +68,9 @@ fn layouts_before(alloc: Global, types: &Types, count: usize) -> Result<ListOf<L
 {
     let mut entry = Octets::new(alloc);
     let mut known = ListOf::new(alloc);
-    for named in &types.as_slice()[..count] {
+    for place in 0..count {
         entry.cut(0);
+        let named = &types.as_slice()[place];
         let layout = append_type(alloc, types, known.as_slice(), named, &mut entry)?;
         known.push(alloc, layout)?;
     }

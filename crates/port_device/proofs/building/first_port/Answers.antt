@@ -8,7 +8,7 @@ use Rattle.type_layout.specs.NamedTypes.{types_of}
 use Rattle.symbol_table.specs.Rows.{symbols_of_rows}
 use Rattle.symbol_table.specs.Tables.{IsPlaced, IsTableOf, IsTableWith}
 use Rattle.spec_plant.specs.Entries.{upload_size}
-use Rattle.port_device.specs.Uploads.{types_upload, symbols_upload, described}
+use Rattle.port_device.specs.Uploads.{types_upload, described}
 use Rattle.port_device.proofs.FirstPortLemmas.{of_accepted-placed, of_accepted-table, of_accepted-few, of_accepted-fits, of_accepted-upload, of_accepted-texts}
 use Rattle.port_device.specs.Marks.{AreMarks, IsWithinRow}
 use Rattle.port_device.specs.Signals.{AreBound}
@@ -94,8 +94,8 @@ invariant_of-result c =
       bytes = image.long ∙ ap image_size (sym sizes);
       texts = of_accepted-texts types port table c.requires.accepted is_table;
       uploads_are = record {
-        of_symbols = c.in_ok-symbols.ensures ∙ ap (λ ts. length (symbols_upload (types_of ts) table)) c.deref-2.ensures
-            ∙ ap (λ ts. length (symbols_upload ts table)) same;
+        of_symbols = c.in_ok-symbols.ensures ∙ ap (λ ts. upload_size (types_of ts) (described table)) c.deref-2.ensures
+            ∙ ap (λ ts. upload_size ts (described table)) same;
         of_types = c.requires.types_len ∙ ap (λ ts. length (types_upload ts)) same;
       };
       bound_are = subst (AreBound c.in_ok-bound.bound.items) c.symbols-rows.ensures.rows c.in_ok-bound.ensures.bound_are;

@@ -16,7 +16,7 @@ tell_one-requires c =
     let i = c.loop-i.i in
     let t = c.index-list-i.result in
     let same = c.loop-i.invariant.others i t (omega arith) in
-    λ open_. subst (λ (u : Turned). IsReloadable c.args.moves.now u.session) (sym same)
+    λ open_. subst (λ (u : Turned). IsReloadable c.args.moves.now c.args.ports.now u.session) (sym same)
     (c.requires i t (omega (arith, c.loop-i.invariant.many)) (sym (ap (λ (u : Turned). u.skip) same) ∙ open_))
 
 pub loop-i-preserved : goal.loop-i-preserved

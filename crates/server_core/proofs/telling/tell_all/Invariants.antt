@@ -10,6 +10,6 @@ abbrev pub invariant-loop-i : goal.invariant-loop-i
 invariant-loop-i l = record {
   many : length l.list ≡ length l.initial.list;
   others : (k : ℕ) (d : Turned) → l.i ≤ k → get_or l.list k d ≡ get_or l.initial.list k d;
-  asked : (w v : World) → AreMoves w.plant v.plant l.moves → w.plant.net ≡ l.net.bytes
+  asked : (w v : World) → AreMoves w.plant v.plant l.moves l.ports → w.plant.net ≡ l.net.bytes
       → (k : ℕ) (d : Turned) → k < l.i → IsAsked w.plant v.plant (client_reloaded l.time w v) (get_or l.initial.list k d) (get_or l.list k d);
 }

@@ -4,8 +4,8 @@ use Rattle.type_layout.specs.NamedTypes.{types_of}
 use Rattle.type_upload.specs.Layouts.{AreKnown}
 use Rattle.type_upload.proofs.alone.layouts_before.Given as goal
 
-abbrev pub invariant-loop-named : goal.invariant-loop-named
-invariant-loop-named l = record {
+abbrev pub invariant-loop-place : goal.invariant-loop-place
+invariant-loop-place l = record {
   known : AreKnown (types_of l.types) l.known;
-  count : length l.known ≡ l.named-index;
+  count : length l.known ≡ l.place;
 }

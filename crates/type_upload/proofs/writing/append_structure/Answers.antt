@@ -26,7 +26,7 @@ append_fields-requires-clause-short c =
     let ms = map member_of c.args.s.now.members in
     let stands = stands_at (types_of c.args.types.now) (length c.args.known.now) (Structure c.args.s.now.name ms) c.requires.types c.requires.there in
     record {
-      name = rw c.as_slice.ensures (short_type_name c.args.s.now.name stands.name);
+      name = let short = short_type_name c.args.s.now.name stands.name in rw c.as_slice.ensures (omega (arith, short));
       kind = omega arith;
       comment = omega arith;
       dims = omega arith;

@@ -15,7 +15,7 @@ returns-clause-answer c = λ w p h.
     let size = c.self.inside.uploads.symbols in
     let bytes = c.self.inside.uploads.types in
     let few : 24 ≤ c.args.len = omega (arith, c.if-len-lt24.false) in
-    fixed_given w c.args.len 24 (upload_info_with_types_of w.plant p) (four_bytes (count ∷ size ∷ named ∷ bytes ∷ 0 ∷ 0 ∷ [])) c.args.out.now
+    fixed_given w c.args.len 24 (upload_info_with_types_of w.profile.manner w.plant p) (four_bytes (count ∷ size ∷ named ∷ bytes ∷ 0 ∷ 0 ∷ [])) c.args.out.now
     c.put_numbers.new.out refl few
     (all_sizes_put w p m count size named bytes held
     (c.symbol_count-symbols.ensures ∙ sym (ap (λ (x : PortMemory). length x.table.symbols) c.self.view_is))

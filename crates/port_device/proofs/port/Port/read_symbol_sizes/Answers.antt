@@ -13,6 +13,6 @@ returns-clause-answer c = λ w p h.
     let count = c.symbol_count.result in
     let size = c.self.inside.uploads.symbols in
     let few : 8 ≤ c.args.len = omega (arith, c.if-len-lt8.false) in
-    fixed_given w c.args.len 8 (upload_info_of p) (four_bytes (count ∷ size ∷ [])) c.args.out.now c.put_numbers.new.out refl few
+    fixed_given w c.args.len 8 (upload_info_of w.profile.manner p) (four_bytes (count ∷ size ∷ [])) c.args.out.now c.put_numbers.new.out refl few
     (sizes_put w p m count size held (c.symbol_count.ensures ∙ sym (ap (λ (x : PortMemory). length x.table.symbols) c.self.view_is))
     c.self.invariant.uploads_are.of_symbols) c.in_ok-put_numbers.ensures.ok

@@ -1,0 +1,31 @@
+use Rattle.std.proofs.Common.{◌∙◌, sym, subst, ◌≡◌}
+use Rattle.spec_formats.specs.Ranges.{range_of}
+use Rattle.index_groups.specs.Access.{answer_meant, IsWithin}
+use Rattle.std.specs.Prelude.{IfOk}
+use Rattle.session.proofs.WatchedReach.{watched_in_area, area_len, watched_nowhere, watched_by_value}
+use Rattle.session.proofs.watching.watched_plain.Goals as goal
+
+pub returns-then-is_value_by_handle-clause-watched : goal.returns-then-is_value_by_handle-clause-watched
+returns-then-is_value_by_handle-clause-watched c = λ a asks.
+    let x = c.args.asked.now in
+    watched_by_value a x.group x.offset x.len c.watched_by_handle.result
+    (sym c.is_value_by_handle.ensures ∙ c.if-is_value_by_handle.true) (c.watched_by_handle.ensures.watched a c.args.port.now c.requires.number asks)
+
+pub returns-then-not-is_bytes_or_bit-clause-watched : goal.returns-then-not-is_bytes_or_bit-clause-watched
+returns-then-not-is_bytes_or_bit-clause-watched c = λ a asks.
+    let x = c.args.asked.now in
+    watched_nowhere a x.group x.offset x.len (sym c.is_bytes_or_bit.ensures ∙ c.if-not-is_bytes_or_bit.true)
+    (sym c.is_value_by_handle.ensures ∙ c.if-is_value_by_handle.false)
+
+pub returns-clause-watched : goal.returns-clause-watched
+returns-clause-watched c = λ a asks.
+    let x = c.args.asked.now in
+    watched_in_area a c.args.port.now x.group x.offset x.len c.reach.result asks.held
+    (sym c.is_bytes_or_bit.ensures ∙ c.if-not-is_bytes_or_bit.false)
+    (subst (λ s. answer_meant c.reach.result ≡ range_of s x.group x.offset x.len) c.sizes.ensures c.reach.ensures.rule)
+    (subst (λ s. IfOk c.reach.result (IsWithin s)) c.sizes.ensures c.reach.ensures.within)
+
+pub returns-clause-len : goal.returns-clause-len
+returns-clause-len c =
+    let x = c.args.asked.now in
+    area_len _ x.group x.offset x.len c.reach.result (sym c.is_bytes_or_bit.ensures ∙ c.if-not-is_bytes_or_bit.false) c.reach.ensures.rule
