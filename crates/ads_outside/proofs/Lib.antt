@@ -2,4 +2,3 @@ pub mod StreamLemmas
 pub mod UnloggedLemmas
 pub mod WireLemmas
 pub mod LinkLemmas
-mod OutsideExamples

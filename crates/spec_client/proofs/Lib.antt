@@ -6,4 +6,3 @@ mod RecordingExamples
 pub mod Hearings
 pub mod TurnsUnfolded
 pub mod TurnCases
-mod LogExamples

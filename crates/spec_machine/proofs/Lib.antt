@@ -47,4 +47,3 @@ pub mod RangesMoved
 pub mod AreaContent
 pub mod WritableBytes
 pub mod WorldBytes
-mod TurnExamples

@@ -11,4 +11,3 @@ mod WrittenExamples
 mod NotifiedExamples
 mod LifeExamples
 mod KeptExamples
-mod PromiseExamples

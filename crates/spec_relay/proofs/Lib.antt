@@ -1,6 +1,5 @@
 mod Examples
 mod PassageExamples
-mod PromisedExamples
 pub mod ChangeLemmas
 pub mod GivenLemmas
 pub mod TakenLemmas

@@ -1,5 +1,4 @@
 mod StoreExamples
-mod DiskExamples
 pub mod DiskLemmas
 pub mod SlotLemmas
 pub mod StandingLemmas

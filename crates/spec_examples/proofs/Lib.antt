@@ -1,0 +1,5 @@
+mod OutsideExamples
+mod TurnExamples
+mod RelayExamples
+mod DiskExamples
+mod LinkLogExamples
