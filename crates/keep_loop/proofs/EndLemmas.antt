@@ -28,7 +28,7 @@ use Rattle.keep_loop.specs.Saving.{LeavesEach, StaysTold, IsBegun, Differs, Afte
 use Rattle.keep_loop.specs.Ending.{EndsBySave, end_of, end_by_save}
 use Rattle.keep_loop.specs.Keeping.{Keeps, EndsAfter, TookAll, StopsInSave, BreaksOff, TookTurns, CountsSaves, FileStandsFor, StandsAfterSaves, StandsAtEnd}
 use Rattle.keep_loop.specs.Keeping.{AfterKeep, AllButLast, KeepsSoFar}
-use Rattle.keep_loop.proofs.SaveLemmas.{last_of, over_then, standing_then, left_then, left_more, left_same, told_then, told_same}
+use Rattle.keep_loop.proofs.SaveLemmas.{last_of, first_standing, over_then, standing_then, left_then, left_more, left_same, told_then, told_same}
 use Rattle.keep_loop.proofs.TurnLemmas.{state_played, keeps_last, keeps_to}
 use Rattle.keep_loop.proofs.KeepLemmas.{IsBodyOf, any_over, length_one, same_adds, other_adds, tick_keeps}
 
@@ -69,12 +69,6 @@ module _ {W C D : Type 0} (every : ℕ) (of_world : BodyOf W) (step : EventStep 
       (CountsSaves end first.standing)
       (StandsAtEnd end contents may_leave old_disk new_disk first.standing)
 
-  -- what stands is the first of it and others
-  stands_first : (standing one : Option slots.Standing) (last : List (List ℕ)) → one ≡ standing → runs.IsOneOf standing last one
-  unfolding runs.IsOneOf
-  stands_first standing one [] is = is
-  stands_first standing one (body ∷ bodies) is = inl is
-
   -- a save was begun behind others
   begun_last : (old_disk mid_disk disk : D) (standing mid_standing : Option slots.Standing) (saves : List (List ℕ)) (body : List ℕ)
       → ((d : D) (t : ℕ) (c : List ℕ) → t ≤ moment d → may_leave d c → left_since d t c)
@@ -109,7 +103,7 @@ module _ {W C D : Type 0} (every : ℕ) (of_world : BodyOf W) (step : EventStep 
         let now = told file here in
         let is_so = ready now.0 now.1 open_ in
         let stood = is_so.0 c (subst (λ (d : D). may_leave d c) same leaves) in
-        stands_first (runs.standing_after_all standing saves) (slots.standing_of c) last (ap slots.standing_of stood ∙ (is_so.1 ∙ is));
+        first_standing last (runs.standing_after_all standing saves) (slots.standing_of c) (ap slots.standing_of stood ∙ (is_so.1 ∙ is));
   }
 
   -- in a save behind a tick

@@ -1,6 +1,6 @@
 -- Which names were opened, behind one call and another.
-use Rattle.std.proofs.Common.{◌≡◌, ℕ, zero, suc, ◌+◌, List, [], ◌∷◌, ◌++◌, sym, subst, ap, ◌∙◌, append-nil}
-use Rattle.std.specs.Prelude.{Option, Some, None, IfSome, Result, Ok, Err, replicate, unwrap_or}
+use Rattle.std.proofs.Common.{◌≡◌, ℕ, zero, suc, ◌+◌, List, [], ◌∷◌, ◌++◌, refl, sym, subst, ap, ◌∙◌, append-nil}
+use Rattle.std.specs.Prelude.{Option, Some, None, IfSome, Result, Ok, Err, take, replicate, unwrap_or}
 use Rattle.std.proofs.lemmas.List.{append_assoc, replicate-append-replicate}
 use Rattle.std.proofs.lemmas.Option.{none-some}
 use Rattle.ads_outside.specs.FilesState.{ReadsAll, ReadsSome}
@@ -27,19 +27,17 @@ pub only_not : (name : Option (List ℕ)) (old new : Names) → new ≡ old → 
 only_not None old new same = tt
 only_not (Some name) old new same = only_none old new name same
 
+none_taken : (n : ℕ) → take {A = List ℕ} n [] ≡ []
+none_taken zero = refl
+none_taken (suc n) = refl
+
 pub some_only : (old new : Names) (name : List ℕ) → ReadsSome old new (name ∷ []) → OpensOnly old new name
 some_only None new name some = tt
 some_only (Some names) new name (zero, is) = (0, is)
-some_only (Some names) new name (suc n, is) = (1, is)
+some_only (Some names) new name (suc n, is) = (1, is ∙ ap (λ l. Some (names ++ name ∷ l)) (none_taken n))
 
 pub all_only : (old new : Names) (name : List ℕ) → ReadsAll old new (name ∷ []) → OpensOnly old new name
 all_only old new name all = some_only old new name (all_is_some old new name all)
-
--- a name that was opened once, or not for want of memory
-pub once_only : {T E : Type 0} (result : Result T E) (old new : Names) (name : List ℕ) → OpensOnce result old new name
-    → OpensOnly old new name
-once_only (Ok answer) old new name all = all_only old new name all
-once_only (Err e) old new name some = some_only old new name some
 
 -- it was opened, and nothing behind it
 pub once_behind : {T E : Type 0} (result : Result T E) (old mid new : Names) (name : List ℕ) → ReadsAll old mid (name ∷ []) → new ≡ mid
