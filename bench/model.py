@@ -432,6 +432,17 @@ class Server:
         if offset + count > size or count > MOST:
             raise Refused(0x705)
 
+    def own(self, port):
+        """A port's own bytes: ADS state, device state, and the version."""
+        return u16(port.state[0]) + u16(port.state[1]) + bytes([self.version])
+
+    @staticmethod
+    def states(offset, count):
+        if offset > 4:
+            raise Refused(0x703)
+        if offset + count > 4:
+            raise Refused(0x705)
+
     @staticmethod
     def bit(port, area, offset, count):
         if offset // 8 >= len(port.areas[area]):
@@ -450,6 +461,9 @@ class Server:
             area, at, size = self.handle(conn, port, offset)
             count = self.at_most(count, size)
             return bytes(port.areas[area][at:at + count])
+        if group == 0xF100 and self.wide:
+            self.states(offset, count)
+            return self.own(port)[offset:offset + count]
         fixed = {
             **{it: lambda area=area: u32(len(port.areas[area])) for it, area in SIZE_OF.items()},
             0xF008: lambda: bytes([self.version]), 0xF00B: port.upload, 0xF00C: lambda: u32(len(port.symbols)) + u32(len(port.upload())),
@@ -581,10 +595,18 @@ class Server:
             raise Refused(0x713)
         if count > 2048:
             raise Refused(0x717)
-        if group not in BYTES_OF and group not in BITS_OF and group != 0xF005:
+        own = self.wide and group in (0xF008, 0xF100)
+        if group not in BYTES_OF and group not in BITS_OF and group != 0xF005 and not own:
             raise Refused(0x702)
         bit = None
-        if group == 0xF005:
+        if own and group == 0xF008:
+            area, at = None, 4
+            if count != 1:
+                raise Refused(0x705)
+        elif own:
+            area, at = None, offset
+            self.states(offset, count)
+        elif group == 0xF005:
             area, at, size = self.handle(conn, port, offset)
             if count > size:
                 raise Refused(0x705)
@@ -641,7 +663,8 @@ class Server:
             if watch["last"] is not None and self.moment - watch["last"] < max(watch["cycle"], 1):
                 continue
             port = self.ports[watch["port"]]
-            given = bytes(port.areas[watch["area"]][watch["at"]:watch["at"] + watch["size"]])
+            held = self.own(port) if watch["area"] is None else port.areas[watch["area"]]
+            given = bytes(held[watch["at"]:watch["at"] + watch["size"]])
             if watch["bit"] is not None:
                 given = bytes([given[0] >> watch["bit"] & 1])
             if watch["last"] is None or watch["mode"] == 3 or given != watch["sent"]:
@@ -673,6 +696,11 @@ class Server:
                 it["outdated"] = it["outdated"] or (it["port"], it["symbol"]) not in kept
             ended = []
             for number, watch in sorted(conn.watches.items()):
+                if watch["area"] is None:
+                    if watch["port"] not in self.ports:
+                        ended.append((number, watch, b""))
+                        del conn.watches[number]
+                    continue
                 covering = old[watch["port"]].covering(watch["area"], watch["at"], watch["size"])
                 was = covering[0] if len(covering) == 1 else None
                 whole = was and was["at"] <= watch["at"] and watch["at"] + watch["size"] <= was["at"] + was["size"]

@@ -146,6 +146,27 @@ def modes():
         yield row(f"Mode {mode} is none.", (add(1, 0x4040, 0, 4, mode), refused(1, 0x713, 6)))
 
 
+def control(number, ads, device=0):
+    return frame(5, number, u16(ads) + u16(device) + u32(0))
+
+
+def own():
+    """A port's own bytes: its state words, by 0xF100, and the version of its symbols, by 0xF008."""
+    yield row("The state words by their group: both, one, and a part; none of them at their end.", (read(1, 0xF100, 0, 4), given(1, u16(5) + u16(0))), (read(2, 0xF100, 2, 2), given(2, u16(0))),
+              (read(3, 0xF100, 0, 1), given(3, b"\5")), (read(4, 0xF100, 4, 0), given(4, b"")))
+    yield row("An offset behind them, and more bytes than stand there, are refused; they are not written by their group.", (read(1, 0xF100, 5, 0), refused(1, 0x703)), (read(2, 0xF100, 0, 5), refused(2, 0x705)),
+              (read(3, 0xF100, 3, 0xFFFFFFFF), refused(3, 0x705)), (write(4, 0xF100, 0, u16(6)), refused(4, 0x702, 3)), (ask(5, 0xF100, 0, 4, b""), refused(5, 0x702, 9)))
+    yield row("As a part of a sum of reads.", (ask(1, 0xF080, 2, 13, u32(0xF100) + u32(0) + u32(4) + u32(0xF008) + u32(0) + u32(1)), given(1, u32(0) * 2 + u16(5) + u16(0) + b"\1", 9)))
+    yield row("A notification on the state tells what a control sets, at the tick behind it.", (add(1, 0xF100, 0, 4), added(1, 1)), (("tick", 1000), stamp(1000, (1, u16(5) + u16(0)))), (("tick", 2000),),
+              (control(2, 6, 7), done(2, 5)), (read(3, 0xF100, 0, 4), given(3, u16(6) + u16(7))), (("tick", 3000), stamp(3000, (1, u16(6) + u16(7)))))
+    yield row("A notification on the version tells a reload, at the tick behind it, and one on the state goes on.", (add(1, 0xF008, 99, 1), added(1, 1)),
+              (add(2, 0xF100, 0, 2), added(2, 2)), (("tick", 1000), stamp(1000, (1, b"\1"), (2, u16(5)))), (("reload", PLANT2), "reload ok 2"), (("tick", 2000), stamp(2000, (1, b"\2"))),
+              (read(3, 0xF008, 0, 1), given(3, b"\2")))
+    yield row("A notification on other bytes than these is refused, in the order of the checks of every addition.", (add(1, 0xF008, 0, 2), refused(1, 0x705, 6)), (add(2, 0xF008, 0, 0), refused(2, 0x705, 6)),
+              (add(3, 0xF100, 5, 1), refused(3, 0x703, 6)), (add(4, 0xF100, 3, 2), refused(4, 0x705, 6)), (add(5, 0xF100, 0, 0), refused(5, 0x705, 6)), (add(6, 0xF100, 9, 4, 7), refused(6, 0x713, 6)),
+              (add(7, 0xF100, 9, 2049), refused(7, 0x717, 6)))
+
+
 STRANGER = "9.9.9.9.1.1"
 
 
@@ -162,4 +183,4 @@ def others():
     yield row("A reload leaves others their right.", (("reload", PLANT2), "reload ok 2"), (frame(4, 1, b"", source=STRANGER), reply(4, 1, u32(0) + u16(5) + u16(0), to=STRANGER)), (writes, barred), others="read")
 
 
-SUBJECTS = {"wide_longer": longer, "wide_sums": sums, "wide_alike": alike, "wide_reloads": reloads, "wide_names": names, "wide_modes": modes, "wide_others": others}
+SUBJECTS = {"wide_longer": longer, "wide_sums": sums, "wide_alike": alike, "wide_reloads": reloads, "wide_names": names, "wide_modes": modes, "wide_own": own, "wide_others": others}

@@ -109,7 +109,8 @@ read-leaves a group offset len m kept asks =
 
 -- only bytes are others, twice
 pub keeps-both : (first second third : PortMemory) → KeepsDescription first second → KeepsDescription second third → KeepsDescription first third
-keeps-both first second third one two = two ∙ ap (λ (m : PortMemory). record m { bytes = third.bytes }) one
+keeps-both first second third one two =
+    let b = third.bytes in two ∙ ap (λ (m : PortMemory). record m { bytes = record b { version = m.bytes.version } }) one
 
 pub keeps-number : (old new : PortMemory) → KeepsDescription old new → new.number ≡ old.number
 keeps-number old new keeps = ap (λ (m : PortMemory). m.number) keeps
