@@ -131,7 +131,7 @@ def system_state(said="port 10000"):
 
 
 def notes_of_version():
-    return [step("a notification on 0xF008", add(0xF008, 0, 1, 4), code(0x702)), step("a notification on 0xF100", add(0xF100, 0, 4, 4), code(0x702))]
+    return [step("a notification on 0xF008", add(0xF008, 0, 1, 4), code(0x702), OK), step("a notification on 0xF100", add(0xF100, 0, 4, 4), code(0x702), OK)]
 
 
 SESSIONS = (

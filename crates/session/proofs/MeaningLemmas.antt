@@ -40,10 +40,10 @@ strict_is : (x : Manner) → is_wide x ≡ false → Strict ≡ x
 strict_is Strict f = refl
 strict_is Wide f = absurd (false≢true (sym f))
 
-wide-world : (a : Asking) (m : PortMemory) (kept : Kept) → Asks a m kept → is_wide m.manner ≡ true → Wide ≡ a.world.profile.manner
+pub wide-world : (a : Asking) (m : PortMemory) (kept : Kept) → Asks a m kept → is_wide m.manner ≡ true → Wide ≡ a.world.profile.manner
 wide-world a m kept asks t = wide_is m.manner t ∙ asks.held.manner
 
-strict-world : (a : Asking) (m : PortMemory) (kept : Kept) → Asks a m kept → is_wide m.manner ≡ false → Strict ≡ a.world.profile.manner
+pub strict-world : (a : Asking) (m : PortMemory) (kept : Kept) → Asks a m kept → is_wide m.manner ≡ false → Strict ≡ a.world.profile.manner
 strict-world a m kept asks f = strict_is m.manner f ∙ asks.held.manner
 
 -- a length by a handle
