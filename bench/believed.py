@@ -6,6 +6,7 @@
     python3 bench/believed.py --names     a line a definition
     python3 bench/believed.py --write     writes docs/BELIEVED.md
     python3 bench/believed.py --check     status 1 where that page is another, or something is not right: `wrong_in` says what
+    python3 bench/believed.py --tried     how many lines of the definitions of each part the worked examples reach, and a line a definition that none reaches
     python3 bench/believed.py --spare     definitions that stand twice, and those that nobody reaches: what might be cut
     python3 bench/believed.py --from crates/X/src/y.rt:name      one function or definition by itself
 
@@ -236,8 +237,8 @@ def find(where, name):
                 if found and word in found.items:
                     return found.items[word]
             return exported(crate, name)
-        for length in (len(parts), len(parts) - 1) if kind == "specs" else ():
-            found = page((CRATES / crate / "specs" / pathlib.Path(*parts[:length])).with_suffix(".antt")) if length else None
+        for length in (len(parts), len(parts) - 1) if kind in ("specs", "proofs") else ():
+            found = page((CRATES / crate / kind / pathlib.Path(*parts[:length])).with_suffix(".antt")) if length else None
             if found:
                 word = name if name in found.items or name in found.exports else ".".join(parts[length:]) or name
                 if word in found.items:
@@ -577,11 +578,39 @@ def spare(parts):
             print(f"{len(item.lines):4} lines  {told(item)}")
 
 
+def examples():
+    """The files of worked examples, each as one item without its uses and without the lists of what is unfolded."""
+    for path in sorted(CRATES.glob("*/proofs/*Examples.antt")):
+        of, lines, inside = page(path), [], False
+        for at, line in enumerate(of.lines):
+            inside = re.match(r"(?:pub )?(?:use|unfolding) ", line) or (inside and line.startswith(" "))
+            if not inside:
+                lines.append(at)
+        yield Item(of, "", lines)
+
+
+def is_definition(item):
+    return item.file.path.suffix == ".antt"
+
+
+def tried(parts):
+    """Of each part: what the worked examples reach of its definitions, as names are followed from them, and what they do not."""
+    known = reached(examples(), {})
+    for items in parts:
+        yield lines_of(filter(is_definition, items)), [item for item in items if is_definition(item) and id(item) not in known]
+
+
 def main(words):
     chosen = (("One", "", (words[words.index("--from") + 1],)),) if "--from" in words else PARTS
     parts = in_parts(chosen)
     if "--spare" in words:
         spare(parts)
+        return 0
+    if "--tried" in words:
+        for k, ((title, _, _), (every, left)) in enumerate(zip(chosen, tried(parts))):
+            print(f"{k + 1}. {title}: {every - lines_of(left):,} of {every:,} lines of definitions; not reached: {len(left)}")
+            for item in sorted(left, key=lambda it: (it.file.path, it.lines)):
+                print(f"{len(item.lines):4} lines  {item.place()} {item.name}")
         return 0
     wrong = list(wrong_in(parts))
     if "--write" in words:

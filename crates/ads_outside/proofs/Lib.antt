@@ -2,3 +2,4 @@ pub mod StreamLemmas
 pub mod UnloggedLemmas
 pub mod WireLemmas
 pub mod LinkLemmas
+mod OutsideExamples

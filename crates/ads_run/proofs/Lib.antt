@@ -7,3 +7,4 @@ pub mod StoreLemmas
 pub mod RecordRunLemmas
 pub mod OwnLemmas
 pub mod SignalLemmas
+mod CauseExamples

@@ -14,6 +14,7 @@ ghost use Rattle.run_tasks.specs.Prints.{PrintsEnding};
 ghost use Rattle.ads_run.specs.Program.{RunsWith, words_behind_name};
 ghost use Rattle.ads_run.specs.ProgramWaves.{program_waves};
 ghost use Rattle.file_run.specs.Promises.{PlayKeepsPromises};
+ghost use Rattle.run_tasks.specs.Openings.{OpensStore, OpensTable};
 ghost use Rattle.run_tasks.specs.Readings.{OverFiles, ReadsFiles, asks_disk, asks_keeper, asks_link, reads_no_file};
 ghost use Rattle.call_run.specs.RecordRows.{AddsRows};
 ghost use Rattle.run_tasks.specs.Tasks.{asked_task};
@@ -73,6 +74,10 @@ pub fn run_program<T: Threads + Sync, F: Files, W: Wire, L: Link, S: Sink, D: Di
     ensures no_keeper { asks_keeper (asked_task (words_behind_name words)) ≡ false → keeper.new ≡ keeper.old }
     ensures before_run { IsBeforeRun result
         → (wire.new ≡ wire.old) × (link.new ≡ link.old) × (disk.new ≡ disk.old) × (keeper.new ≡ keeper.old) }
+
+    // The file of values and the table that are opened are those that the words name.
+    ensures opens_store { OpensStore (asked_task (words_behind_name words)) result (D.names disk.old) (D.names disk.new) }
+    ensures opens_table { OpensTable (asked_task (words_behind_name words)) result (K.state keeper.old).names (K.state keeper.new).names }
 
     // Rows of a table stay as they are: at most a million are put behind them, numbered on.
     ensures grows { AddsRows (K.state keeper.old).rows (K.state keeper.new).rows }
@@ -148,6 +153,8 @@ fn run_signals<T: Threads + Sync, F: Files, W: Wire, L: Link, S: Sink, D: Disk, 
     ensures no_keeper { asks_keeper (asked_task (words_behind_name words)) ≡ false → keeper.new ≡ keeper.old }
     ensures before_run { IfOk result (λ s. IsBeforeRun s
         → (wire.new ≡ wire.old) × (link.new ≡ link.old) × (disk.new ≡ disk.old) × (keeper.new ≡ keeper.old)) }
+    ensures opens_store { IfOk result (λ s. OpensStore (asked_task (words_behind_name words)) s (D.names disk.old) (D.names disk.new)) }
+    ensures opens_table { IfOk result (λ s. OpensTable (asked_task (words_behind_name words)) s (K.state keeper.old).names (K.state keeper.new).names) }
     ensures grows { AddsRows (K.state keeper.old).rows (K.state keeper.new).rows }
     ensures read_fault { IfOk result (λ s. s ≡ Status.ReadFault → Rose (F.state files.old).faults (F.state files.new).faults) }
     ensures write_fault { IfOk result (λ s. s ≡ Status.WriteFault → Rose (S.state out.old).faults (S.state out.new).faults) }

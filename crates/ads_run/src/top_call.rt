@@ -13,6 +13,7 @@ ghost use Rattle.run_tasks.specs.Fits.{FitsTask};
 ghost use Rattle.file_run.specs.Migrated.{HasMigrated};
 ghost use Rattle.run_tasks.specs.Prints.{PrintsEnding};
 ghost use Rattle.file_run.specs.Promises.{PlayKeepsPromises};
+ghost use Rattle.run_tasks.specs.Openings.{OpensStore, OpensTable};
 ghost use Rattle.run_tasks.specs.Readings.{OverFiles, ReadsFiles, asks_disk, asks_keeper, asks_link, reads_no_file};
 ghost use Rattle.call_run.specs.RecordRows.{AddsRows};
 ghost use Rattle.run_tasks.specs.Tasks.{asked_task};
@@ -101,6 +102,10 @@ pub fn run<T: Threads + Sync, F: Files, W: Wire, L: Link, S: Sink, D: Disk, K: K
     ensures before_run { IsBeforeRun result
         → (wire.new ≡ wire.old) × (link.new ≡ link.old) × (disk.new ≡ disk.old) × (keeper.new ≡ keeper.old) }
 
+    // The file of values and the table that are opened are those that the words name.
+    ensures opens_store { OpensStore (asked_task (map string_bytes words.now)) result (D.names disk.old) (D.names disk.new) }
+    ensures opens_table { OpensTable (asked_task (map string_bytes words.now)) result (K.state keeper.old).names (K.state keeper.new).names }
+
     // Rows of a table stay as they are: at most a million are put behind them, numbered on.
     ensures grows { AddsRows (K.state keeper.old).rows (K.state keeper.new).rows }
 
@@ -185,6 +190,8 @@ fn run_words<
     ensures no_keeper { asks_keeper (asked_task (map string_bytes words.now)) ≡ false → keeper.new ≡ keeper.old }
     ensures before_run { IsBeforeRun result
         → (wire.new ≡ wire.old) × (link.new ≡ link.old) × (disk.new ≡ disk.old) × (keeper.new ≡ keeper.old) }
+    ensures opens_store { OpensStore (asked_task (map string_bytes words.now)) result (D.names disk.old) (D.names disk.new) }
+    ensures opens_table { OpensTable (asked_task (map string_bytes words.now)) result (K.state keeper.old).names (K.state keeper.new).names }
     ensures grows { AddsRows (K.state keeper.old).rows (K.state keeper.new).rows }
     ensures read_fault { result ≡ Status.ReadFault → Rose (F.state files.old).faults (F.state files.new).faults }
     ensures migrated { HasMigrated (length (G.waves signals)) (asked_task (map string_bytes words.now)) result
@@ -229,6 +236,8 @@ fn run_task<T: Threads + Sync, F: Files, W: Wire, L: Link, S: Sink, D: Disk, K: 
     ensures no_keeper { asks_keeper (Some task.now) ≡ false → keeper.new ≡ keeper.old }
     ensures before_run { IsBeforeRun result
         → (wire.new ≡ wire.old) × (link.new ≡ link.old) × (disk.new ≡ disk.old) × (keeper.new ≡ keeper.old) }
+    ensures opens_store { OpensStore (Some task.now) result (D.names disk.old) (D.names disk.new) }
+    ensures opens_table { OpensTable (Some task.now) result (K.state keeper.old).names (K.state keeper.new).names }
     ensures grows { AddsRows (K.state keeper.old).rows (K.state keeper.new).rows }
     ensures read_fault { result ≡ Status.ReadFault → Rose (F.state files.old).faults (F.state files.new).faults }
     ensures migrated { HasMigrated (length (G.waves signals)) (Some task.now) result

@@ -7,3 +7,4 @@ pub mod RecordLemmas
 pub mod RecordedRows
 pub mod RecordLocalLemmas
 pub mod RecordEndLemmas
+mod CallExamples

@@ -8,6 +8,7 @@ use Rattle.ads_outside.specs.SinkState.{SinkState, NeverFalls}
 use Rattle.spec_machine.specs.Connection.{connection_of}
 use Rattle.spec_client.specs.Conversation.{LinkAnswer, LoopEnd, CallEnded, Budget}
 use Rattle.spec_client.specs.CallLog.{call_log_up_to}
+use Rattle.spec_client.specs.Runner.{CallStep}
 use Rattle.spec_local.specs.LocalCall.{Cutting}
 use Rattle.spec_local.specs.LinkLog.{IsLogOf}
 use Rattle.spec_local.proofs.LinkLogs.{first_parts, call_logs_begin}
@@ -17,8 +18,10 @@ use Rattle.spec_local_room.proofs.LocalAnswers.{local_links_are_one, local_calls
 use Rattle.spec_local_room.proofs.Beginnings.{local_links_begin}
 use Rattle.spec_server.specs.Server.{read_description, server_start}
 use Rattle.client_loop.specs.Called.{Calling, calling, over, AfterCall, Talks, BreaksOff}
+use Rattle.client_loop.specs.Due.{AtPrint, Anywhere}
 use Rattle.client_loop.specs.declared.loop_end.LoopEnd as loop
 use Rattle.client_loop.specs.declared.loop_end.LoopEnd.TheVariants as end
+use Rattle.client_loop.proofs.TalkLemmas.{breaks_in_part}
 use Rattle.client_replies.specs.Stages.{end_meant}
 use Rattle.local_link.specs.Link.{LocalView, IsTold, state_of}
 use Rattle.server_core.specs.Served.{ServedState, served, served_step}
@@ -97,13 +100,16 @@ part_of_whole (Some old) new part whole left is puts =
     let n = puts.0 in
     (up_to_end n part, puts.1 ∙ ap (λ l. Some (old ++ l)) (sym (ap (take (up_to_end n part)) is ∙ take_begun n part left)))
 
-breaks_off_locally : (x : LocalCalling) → FitsCalling x → (to : List ℕ) (old new : LocalView) (out out_new : SinkState) → IsTold old (start x) []
-    → BreaksOff (call_of_local x to) (λ o log. IsTold old o log) (λ o log. IsTold new o log) (state_of new) out out_new → LocalBreaksOff x out out_new
-breaks_off_locally x fits to old new out out_new told h cutting =
+breaks_off_locally : (IsStop : List CallStep → Type 0) (x : LocalCalling) → FitsCalling x → (to : List ℕ) (old new : LocalView)
+    (out out_new : SinkState) → IsTold old (start x) []
+    → BreaksOff IsStop (call_of_local x to) (λ o log. IsTold old o log) (λ o log. IsTold new o log) (state_of new) out out_new
+    → LocalBreaksOff x out out_new
+breaks_off_locally IsStop x fits to old new out out_new told h cutting =
     let some = h.told (start x) [] told in
     let up_to = first_parts served_step (start x) (call_log_up_to x.me (peer_of_local x) x.call to h.moment h.answers) some.moves some.told.is_log in
     let begins = begins_local x fits to h.moment h.answers up_to cutting in
-    part_of_whole out.held out_new.held _ _ begins.text_left begins.text h.text
+    part_of_whole out.held out_new.held _ _ begins.text_left begins.text
+    (breaks_in_part IsStop (call_of_local x to) (λ o log. IsTold old o log) (λ o log. IsTold new o log) (state_of new) out out_new h)
 
 pub no_fault : Rose 0 0 → ⊥
 no_fault rose = omega (arith, rose)
@@ -115,9 +121,9 @@ pub local_of_call : (x : LocalCalling) → FitsCalling x → (to : List ℕ) (an
 local_of_call x fits to (Ok (end.Call e)) old new out out_new told h = talks_locally x fits to (CallEnded (end_meant e)) old new out out_new told h
 local_of_call x fits to (Ok end.Budget) old new out out_new told h = talks_locally x fits to Budget old new out out_new told h
 local_of_call x fits to (Ok end.LinkFault) old new out out_new told h = no_fault h.0
-local_of_call x fits to (Ok end.WriteFault) old new out out_new told h = (h.0, breaks_off_locally x fits to old new out out_new told h.1)
+local_of_call x fits to (Ok end.WriteFault) old new out out_new told h = (h.0, breaks_off_locally AtPrint x fits to old new out out_new told h.1)
 local_of_call x fits to (Err e) old new out out_new told (inl h) = inl h.silent
-local_of_call x fits to (Err e) old new out out_new told (inr h) = inr (breaks_off_locally x fits to old new out out_new told h)
+local_of_call x fits to (Err e) old new out out_new told (inr h) = inr (breaks_off_locally Anywhere x fits to old new out out_new told h)
 
 pub local_ends : (x : LocalCalling) → FitsCalling x → (to : List ℕ) (y : Calling) (answer : Result loop.LoopEnd NoMemory) (s : Status) (old new : LocalView)
     (out between out_new : SinkState)

@@ -23,7 +23,7 @@ use Rattle.call_run.specs.CallUses.{LinkUse, KeeperUse, used}
 use Rattle.call_run.proofs.CallLemmas.{answer_not_before, not_before}
 
 never_falls : (out : SinkState) (keeper : KeeperState) → IsLater (outlets out keeper) (outlets out keeper)
-never_falls out keeper = record { sink = record { faults = search rules; wants = search rules }; keeper = search rules }
+never_falls out keeper = record { sink = record { faults = search rules; wants = search rules }; keeper = search rules; names = search rules }
 
 -- memory was wanting behind the opening of the table
 pub never_recorded : {O : Type 0} (x : Calling) (s : Status) (out out_new : SinkState) (told : O → List LinkMove → Type 0) (state : LinkState)

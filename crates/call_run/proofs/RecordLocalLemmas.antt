@@ -7,15 +7,18 @@ use Rattle.ads_outside.specs.SinkState.{SinkState}
 use Rattle.spec_samples.specs.Row.{Row}
 use Rattle.spec_client.specs.CallLog.{call_log_up_to}
 use Rattle.spec_client.specs.Conversation.{LoopEnd, CallEnded, Budget}
+use Rattle.spec_client.specs.Runner.{CallStep}
 use Rattle.spec_client.specs.Stages.{Done, Refused, BadPeer, BadValue, TimedOut}
 use Rattle.spec_client.specs.TotalLines.{total_lines}
 use Rattle.spec_local.specs.LocalCall.{Cutting}
 use Rattle.spec_local.proofs.LinkLogs.{first_parts, call_logs_begin}
 use Rattle.client_loop.specs.Called.{Calling}
+use Rattle.client_loop.specs.Due.{AtPrint, Anywhere}
 use Rattle.client_loop.specs.Outlets.{Outlets, outlets, Adds, AddsPart}
 use Rattle.client_loop.specs.Recorded.{AfterRecord, RecordsAll, RecordsSome, RecordsDone}
 use Rattle.client_replies.specs.declared.stage.CallEnd.TheVariants as call_end
 use Rattle.client_loop.specs.declared.loop_end.LoopEnd.TheVariants as end
+use Rattle.client_loop.proofs.TalkLemmas.{breaks_in_part}
 use Rattle.client_loop.specs.declared.record_end.RecordEnd.{RecordEnd}
 use Rattle.client_loop.specs.declared.record_end.RecordEnd.TheVariants as recorded
 use Rattle.local_link.specs.Link.{LocalView, IsTold, state_of}
@@ -56,15 +59,18 @@ some_of_all old new part whole left is puts =
     let n = puts.0 in
     (up_to_end n part, subst (Adds old new) (sym (ap (take (up_to_end n part)) is ∙ take_begun n part left)) puts.1)
 
-records_some_locally : (x : LocalCalling) → FitsCalling x → (to : List ℕ) (old new : LocalView) (out out_new : Outlets) → IsTold old (start x) []
-    → RecordsSome (call_of_local x to) (λ o log. IsTold old o log) (λ o log. IsTold new o log) (state_of new) out out_new → LocalRecordsSome x out out_new
-records_some_locally x fits to old new out out_new told h =
+records_some_locally : (IsStop : List CallStep → Type 0) (x : LocalCalling) → FitsCalling x → (to : List ℕ) (old new : LocalView)
+    (out out_new : Outlets) → IsTold old (start x) []
+    → RecordsSome IsStop (call_of_local x to) (λ o log. IsTold old o log) (λ o log. IsTold new o log) (state_of new) out out_new
+    → LocalRecordsSome x out out_new
+records_some_locally IsStop x fits to old new out out_new told h =
     let t = h.breaks in
     let some = t.told (start x) [] told in
     let up_to = first_parts served_step (start x) (call_log_up_to x.me (peer_of_local x) x.call to t.moment t.answers) some.moves some.told.is_log in
     let begins = begins_local x fits to t.moment t.answers up_to in
     record {
-      text = λ cutting. part_of_whole out.sink.held out_new.sink.held _ _ (begins cutting).text_left (begins cutting).text t.text;
+      text = λ cutting. part_of_whole out.sink.held out_new.sink.held _ _ (begins cutting).text_left (begins cutting).text
+          (breaks_in_part IsStop (call_of_local x to) (λ o log. IsTold old o log) (λ o log. IsTold new o log) (state_of new) out.sink out_new.sink t);
       rows = λ cutting. some_of_all out.keeper.rows out_new.keeper.rows _ _ (begins cutting).kept_left (begins cutting).kept h.rows;
     }
 
@@ -101,15 +107,15 @@ local_of_record x fits to (Ok (recorded.Loop (end.Call (call_end.TimedOut sent n
 local_of_record x fits to (Ok (recorded.Loop end.Budget)) old new out out_new told h = records_locally x fits to Budget old new out out_new told h
 local_of_record x fits to (Ok (recorded.Loop end.LinkFault)) old new out out_new told h = no_fault h.0
 local_of_record x fits to (Ok (recorded.Loop end.WriteFault)) old new out out_new told (rose, inl h) =
-    (rose, inl (records_some_locally x fits to old new out out_new told h))
+    (rose, inl (records_some_locally AtPrint x fits to old new out out_new told h))
 local_of_record x fits to (Ok (recorded.Loop end.WriteFault)) old new out out_new told (rose, inr h) =
     (rose, inr (done_locally AppendsPart x fits to old new out out_new told h))
 local_of_record x fits to (Ok recorded.KeeperFault) old new out out_new told (rose, inl h) =
-    (rose, inl (records_some_locally x fits to old new out out_new told h))
+    (rose, inl (records_some_locally Anywhere x fits to old new out out_new told h))
 local_of_record x fits to (Ok recorded.KeeperFault) old new out out_new told (rose, inr h) =
     (rose, inr (records_locally x fits to (CallEnded Done) old new out out_new told h))
 local_of_record x fits to (Err e) old new out out_new told (inl h) = inl (same_outlets out out_new h.begins.silent h.untouched)
-local_of_record x fits to (Err e) old new out out_new told (inr (inl h)) = inr (inl (records_some_locally x fits to old new out out_new told h))
+local_of_record x fits to (Err e) old new out out_new told (inr (inl h)) = inr (inl (records_some_locally Anywhere x fits to old new out out_new told h))
 local_of_record x fits to (Err e) old new out out_new told (inr (inr h)) = inr (inr (done_locally AppendsPart x fits to old new out out_new told h))
 
 -- of a call that is known

@@ -11,10 +11,12 @@ use Rattle.spec_samples.specs.Rows.{rows_after}
 use Rattle.spec_samples.specs.Laws.{AreCountedFrom}
 use Rattle.spec_samples.proofs.CountLemmas.{put_last, counted-last}
 use Rattle.spec_client.specs.Conversation.{LinkAnswer, LoopEnd}
+use Rattle.spec_client.specs.Runner.{CallStep}
 use Rattle.spec_client_laws.specs.KeptRows.{first_row, row_limit, IsCounted}
 use Rattle.spec_client_laws.proofs.KeptLemmas.{keeps_counted}
 use Rattle.client_calls.specs.Recording.{AreNames}
 use Rattle.client_loop.specs.Called.{Calling, over}
+use Rattle.client_loop.specs.Due.{AtSend, AtPrint, Anywhere}
 use Rattle.client_loop.specs.Outlets.{Outlets, outlets, Adds}
 use Rattle.client_loop.specs.Recorded.{AfterRecord, RecordsAll, RecordsSome, RecordFails}
 use Rattle.client_replies.specs.declared.stage.CallEnd.TheVariants as call_end
@@ -120,10 +122,10 @@ adds_all what x n ended told tells new out out_new b h =
     adds_put out.keeper.rows out_new.keeper.rows n (over x h.talks.moment h.talks.answers).kept b.numbered b.counts
     (kept_counted what x n h.talks.moment h.talks.answers b.fits b.is) h.rows
 
-adds_some : {O : Type 0} (what : RecordTask) (x : Calling) (n : ℕ) (told tells : O → List LinkMove → Type 0) (new : LinkState)
-    (out out_new : Outlets) → Begins what x n out.keeper.rows → RecordsSome x told tells new out out_new
+adds_some : {O : Type 0} (IsStop : List CallStep → Type 0) (what : RecordTask) (x : Calling) (n : ℕ) (told tells : O → List LinkMove → Type 0)
+    (new : LinkState) (out out_new : Outlets) → Begins what x n out.keeper.rows → RecordsSome IsStop x told tells new out out_new
     → AddsRows out.keeper.rows out_new.keeper.rows
-adds_some what x n told tells new out out_new b h =
+adds_some IsStop what x n told tells new out out_new b h =
     let kept = (over x h.breaks.moment h.breaks.answers).kept in
     let counted = kept_counted what x n h.breaks.moment h.breaks.answers b.fits b.is in
     adds_put out.keeper.rows out_new.keeper.rows n (take h.rows.0 kept) b.numbered b.counts
@@ -133,7 +135,7 @@ adds_failed : {O : Type 0} (broken : Bool) (what : RecordTask) (x : Calling) (n 
     (out out_new : Outlets) → Begins what x n out.keeper.rows → RecordFails broken x told tells new out out_new
     → AddsRows out.keeper.rows out_new.keeper.rows
 adds_failed true what x n told tells new out out_new b h = adds_all what x n None told tells new out out_new b h
-adds_failed false what x n told tells new out out_new b h = adds_some what x n told tells new out out_new b h
+adds_failed false what x n told tells new out out_new b h = adds_some AtSend what x n told tells new out out_new b h
 
 adds_so : {O : Type 0} (what : RecordTask) (x : Calling) (n : ℕ) (answer : Result RecordEnd NoMemory) (told tells : O → List LinkMove → Type 0)
     (old new : LinkState) (out out_new : Outlets) → Begins what x n out.keeper.rows → AfterRecord answer x told tells old new out out_new
@@ -152,13 +154,15 @@ adds_so what x n (Ok (recorded.Loop end.Budget)) told tells old new out out_new 
 adds_so what x n (Ok (recorded.Loop end.LinkFault)) told tells old new out out_new b (rose, inl h) = adds_same out.keeper out_new.keeper h.untouched
 adds_so what x n (Ok (recorded.Loop end.LinkFault)) told tells old new out out_new b (rose, inr h) =
     adds_failed new.history.broken what x n told tells new out out_new b h
-adds_so what x n (Ok (recorded.Loop end.WriteFault)) told tells old new out out_new b (rose, inl h) = adds_some what x n told tells new out out_new b h
+adds_so what x n (Ok (recorded.Loop end.WriteFault)) told tells old new out out_new b (rose, inl h) =
+    adds_some AtPrint what x n told tells new out out_new b h
 adds_so what x n (Ok (recorded.Loop end.WriteFault)) told tells old new out out_new b (rose, inr h) =
     adds_all what x n _ told tells new out (outlets h.before out_new.keeper) b h.all
-adds_so what x n (Ok recorded.KeeperFault) told tells old new out out_new b (rose, inl h) = adds_some what x n told tells new out out_new b h
+adds_so what x n (Ok recorded.KeeperFault) told tells old new out out_new b (rose, inl h) =
+    adds_some Anywhere what x n told tells new out out_new b h
 adds_so what x n (Ok recorded.KeeperFault) told tells old new out out_new b (rose, inr h) = adds_all what x n _ told tells new out out_new b h
 adds_so what x n (Err e) told tells old new out out_new b (inl h) = adds_same out.keeper out_new.keeper h.untouched
-adds_so what x n (Err e) told tells old new out out_new b (inr (inl h)) = adds_some what x n told tells new out out_new b h
+adds_so what x n (Err e) told tells old new out out_new b (inr (inl h)) = adds_some Anywhere what x n told tells new out out_new b h
 adds_so what x n (Err e) told tells old new out out_new b (inr (inr h)) =
     adds_all what x n _ told tells new out (outlets h.before out_new.keeper) b h.all
 

@@ -4,6 +4,7 @@ ghost use Rattle.std.specs.Prelude.{◌<◌, ◌^◌, ◌≡◌, ◌∷◌, [], 
 ghost use Rattle.ads_outside.specs.FilesState.{ReadsAll};
 ghost use Rattle.ads_outside.specs.Rose.{Rose};
 ghost use Rattle.spec_plant.specs.Description as plant;
+ghost use Rattle.run_tasks.specs.Openings.{MayOpenNothing};
 ghost use Rattle.run_tasks.specs.Readings.{ReadsOne};
 ghost use Rattle.run_tasks.specs.Verdict.{Verdict};
 ghost use Rattle.call_run.specs.LocalCore.{EndsUnopened, IsCoreOf};
@@ -30,6 +31,7 @@ pub fn core_of_file<F: Files, S: Sink, G: Sources>(
     ensures ended { (made : List ℕ → plant.Description → Verdict) → IfErr result (λ s.
         EndsUnopened (length (G.waves signals)) made name.now (F.state files.old).held
         (Rose (F.state files.old).faults (F.state files.new).faults) s (S.state out.old) (S.state out.new)) }
+    ensures unopened { IfErr result MayOpenNothing }
     ensures read { IfOk result (λ _. ReadsAll (F.state files.old).names (F.state files.new).names (name.now ∷ [])) }
     ensures reads { IfErr result (λ s. ReadsOne s (F.state files.old).names (F.state files.new).names name.now) }
     ensures held { (F.state files.new).held ≡ (F.state files.old).held }

@@ -4,6 +4,7 @@ ghost use Rattle.std.specs.Prelude.{◌≡◌, ◌≤◌, ◌+◌, IfOk};
 ghost use Rattle.client_calls.specs.Recording.{CanRecord, record_meant};
 ghost use Rattle.sample_store.specs.Keeper.{AreNumbered, Counts};
 ghost use Rattle.run_tasks.specs.Fits.{FitsRecord};
+ghost use Rattle.run_tasks.specs.Openings.{OpensOne};
 ghost use Rattle.run_tasks.specs.RecordAsked.{call_recorded};
 ghost use Rattle.call_run.specs.Between.{recording_between};
 ghost use Rattle.call_run.specs.RecordRows.{AddsRows};
@@ -39,6 +40,7 @@ pub fn record_over<L: Link, S: Sink, K: Keeper>(
     requires what { FitsRecord what.now }
     ensures ends { EndsRecording (recording_between what.now addrs to.now) result (S.state out.old) (S.state out.new)
         (link_used L.tells L.state link.old link.new) (keeper_used K.state keeper.old keeper.new) }
+    ensures opens { OpensOne result (K.state keeper.old).names (K.state keeper.new).names what.now.store }
     ensures grows { AddsRows (K.state keeper.old).rows (K.state keeper.new).rows }
 {
     match keeper.open(what.store.as_str()) {
@@ -65,6 +67,7 @@ fn record_behind<L: Link, S: Sink, K: Keeper>(
     requires counts { Counts (KeeperOpen.Ready rows) (K.state keeper.old).rows }
     ensures ends { EndsBehind rows (recording_between what.now addrs to.now) result (S.state out.old) (S.state out.new)
         (link_used L.tells L.state link.old link.new) (K.state keeper.old) (K.state keeper.new) }
+    ensures names { (K.state keeper.new).names ≡ (K.state keeper.old).names }
     ensures grows { AddsRows (K.state keeper.old).rows (K.state keeper.new).rows }
 {
     if rows <= MOST_ROWS {
@@ -92,6 +95,7 @@ fn record_into<L: Link, S: Sink, K: Keeper>(
     requires counts { Counts (KeeperOpen.Ready rows) (K.state keeper.old).rows }
     ensures ends { EndsRecorded (recording_between what.now addrs to.now rows) result (S.state out.old) (S.state out.new)
         (link_used L.tells L.state link.old link.new) (K.state keeper.old) (K.state keeper.new) }
+    ensures names { (K.state keeper.new).names ≡ (K.state keeper.old).names }
     ensures grows { AddsRows (K.state keeper.old).rows (K.state keeper.new).rows }
 {
     match names_of(alloc, what.names.as_slice()) {

@@ -12,6 +12,7 @@ ghost use Rattle.server_core.specs.Serves.{Serves};
 ghost use Rattle.run_tasks.specs.BeforeRun.{IsBeforeRun};
 ghost use Rattle.call_run.specs.CallEnds.{RecordsBy};
 ghost use Rattle.run_tasks.specs.Fits.{FitsRecord};
+ghost use Rattle.run_tasks.specs.Openings.{OpensOne};
 ghost use Rattle.run_tasks.specs.Readings.{OverFile, ReadsOne};
 ghost use Rattle.run_tasks.specs.RecordAsked.{local_recording};
 ghost use Rattle.call_run.specs.RecordRows.{AddsRows};
@@ -54,6 +55,7 @@ pub fn record_locally<T: Threads + Sync, F: Files, S: Sink, K: Keeper, G: Source
     ensures reads { ReadsOne result (F.state files.old).names (F.state files.new).names description.now }
     ensures held { (F.state files.new).held ≡ (F.state files.old).held }
     ensures read_fault { result ≡ Status.ReadFault → Rose (F.state files.old).faults (F.state files.new).faults }
+    ensures opens { OpensOne result (K.state keeper.old).names (K.state keeper.new).names what.now.store }
     ensures grows { AddsRows (K.state keeper.old).rows (K.state keeper.new).rows }
     ensures before_run { IsBeforeRun result → keeper.new ≡ keeper.old }
 {
@@ -77,6 +79,7 @@ fn record_core<T: Threads + Sync, S: Sink, K: Keeper, G: Sources>(
     ensures ends { (d : plant.Description) (waves : List Wave) → Serves core (started d waves) → net.bytes ≡ d.net
         → EndsLocalRecording (local_recording d waves what.now) result (S.state out.old) (S.state out.new)
         (keeper_used K.state keeper.old keeper.new) }
+    ensures opens { OpensOne result (K.state keeper.old).names (K.state keeper.new).names what.now.store }
     ensures grows { AddsRows (K.state keeper.old).rows (K.state keeper.new).rows }
     ensures run { IsBeforeRun result → ⊥ }
 {
@@ -98,6 +101,7 @@ fn record_by<P: Steps, S: Sink, K: Keeper, G: Sources>(
     ensures ends { (d : plant.Description) (waves : List Wave) → Serves core (started d waves) → net.bytes ≡ d.net
         → EndsLocalRecording (local_recording d waves what.now) result (S.state out.old) (S.state out.new)
         (keeper_used K.state keeper.old keeper.new) }
+    ensures opens { OpensOne result (K.state keeper.old).names (K.state keeper.new).names what.now.store }
     ensures grows { AddsRows (K.state keeper.old).rows (K.state keeper.new).rows }
     ensures run { IsBeforeRun result → ⊥ }
 {
@@ -118,6 +122,7 @@ fn record_link<P: Steps, S: Sink, K: Keeper, G: Sources>(
     ensures ends { (d : plant.Description) (waves : List Wave) → IsTold link.old (server_start d waves) [] → net.bytes ≡ d.net
         → EndsLocalRecording (local_recording d waves what.now) result (S.state out.old) (S.state out.new)
         (keeper_used K.state keeper.old keeper.new) }
+    ensures opens { OpensOne result (K.state keeper.old).names (K.state keeper.new).names what.now.store }
     ensures grows { AddsRows (K.state keeper.old).rows (K.state keeper.new).rows }
     ensures run { IsBeforeRun result → ⊥ }
 {

@@ -4,6 +4,7 @@ ghost use Rattle.std.specs.Prelude.{◌<◌, ◌^◌, ◌≡◌, false, true, le
 ghost use Rattle.ads_outside.specs.Rose.{Rose};
 ghost use Rattle.run_tasks.specs.BeforeRun.{IsBeforeRun};
 ghost use Rattle.run_tasks.specs.Fits.{FitsRecord};
+ghost use Rattle.run_tasks.specs.Openings.{OpensOne};
 ghost use Rattle.run_tasks.specs.Readings.{ReadsOfPeer, is_over_link};
 ghost use Rattle.call_run.specs.RecordRows.{AddsRows};
 ghost use Rattle.call_run.specs.RecordedFrom.{RecordsFrom};
@@ -40,6 +41,7 @@ pub fn record<T: Threads + Sync, F: Files, L: Link, S: Sink, K: Keeper, G: Sourc
     ensures held { (F.state files.new).held ≡ (F.state files.old).held }
     ensures unread { is_over_link what.now.client.peer ≡ true → files.new ≡ files.old }
     ensures no_link { is_over_link what.now.client.peer ≡ false → link.new ≡ link.old }
+    ensures opens { OpensOne result (K.state keeper.old).names (K.state keeper.new).names what.now.store }
     ensures grows { AddsRows (K.state keeper.old).rows (K.state keeper.new).rows }
     ensures before_run { IsBeforeRun result → (link.new ≡ link.old) × (keeper.new ≡ keeper.old) }
     ensures read_fault { result ≡ Status.ReadFault → Rose (F.state files.old).faults (F.state files.new).faults }

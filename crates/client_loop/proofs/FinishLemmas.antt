@@ -9,6 +9,7 @@ use Rattle.ads_outside.specs.SinkState.{SinkState}
 use Rattle.spec_client.specs.CallOver.{conversation_after_all}
 use Rattle.spec_client.specs.Conversation as conversation
 use Rattle.spec_client.specs.Conversation.{Conversation}
+use Rattle.spec_client.specs.Runner.{CallStep}
 use Rattle.spec_client.specs.Stages.{Done, entries_taken}
 use Rattle.client_replies.specs.declared.stage.CallEnd.TheVariants as call_end
 use Rattle.client_calls.specs.Kept.{RunnerKept}
@@ -38,74 +39,74 @@ whole_still c k ended first second link new_link out mid new_out same rows w = r
 }
 
 -- its conversation is done, and its lines follow
-pub lines_behind : {O : Type 0} (result : Result RecordEnd NoMemory) (c : Conversation) (k : RunnerKept)
+pub lines_behind : {O : Type 0} (result : Result RecordEnd NoMemory) (steps : List CallStep) (c : Conversation) (k : RunnerKept)
     (first second : O → List LinkMove → Type 0) (link new_link : LinkState) (out mid new_out : Outlets)
     → IsLater out mid → IsWhole (none_of c) c k (Some (conversation.CallEnded Done)) first second link new_link out mid
-    → AfterLines result (entries_taken k.stage) mid new_out → EndsRecord result c first second link new_link out new_out
-lines_behind (Ok (record_end.Loop (end.Call call_end.Done))) c k first second link new_link out mid new_out later w lines =
+    → AfterLines result (entries_taken k.stage) mid new_out → EndsRecord result steps c first second link new_link out new_out
+lines_behind (Ok (record_end.Loop (end.Call call_end.Done))) steps c k first second link new_link out mid new_out later w lines =
     record { kept = k; mid = mid; whole = w; lines = lines }
-lines_behind (Ok (record_end.Loop (end.Call (call_end.Refused code)))) c k first second link new_link out mid new_out later w lines = absurd lines
-lines_behind (Ok (record_end.Loop (end.Call (call_end.BadPeer p)))) c k first second link new_link out mid new_out later w lines = absurd lines
-lines_behind (Ok (record_end.Loop (end.Call call_end.BadValue))) c k first second link new_link out mid new_out later w lines = absurd lines
-lines_behind (Ok (record_end.Loop (end.Call (call_end.TimedOut sent now)))) c k first second link new_link out mid new_out later w lines = absurd lines
-lines_behind (Ok (record_end.Loop end.LinkFault)) c k first second link new_link out mid new_out later w lines = absurd lines
-lines_behind (Ok (record_end.Loop end.Budget)) c k first second link new_link out mid new_out later w lines = absurd lines
-lines_behind (Ok (record_end.Loop end.WriteFault)) c k first second link new_link out mid new_out later w lines = (
+lines_behind (Ok (record_end.Loop (end.Call (call_end.Refused code)))) steps c k first second link new_link out mid new_out later w lines = absurd lines
+lines_behind (Ok (record_end.Loop (end.Call (call_end.BadPeer p)))) steps c k first second link new_link out mid new_out later w lines = absurd lines
+lines_behind (Ok (record_end.Loop (end.Call call_end.BadValue))) steps c k first second link new_link out mid new_out later w lines = absurd lines
+lines_behind (Ok (record_end.Loop (end.Call (call_end.TimedOut sent now)))) steps c k first second link new_link out mid new_out later w lines = absurd lines
+lines_behind (Ok (record_end.Loop end.LinkFault)) steps c k first second link new_link out mid new_out later w lines = absurd lines
+lines_behind (Ok (record_end.Loop end.Budget)) steps c k first second link new_link out mid new_out later w lines = absurd lines
+lines_behind (Ok (record_end.Loop end.WriteFault)) steps c k first second link new_link out mid new_out later w lines = (
   rose_later out.sink.faults mid.sink.faults new_out.sink.faults later.sink.faults lines.0,
   inr (record { kept = k; mid = mid; whole = w; lines = lines.1 }),
 )
-lines_behind (Ok record_end.KeeperFault) c k first second link new_link out mid new_out later w lines = (
+lines_behind (Ok record_end.KeeperFault) steps c k first second link new_link out mid new_out later w lines = (
   rose_later out.keeper.faults mid.keeper.faults new_out.keeper.faults later.keeper lines.0,
   inr (k, whole_still c k (Some (conversation.CallEnded Done)) first second link new_link out mid new_out lines.1 lines.2 w),
 )
-lines_behind (Err e) c k first second link new_link out mid new_out later w lines = inr (record { kept = k; mid = mid; whole = w; lines = lines })
+lines_behind (Err e) steps c k first second link new_link out mid new_out later w lines = inr (record { kept = k; mid = mid; whole = w; lines = lines })
 
 -- it is not done
 abbrev pub IsOther : RecordEnd → Type 0
 IsOther (record_end.Loop (end.Call call_end.Done)) = ⊥
 IsOther e = Unit {0}
 
-pub ended_other : {O : Type 0} (e : RecordEnd) (c : Conversation) (k : RunnerKept)
+pub ended_other : {O : Type 0} (e : RecordEnd) (steps : List CallStep) (c : Conversation) (k : RunnerKept)
     (first second : O → List LinkMove → Type 0) (link new_link : LinkState) (out new_out : Outlets)
-    → IsOther e → EndsFrom (Ok e) c k first second link new_link out new_out → EndsRecord (Ok e) c first second link new_link out new_out
-ended_other (record_end.Loop (end.Call call_end.Done)) c k first second link new_link out new_out other g = absurd other
-ended_other (record_end.Loop (end.Call (call_end.Refused code))) c k first second link new_link out new_out other g = (k, g)
-ended_other (record_end.Loop (end.Call (call_end.BadPeer p))) c k first second link new_link out new_out other g = (k, g)
-ended_other (record_end.Loop (end.Call call_end.BadValue)) c k first second link new_link out new_out other g = (k, g)
-ended_other (record_end.Loop (end.Call (call_end.TimedOut sent now))) c k first second link new_link out new_out other g = (k, g)
-ended_other (record_end.Loop end.Budget) c k first second link new_link out new_out other g = (k, g)
-ended_other (record_end.Loop end.LinkFault) c k first second link new_link out new_out other g = (g.0, elim g.1 [ inl w ↦ inl (k, w) | inr w ↦ inr w ])
-ended_other (record_end.Loop end.WriteFault) c k first second link new_link out new_out other g = (g.0, inl g.1)
-ended_other record_end.KeeperFault c k first second link new_link out new_out other g = (g.0, inl g.1)
+    → IsOther e → EndsFrom (Ok e) steps c k first second link new_link out new_out → EndsRecord (Ok e) steps c first second link new_link out new_out
+ended_other (record_end.Loop (end.Call call_end.Done)) steps c k first second link new_link out new_out other g = absurd other
+ended_other (record_end.Loop (end.Call (call_end.Refused code))) steps c k first second link new_link out new_out other g = (k, g)
+ended_other (record_end.Loop (end.Call (call_end.BadPeer p))) steps c k first second link new_link out new_out other g = (k, g)
+ended_other (record_end.Loop (end.Call call_end.BadValue)) steps c k first second link new_link out new_out other g = (k, g)
+ended_other (record_end.Loop (end.Call (call_end.TimedOut sent now))) steps c k first second link new_link out new_out other g = (k, g)
+ended_other (record_end.Loop end.Budget) steps c k first second link new_link out new_out other g = (k, g)
+ended_other (record_end.Loop end.LinkFault) steps c k first second link new_link out new_out other g = (g.0, elim g.1 [ inl w ↦ inl (k, w) | inr w ↦ inr w ])
+ended_other (record_end.Loop end.WriteFault) steps c k first second link new_link out new_out other g = (g.0, inl g.1)
+ended_other record_end.KeeperFault steps c k first second link new_link out new_out other g = (g.0, inl g.1)
 
-same_ended : {O : Type 0} (e : RecordEnd) (result : Result RecordEnd NoMemory) (c : Conversation) (k : RunnerKept)
+same_ended : {O : Type 0} (e : RecordEnd) (result : Result RecordEnd NoMemory) (steps : List CallStep) (c : Conversation) (k : RunnerKept)
     (first second : O → List LinkMove → Type 0) (link new_link : LinkState) (out mid new_out : Outlets)
-    → IsOther e → EndsFrom (Ok e) c k first second link new_link out mid → (result ≡ Ok e) × (new_out ≡ mid)
-    → EndsRecord result c first second link new_link out new_out
-same_ended e result c k first second link new_link out mid new_out other g f =
-    subst (λ x. EndsRecord x c first second link new_link out new_out) (sym f.0)
-    (subst (λ o. EndsRecord (Ok e) c first second link new_link out o) (sym f.1) (ended_other e c k first second link new_link out mid other g))
+    → IsOther e → EndsFrom (Ok e) steps c k first second link new_link out mid → (result ≡ Ok e) × (new_out ≡ mid)
+    → EndsRecord result steps c first second link new_link out new_out
+same_ended e result steps c k first second link new_link out mid new_out other g f =
+    subst (λ x. EndsRecord x steps c first second link new_link out new_out) (sym f.0)
+    (subst (λ o. EndsRecord (Ok e) steps c first second link new_link out o) (sym f.1) (ended_other e steps c k first second link new_link out mid other g))
 
 -- by how the conversation ended
-pub finished_so : {O : Type 0} (e : RecordEnd) (result : Result RecordEnd NoMemory) (c : Conversation) (k : RunnerKept)
+pub finished_so : {O : Type 0} (e : RecordEnd) (result : Result RecordEnd NoMemory) (steps : List CallStep) (c : Conversation) (k : RunnerKept)
     (first second : O → List LinkMove → Type 0) (link new_link : LinkState) (out mid new_out : Outlets)
-    → IsLater out mid → EndsFrom (Ok e) c k first second link new_link out mid → Finishes e result (entries_taken k.stage) mid new_out
-    → EndsRecord result c first second link new_link out new_out
-finished_so (record_end.Loop (end.Call call_end.Done)) result c k first second link new_link out mid new_out later g f =
-    lines_behind result c k first second link new_link out mid new_out later g f
-finished_so (record_end.Loop (end.Call (call_end.Refused code))) result c k first second link new_link out mid new_out later g f =
-    same_ended (record_end.Loop (end.Call (call_end.Refused code))) result c k first second link new_link out mid new_out tt g f
-finished_so (record_end.Loop (end.Call (call_end.BadPeer p))) result c k first second link new_link out mid new_out later g f =
-    same_ended (record_end.Loop (end.Call (call_end.BadPeer p))) result c k first second link new_link out mid new_out tt g f
-finished_so (record_end.Loop (end.Call call_end.BadValue)) result c k first second link new_link out mid new_out later g f =
-    same_ended (record_end.Loop (end.Call call_end.BadValue)) result c k first second link new_link out mid new_out tt g f
-finished_so (record_end.Loop (end.Call (call_end.TimedOut sent now))) result c k first second link new_link out mid new_out later g f =
-    same_ended (record_end.Loop (end.Call (call_end.TimedOut sent now))) result c k first second link new_link out mid new_out tt g f
-finished_so (record_end.Loop end.Budget) result c k first second link new_link out mid new_out later g f =
-    same_ended (record_end.Loop end.Budget) result c k first second link new_link out mid new_out tt g f
-finished_so (record_end.Loop end.LinkFault) result c k first second link new_link out mid new_out later g f =
-    same_ended (record_end.Loop end.LinkFault) result c k first second link new_link out mid new_out tt g f
-finished_so (record_end.Loop end.WriteFault) result c k first second link new_link out mid new_out later g f =
-    same_ended (record_end.Loop end.WriteFault) result c k first second link new_link out mid new_out tt g f
-finished_so record_end.KeeperFault result c k first second link new_link out mid new_out later g f =
-    same_ended record_end.KeeperFault result c k first second link new_link out mid new_out tt g f
+    → IsLater out mid → EndsFrom (Ok e) steps c k first second link new_link out mid → Finishes e result (entries_taken k.stage) mid new_out
+    → EndsRecord result steps c first second link new_link out new_out
+finished_so (record_end.Loop (end.Call call_end.Done)) result steps c k first second link new_link out mid new_out later g f =
+    lines_behind result steps c k first second link new_link out mid new_out later g f
+finished_so (record_end.Loop (end.Call (call_end.Refused code))) result steps c k first second link new_link out mid new_out later g f =
+    same_ended (record_end.Loop (end.Call (call_end.Refused code))) result steps c k first second link new_link out mid new_out tt g f
+finished_so (record_end.Loop (end.Call (call_end.BadPeer p))) result steps c k first second link new_link out mid new_out later g f =
+    same_ended (record_end.Loop (end.Call (call_end.BadPeer p))) result steps c k first second link new_link out mid new_out tt g f
+finished_so (record_end.Loop (end.Call call_end.BadValue)) result steps c k first second link new_link out mid new_out later g f =
+    same_ended (record_end.Loop (end.Call call_end.BadValue)) result steps c k first second link new_link out mid new_out tt g f
+finished_so (record_end.Loop (end.Call (call_end.TimedOut sent now))) result steps c k first second link new_link out mid new_out later g f =
+    same_ended (record_end.Loop (end.Call (call_end.TimedOut sent now))) result steps c k first second link new_link out mid new_out tt g f
+finished_so (record_end.Loop end.Budget) result steps c k first second link new_link out mid new_out later g f =
+    same_ended (record_end.Loop end.Budget) result steps c k first second link new_link out mid new_out tt g f
+finished_so (record_end.Loop end.LinkFault) result steps c k first second link new_link out mid new_out later g f =
+    same_ended (record_end.Loop end.LinkFault) result steps c k first second link new_link out mid new_out tt g f
+finished_so (record_end.Loop end.WriteFault) result steps c k first second link new_link out mid new_out later g f =
+    same_ended (record_end.Loop end.WriteFault) result steps c k first second link new_link out mid new_out tt g f
+finished_so record_end.KeeperFault result steps c k first second link new_link out mid new_out later g f =
+    same_ended record_end.KeeperFault result steps c k first second link new_link out mid new_out tt g f

@@ -1,17 +1,13 @@
 -- What an answer makes of a conversation that goes on.
 use Rattle.std.proofs.Common.{◌≡◌, ◌+◌, ◌++◌, length, drop, Option, Some, None, refl, sym, ap, ◌∙◌}
 use Rattle.std.proofs.Math.Seq.{drop-append_seam}
-use Rattle.spec_client.specs.Conversation.{LinkAnswer, Bytes, Quiet, Closed, LoopEnd, Conversation, moment_of}
+use Rattle.spec_client.specs.Conversation.{LinkAnswer, Bytes, Quiet, Closed, LoopEnd, Conversation}
 use Rattle.spec_client.specs.Conversation.{quiet_after, sent_by, printed_by, kept_by, end_of_stage}
-use Rattle.spec_client.specs.Conversation.{end_by_answer, runner_after_answer, with_answer, unless_ended}
+use Rattle.spec_client.specs.Conversation.{end_by_answer, with_answer, unless_ended}
 use Rattle.spec_client.specs.Conversation.{after_answer_unless, conversation_after_turns}
 use Rattle.spec_client.specs.Conversation.{conversation_going_on, conversation_after}
-use Rattle.spec_client.specs.Runner.{Turns, turns}
 use Rattle.spec_client.specs.CallLog.{sent_behind}
-
--- the turns behind an answer
-abbrev pub turns_after : Conversation → LinkAnswer → Turns
-turns_after c a = turns (moment_of a) (runner_after_answer c.runner a)
+use Rattle.client_loop.specs.Due.{turns_after}
 
 abbrev before_end : Conversation → LinkAnswer → Conversation
 before_end c a = conversation_after_turns (with_answer c a) (turns_after c a)

@@ -1,5 +1,5 @@
 -- Counts that do not fall, call by call; and some cases of an answer.
-use Rattle.std.proofs.Common.{◌≤◌, Option, Some, None}
+use Rattle.std.proofs.Common.{◌≡◌, ◌≤◌, ◌∙◌, refl, Option, Some, None}
 use Rattle.std.proofs.Math.Nat.{le_refl, le_trans}
 use Rattle.std.specs.Prelude.{Result, Ok, Err, IfOk, MatchOption}
 use Rattle.ads_base.specs.declared.no_memory.NoMemory.{NoMemory}
@@ -22,17 +22,17 @@ pub sink_then : (a b c : SinkState) → NeverFalls a b → NeverFalls b c → Ne
 sink_then a b c x y = record { faults = le_trans x.faults y.faults; wants = le_trans x.wants y.wants }
 
 pub out_same : (a : Outlets) → IsLater a a
-out_same a = record { sink = sink_same a.sink; keeper = le_refl a.keeper.faults }
+out_same a = record { sink = sink_same a.sink; keeper = le_refl a.keeper.faults; names = refl }
 
 pub out_then : (a b c : Outlets) → IsLater a b → IsLater b c → IsLater a c
-out_then a b c x y = record { sink = sink_then a.sink b.sink c.sink x.sink y.sink; keeper = le_trans x.keeper y.keeper }
+out_then a b c x y = record { sink = sink_then a.sink b.sink c.sink x.sink y.sink; keeper = le_trans x.keeper y.keeper; names = y.names ∙ x.names }
 
 -- only the sink, or only the keeper, was called
 pub sink_later : (a b : SinkState) (k : KeeperState) → NeverFalls a b → IsLater (outlets a k) (outlets b k)
-sink_later a b k x = record { sink = x; keeper = le_refl k.faults }
+sink_later a b k x = record { sink = x; keeper = le_refl k.faults; names = refl }
 
-pub keeper_later : (a : SinkState) (j k : KeeperState) → j.faults ≤ k.faults → IsLater (outlets a j) (outlets a k)
-keeper_later a j k x = record { sink = sink_same a; keeper = x }
+pub keeper_later : (a : SinkState) (j k : KeeperState) → j.faults ≤ k.faults → k.names ≡ j.names → IsLater (outlets a j) (outlets a k)
+keeper_later a j k x same = record { sink = sink_same a; keeper = x; names = same }
 
 -- a number that fell, whatever is told
 pub falls_told : (result : Result (Option Turned) NoMemory) (P : Type 0) → P → IfOk result (λ told. MatchOption told P (λ turned. Unit {0}))

@@ -2,6 +2,8 @@ pub mod SaidLemmas
 pub mod RestLemmas
 pub mod LogLemmas
 pub mod GoingLemmas
+pub mod DueLemmas
+mod Examples
 pub mod ReadyLemmas
 pub mod TurnLemmas
 pub mod SettleLemmas

@@ -6,23 +6,26 @@ use Rattle.std.specs.Prelude.{Result, Ok, Err, ◌==◌, if◌then◌else◌}
 use Rattle.ads_base.specs.declared.no_memory.NoMemory.{NoMemory}
 use Rattle.ads_outside.specs.declared.link_move.LinkMove.{LinkMove}
 use Rattle.ads_outside.specs.LinkState.{LinkState}
-use Rattle.ads_outside.specs.Puts.{Appends, AppendsPart}
+use Rattle.ads_outside.specs.Puts.{Appends}
 use Rattle.spec_client.specs.Stages.{entries_taken}
 use Rattle.spec_client.specs.CallOver.{conversation_after_all}
 use Rattle.spec_client.specs.Conversation as conversation
 use Rattle.spec_client.specs.Conversation.{LinkAnswer, Conversation, MAX_ANSWERS, conversation_after}
 use Rattle.spec_client.specs.CallLog.{sent_moves, sent_last, log_behind, log_up_to}
+use Rattle.spec_client.specs.Runner.{CallStep}
 use Rattle.client_calls.specs.Kept.{RunnerKept}
 use Rattle.client_calls.specs.Represents.{StandsFor}
 use Rattle.client_loop.specs.declared.loop_end.LoopEnd.TheVariants as end
 use Rattle.client_loop.specs.declared.record_end.RecordEnd.{RecordEnd}
 use Rattle.client_loop.specs.declared.record_end.RecordEnd.TheVariants as record_end
+use Rattle.client_loop.specs.Due.{AtSend, AtPrint, Anywhere}
 use Rattle.client_loop.specs.LinkAfter.{history_after_answer, history_after_answers, history_left}
 use Rattle.client_loop.specs.Outlets.{Outlets, IsLater, Adds, AddsPart}
 use Rattle.client_loop.specs.Said.{SendsSome, SentSome}
 use Rattle.client_loop.specs.Hearing.{GoesOver, StopsOver, EndsOver, end_at_last, IsAt, Hears, HearsAll, IsBegun}
 use Rattle.client_loop.proofs.LogLemmas.{over_append, history_append, awaited_append, log_append, log_up_to_append, last_append, log_in_two}
 use Rattle.client_loop.proofs.SaidLemmas.{all_some, tells_more, tells_same}
+use Rattle.client_loop.proofs.DueLemmas.{stops_behind_answers}
 use Rattle.client_loop.proofs.TurnLemmas.{rose_later}
 
 abbrev end_at : ℕ → Option conversation.LoopEnd
@@ -140,18 +143,19 @@ stops_with (b ∷ more) c front tells o log s =
     (subst (λ ms. SentSome (sent_last [] x (b ∷ more)) tells o (log ++ ms)) (sym (log_up_to_append [] c front b more))
     (subst (λ ms. SentSome (sent_last [] x (b ∷ more)) tells o ms) (append_assoc log (log_behind [] c front) (log_up_to [] x (b ∷ more))) s))
 
-stops_behind : {O : Type 0} (c : Conversation) (k : RunnerKept) (quiet count : ℕ)
+stops_behind : {O : Type 0} (IsStop : List CallStep → Type 0) (c : Conversation) (k : RunnerKept) (quiet count : ℕ)
     (first second third : O → List LinkMove → Type 0) (link mid_link new_link : LinkState) (out mid new_out : Outlets)
     → (h : HearsAll c k quiet count first second link mid_link out mid)
-    → StopsOver (conversation_after_all c h.answers) second third mid_link new_link mid new_out
-    → StopsOver c first third link new_link out new_out
-stops_behind c k quiet count first second third link mid_link new_link out mid new_out h g =
+    → StopsOver IsStop (conversation_after_all c h.answers) second third mid_link new_link mid new_out
+    → StopsOver IsStop c first third link new_link out new_out
+stops_behind IsStop c k quiet count first second third link mid_link new_link out mid new_out h g =
     let over = over_append c h.answers g.answers in
     record {
       answers = h.answers ++ g.answers;
       history = g.history ∙ ap (λ y. history_after_answers y g.answers) h.history ∙ sym (history_append link.history h.answers g.answers);
       awaited = awaited_append c h.answers g.answers h.awaited g.awaited;
-      text = λ base before. subst (λ (y : Conversation). AppendsPart base new_out.sink.held y.text) (sym over) (g.text base (h.text base before));
+      text = λ base before.
+          stops_behind_answers IsStop g.answers c h.answers base new_out.sink.held h.awaited (g.text base (h.text base before));
       rows = λ base before. subst (λ (y : Conversation). AddsPart base new_out.keeper.rows y.kept) (sym over) (g.rows base (h.rows base before));
       told = λ o log told. stops_with g.answers c h.answers third o log (g.told o (log ++ log_behind [] c h.answers) (h.told o log told));
     }
@@ -172,21 +176,21 @@ ends_behind (Ok (record_end.Loop end.LinkFault)) c k new quiet count first secon
       rose_later link.faults mid_link.faults new_link.faults linked e.0,
       elim e.1 [
         | inl g ↦ inl (over_behind None c k new quiet count first second third link mid_link new_link out mid new_out h g)
-        | inr g ↦ inr (stops_behind c k quiet count first second third link mid_link new_link out mid new_out h g)
+        | inr g ↦ inr (stops_behind AtSend c k quiet count first second third link mid_link new_link out mid new_out h g)
       ],
     )
 ends_behind (Ok (record_end.Loop end.WriteFault)) c k new quiet count first second third link mid_link new_link out mid new_out linked outed few h ends =
     let e = ends _ (is_at c k quiet count first second link mid_link out mid few h) in (
       rose_later out.sink.faults mid.sink.faults new_out.sink.faults outed.sink.faults e.0,
-      stops_behind c k quiet count first second third link mid_link new_link out mid new_out h e.1,
+      stops_behind AtPrint c k quiet count first second third link mid_link new_link out mid new_out h e.1,
     )
 ends_behind (Ok record_end.KeeperFault) c k new quiet count first second third link mid_link new_link out mid new_out linked outed few h ends =
     let e = ends _ (is_at c k quiet count first second link mid_link out mid few h) in (
       rose_later out.keeper.faults mid.keeper.faults new_out.keeper.faults outed.keeper e.0,
-      stops_behind c k quiet count first second third link mid_link new_link out mid new_out h e.1,
+      stops_behind Anywhere c k quiet count first second third link mid_link new_link out mid new_out h e.1,
     )
 ends_behind (Err e) c k new quiet count first second third link mid_link new_link out mid new_out linked outed few h ends =
-    stops_behind c k quiet count first second third link mid_link new_link out mid new_out h
+    stops_behind Anywhere c k quiet count first second third link mid_link new_link out mid new_out h
     (ends _ (is_at c k quiet count first second link mid_link out mid few h))
 
 -- all answers that are waited for came

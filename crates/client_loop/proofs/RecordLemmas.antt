@@ -9,7 +9,7 @@ use Rattle.spec_samples.specs.Row.{Row}
 use Rattle.spec_formats.specs.Header.{AmsAddress}
 use Rattle.spec_client.specs.Calls.{Record, Watching}
 use Rattle.spec_client.specs.Conversation as conversation
-use Rattle.spec_client.specs.Runner.{new_runner}
+use Rattle.spec_client.specs.Runner.{CallStep, new_runner}
 use Rattle.spec_client.specs.Stages.{Done}
 use Rattle.spec_client.specs.TotalLines.{total_lines}
 use Rattle.spec_client_laws.proofs.KeptLemmas.{begun_counts}
@@ -21,13 +21,14 @@ use Rattle.client_loop.specs.declared.loop_end.LoopEnd.TheVariants as end
 use Rattle.client_loop.specs.declared.record_end.RecordEnd.{RecordEnd}
 use Rattle.client_loop.specs.declared.record_end.RecordEnd.TheVariants as record_end
 use Rattle.client_loop.specs.Called.{Calling}
+use Rattle.client_loop.specs.Due.{AtSend, AtPrint, Anywhere}
 use Rattle.client_loop.specs.Hearing.{IsWhole, none_of}
 use Rattle.client_loop.specs.Lines.{EndsWithLines, EndsInPart, EndsRecord}
 use Rattle.client_loop.specs.Outlets.{Outlets}
 use Rattle.client_loop.specs.Ready.{IsBehind, IsReady}
 use Rattle.client_loop.specs.Recorded.{IsFirst, RecordsAll, RecordsSome, RecordsDone, RecordFails, AfterRecord}
 use Rattle.client_loop.proofs.SaidLemmas.{adds_nothing}
-use Rattle.client_loop.proofs.TalkLemmas.{begun_by, Joins, talks_from, breaks_from, all_broken}
+use Rattle.client_loop.proofs.TalkLemmas.{begun_by, begins_by, Joins, talks_from, breaks_from, all_broken}
 use Rattle.client_loop.proofs.TurnLemmas.{rose_later}
 
 -- a recording that begins is ready for its first row
@@ -57,11 +58,13 @@ all_records x now k ended first second third mid_link new_link out new_out at jo
   rows = g.rows out.keeper.rows (adds_nothing out.keeper.rows);
 }
 
-some_records : {O : Type 0} (x : Calling) (now : ℕ) (first second third : O → List LinkMove → Type 0) (mid_link new_link : LinkState) (out new_out : Outlets)
-    → mid_link.history ≡ connected_at now → Joins x now first second → EndsInPart (begun_by x now) second third mid_link new_link out new_out
-    → RecordsSome x first third new_link out new_out
-some_records x now first second third mid_link new_link out new_out at joins g = record {
-  breaks = breaks_from x now first second third mid_link new_link out new_out at joins g;
+some_records : {O : Type 0} (IsStop : List CallStep → Type 0) (x : Calling) (now : ℕ) (first second third : O → List LinkMove → Type 0)
+    (mid_link new_link : LinkState) (out new_out : Outlets)
+    → mid_link.history ≡ connected_at now → Joins x now first second
+    → EndsInPart IsStop (begins_by x now) (begun_by x now) second third mid_link new_link out new_out
+    → RecordsSome IsStop x first third new_link out new_out
+some_records IsStop x now first second third mid_link new_link out new_out at joins g = record {
+  breaks = breaks_from IsStop x now first second third mid_link new_link out new_out at joins g;
   rows = g.rows out.keeper.rows (adds_nothing out.keeper.rows);
 }
 
@@ -89,7 +92,8 @@ fails_as broken x first third new_link out new_out is f = subst (λ b. RecordFai
 pub records : {O : Type 0} (result : Result RecordEnd NoMemory) (x : Calling) (now : ℕ)
     (first second third : O → List LinkMove → Type 0) (link mid_link new_link : LinkState) (out new_out : Outlets)
     → mid_link.history ≡ connected_at now → link.faults ≤ mid_link.faults → Joins x now first second
-    → EndsRecord result (begun_by x now) second third mid_link new_link out new_out → AfterRecord result x first third link new_link out new_out
+    → EndsRecord result (begins_by x now) (begun_by x now) second third mid_link new_link out new_out
+    → AfterRecord result x first third link new_link out new_out
 records (Ok (record_end.Loop (end.Call call_end.Done))) x now first second third link mid_link new_link out new_out at later joins g =
     done_records Appends x now first second third mid_link new_link out new_out at joins g
 records (Ok (record_end.Loop (end.Call (call_end.Refused code)))) x now first second third link mid_link new_link out new_out at later joins g =
@@ -109,7 +113,7 @@ records (Ok (record_end.Loop end.LinkFault)) x now first second third link mid_l
         let all = all_records x now w.0 None first second third mid_link new_link out new_out at joins w.1 in
         inr (fails_as true x first third new_link out new_out (ap (λ (h : LinkHistory). h.broken) all.talks.history) all)
     | inr w ↦
-        let some = some_records x now first second third mid_link new_link out new_out at joins w in
+        let some = some_records AtSend x now first second third mid_link new_link out new_out at joins w in
         inr (fails_as false x first third new_link out new_out
         (ap (λ (h : LinkHistory). h.broken) some.breaks.history ∙ all_broken (connected_at some.breaks.moment) some.breaks.answers) some)
   ],
@@ -117,18 +121,18 @@ records (Ok (record_end.Loop end.LinkFault)) x now first second third link mid_l
 records (Ok (record_end.Loop end.WriteFault)) x now first second third link mid_link new_link out new_out at later joins g = (
   g.0,
   elim g.1 [
-    | inl w ↦ inl (some_records x now first second third mid_link new_link out new_out at joins w)
+    | inl w ↦ inl (some_records AtPrint x now first second third mid_link new_link out new_out at joins w)
     | inr w ↦ inr (done_records AppendsPart x now first second third mid_link new_link out new_out at joins w)
   ],
 )
 records (Ok record_end.KeeperFault) x now first second third link mid_link new_link out new_out at later joins g = (
   g.0,
   elim g.1 [
-    | inl w ↦ inl (some_records x now first second third mid_link new_link out new_out at joins w)
+    | inl w ↦ inl (some_records Anywhere x now first second third mid_link new_link out new_out at joins w)
     | inr w ↦ inr (all_records x now w.0 _ first second third mid_link new_link out new_out at joins w.1)
   ],
 )
 records (Err e) x now first second third link mid_link new_link out new_out at later joins g = elim g [
-  | inl w ↦ inr (inl (some_records x now first second third mid_link new_link out new_out at joins w))
+  | inl w ↦ inr (inl (some_records Anywhere x now first second third mid_link new_link out new_out at joins w))
   | inr w ↦ inr (inr (done_records AppendsPart x now first second third mid_link new_link out new_out at joins w))
 ]

@@ -10,13 +10,13 @@ use Rattle.ads_base.specs.declared.no_memory.NoMemory.{NoMemory}
 use Rattle.ads_outside.specs.declared.link_move.LinkMove.{LinkMove}
 use Rattle.ads_outside.specs.declared.link_move.LinkMove.TheVariants as move
 use Rattle.ads_outside.specs.LinkState.{LinkState, LinkHistory, broke_off}
-use Rattle.ads_outside.specs.Puts.{Appends, AppendsPart}
+use Rattle.ads_outside.specs.Puts.{Appends}
 use Rattle.spec_client.specs.CallOver.{conversation_after_all}
 use Rattle.spec_client.specs.Conversation as conversation
 use Rattle.spec_client.specs.Conversation.{LinkAnswer, Conversation, CallEnded, MAX_QUIET, MAX_ANSWERS}
 use Rattle.spec_client.specs.Conversation.{moment_of, sent_by, printed_by, kept_by, quiet_after, end_by_answer}
 use Rattle.spec_client.specs.Conversation.{runner_after_answer, conversation_after}
-use Rattle.spec_client.specs.Runner.{Runner, turns}
+use Rattle.spec_client.specs.Runner.{Runner, CallStep}
 use Rattle.spec_client.specs.CallLog.{event_of, sent_moves, sent_last, log_behind, log_up_to}
 use Rattle.client_replies.specs.Stages.{end_meant}
 use Rattle.client_calls.specs.Kept.{RunnerKept}
@@ -29,15 +29,17 @@ use Rattle.client_loop.specs.declared.loop_end.LoopEnd.TheVariants as end
 use Rattle.client_loop.specs.declared.record_end.RecordEnd.TheVariants as record_end
 use Rattle.client_loop.specs.declared.turning.Turned.{Turned}
 use Rattle.client_loop.specs.declared.turning.Turned.TheVariants as turned
+use Rattle.client_loop.specs.Due.{AtSend, AtPrint, Anywhere, turns_after, steps_last, text_up_to}
 use Rattle.client_loop.specs.Outlets.{Outlets, Adds, AddsPart}
 use Rattle.client_loop.specs.Said.{SentSome}
 use Rattle.client_loop.specs.Turning.{GivesSteps, GivesSomeSteps, AfterTurns}
 use Rattle.client_loop.specs.Hearing.{IsCame, Comes, ComesNot, TakesIn, AfterComing, GoesOver, StopsOver}
 use Rattle.client_loop.specs.Hearing.{end_at_last, IsAt, Hears, AfterRound, waits_behind, moment_in, heard_by}
 use Rattle.client_loop.specs.Hearing.{AllTurns, EndsTurns, TurnsBehind, IfGoes}
-use Rattle.client_loop.proofs.SaidLemmas.{puts_then, puts_part, puts_all, puts_more, adds_then, adds_part, adds_all, adds_more, tells_more, tells_same}
+use Rattle.client_loop.proofs.SaidLemmas.{puts_then, adds_then, adds_part, adds_all, adds_more, tells_more, tells_same}
+use Rattle.client_loop.proofs.DueLemmas.{stops_before, stops_on}
 use Rattle.client_loop.proofs.TurnLemmas.{rose_later}
-use Rattle.client_loop.proofs.GoingLemmas.{turns_after, text_after, kept_after, runner_after, behind_is, over_after, Waited, waits_after}
+use Rattle.client_loop.proofs.GoingLemmas.{text_after, kept_after, runner_after, behind_is, over_after, Waited, waits_after}
 
 -- the moment of what came is that of the answer
 pub moment_came : (kind : Came) (a : LinkAnswer) → IsCame kind a → moment_in kind ≡ moment_of a
@@ -53,13 +55,6 @@ text_stands c a first second out new_out n on gives base before =
     subst (λ t. Appends base new_out.sink.held t) (sym (text_after c a on))
     (puts_then base out.sink.held new_out.sink.held c.text (printed_by (turns_after c a).steps) before gives.put)
 
-part_stands : {O : Type 0} (c : Conversation) (a : LinkAnswer) (first second : O → List LinkMove → Type 0) (out new_out : Outlets) (n : ℕ)
-    → c.end ≡ None → GivesSomeSteps n (turns_after c a).steps first second out new_out → (base : Option (List ℕ)) → Appends base out.sink.held c.text
-    → AppendsPart base new_out.sink.held (conversation_after c a).text
-part_stands c a first second out new_out n on gives base before =
-    subst (λ t. AppendsPart base new_out.sink.held t) (sym (text_after c a on))
-    (puts_part base out.sink.held new_out.sink.held c.text (printed_by (turns_after c a).steps) before gives.put)
-
 -- and their rows behind those before it
 rows_stand : {O : Type 0} (c : Conversation) (a : LinkAnswer) (first second : O → List LinkMove → Type 0) (out new_out : Outlets) (n : ℕ)
     → c.end ≡ None → GivesSteps n (turns_after c a).steps first second out new_out → (base : Option (List Row)) → Adds base out.keeper.rows c.kept
@@ -68,12 +63,13 @@ rows_stand c a first second out new_out n on gives base before =
     subst (λ t. Adds base new_out.keeper.rows t) (sym (kept_after c a on))
     (adds_then base out.keeper.rows new_out.keeper.rows c.kept (kept_by (turns_after c a).steps) before gives.kept)
 
-some_rows_stand : {O : Type 0} (c : Conversation) (a : LinkAnswer) (first second : O → List LinkMove → Type 0) (out new_out : Outlets) (n : ℕ)
-    → c.end ≡ None → GivesSomeSteps n (turns_after c a).steps first second out new_out → (base : Option (List Row)) → Adds base out.keeper.rows c.kept
+some_rows_stand : {O : Type 0} (IsStop : List CallStep → Type 0) (c : Conversation) (a : LinkAnswer)
+    (first second : O → List LinkMove → Type 0) (out new_out : Outlets) (n : ℕ)
+    → c.end ≡ None → GivesSomeSteps IsStop n (turns_after c a).steps first second out new_out → (base : Option (List Row)) → Adds base out.keeper.rows c.kept
     → AddsPart base new_out.keeper.rows (conversation_after c a).kept
-some_rows_stand c a first second out new_out n on gives base before =
+some_rows_stand IsStop c a first second out new_out n on gives base before =
     subst (λ t. AddsPart base new_out.keeper.rows t) (sym (kept_after c a on))
-    (adds_part base out.keeper.rows new_out.keeper.rows c.kept (kept_by (turns_after c a).steps) before gives.kept)
+    (adds_part base out.keeper.rows new_out.keeper.rows c.kept (kept_by (turns_after c a).steps) before gives.some.kept)
 
 -- the answer, and what is sent behind it, stand in the log
 log_stands : {O : Type 0} (c : Conversation) (a : LinkAnswer) (first second third : O → List LinkMove → Type 0) (old mid : LinkHistory) (out new_out : Outlets)
@@ -85,13 +81,14 @@ log_stands c a first second third old mid out new_out on comes gives o log told 
     (tells_more third o log (move.Came (event_of a) ∷ []) (sent_moves (sent_by (c.answers + 1) (turns_after c a).steps))
     (gives.told o (log ++ move.Came (event_of a) ∷ []) (comes.told o log told)))
 
-some_stands : {O : Type 0} (c : Conversation) (a : LinkAnswer) (first second third : O → List LinkMove → Type 0) (old mid : LinkHistory) (out new_out : Outlets)
-    → c.end ≡ None → Comes a first second old mid → GivesSomeSteps (c.answers + 1) (turns_after c a).steps second third out new_out
+some_stands : {O : Type 0} (IsStop : List CallStep → Type 0) (c : Conversation) (a : LinkAnswer)
+    (first second third : O → List LinkMove → Type 0) (old mid : LinkHistory) (out new_out : Outlets)
+    → c.end ≡ None → Comes a first second old mid → GivesSomeSteps IsStop (c.answers + 1) (turns_after c a).steps second third out new_out
     → (o : O) (log : List LinkMove) → first o log → SentSome (sent_last [] c (a ∷ [])) third o (log ++ log_up_to [] c (a ∷ []))
 unfolding log_up_to sent_last
-some_stands c a first second third old mid out new_out on comes gives o log told =
+some_stands IsStop c a first second third old mid out new_out on comes gives o log told =
     subst (λ s. SentSome s third o (log ++ move.Came (event_of a) ∷ [])) (sym (behind_is c a on))
-    (gives.told o (log ++ move.Came (event_of a) ∷ []) (comes.told o log told))
+    (gives.some.told o (log ++ move.Came (event_of a) ∷ []) (comes.told o log told))
 
 -- the call is over by it
 ends_whole : {O : Type 0} (c : Conversation) (a : LinkAnswer) (new : RunnerKept) (ended : conversation.LoopEnd)
@@ -112,19 +109,19 @@ ends_whole c a new ended first second third link mid_link new_link out new_out o
 }
 
 -- the turns behind it are cut short
-ends_cut : {O : Type 0} (c : Conversation) (a : LinkAnswer) (first second third : O → List LinkMove → Type 0)
+ends_cut : {O : Type 0} (IsStop : List CallStep → Type 0) (c : Conversation) (a : LinkAnswer) (first second third : O → List LinkMove → Type 0)
     (link mid_link new_link : LinkState) (out new_out : Outlets)
     → c.end ≡ None → Comes a first second link.history mid_link.history → new_link.history ≡ mid_link.history
-    → GivesSomeSteps (c.answers + 1) (turns_after c a).steps second third out new_out
-    → StopsOver c first third link new_link out new_out
-unfolding conversation_after_all
-ends_cut c a first second third link mid_link new_link out new_out on comes same gives = record {
+    → GivesSomeSteps IsStop (c.answers + 1) (turns_after c a).steps second third out new_out
+    → StopsOver IsStop c first third link new_link out new_out
+unfolding conversation_after_all text_up_to steps_last
+ends_cut IsStop c a first second third link mid_link new_link out new_out on comes same gives = record {
   answers = a ∷ [];
   history = same ∙ comes.history;
   awaited = (on, tt);
-  text = part_stands c a second third out new_out (c.answers + 1) on gives;
-  rows = some_rows_stand c a second third out new_out (c.answers + 1) on gives;
-  told = some_stands c a first second third link.history mid_link.history out new_out on comes gives;
+  text = λ base before. stops_on IsStop c.text (turns_after c a).steps base out.sink.held new_out.sink.held before gives.stops;
+  rows = some_rows_stand IsStop c a second third out new_out (c.answers + 1) on gives;
+  told = some_stands IsStop c a first second third link.history mid_link.history out new_out on comes gives;
 }
 
 -- to receive failed
@@ -145,13 +142,13 @@ over_nothing c new first second link new_link out on stands comes = record {
 
 -- nothing came
 pub stops_nothing : {O : Type 0} (c : Conversation) (first second : O → List LinkMove → Type 0) (link new_link : LinkState) (out : Outlets)
-    → ComesNot first second link.history new_link.history → StopsOver c first second link new_link out out
-unfolding conversation_after_all log_up_to sent_last
+    → ComesNot first second link.history new_link.history → StopsOver Anywhere c first second link new_link out out
+unfolding conversation_after_all log_up_to sent_last text_up_to steps_last
 stops_nothing c first second link new_link out comes = record {
   answers = [];
   history = comes.history;
   awaited = tt;
-  text = λ base before. puts_all base out.sink.held c.text before;
+  text = λ base before. stops_on Anywhere c.text [] base out.sink.held out.sink.held before (stops_before [] out.sink.held);
   rows = λ base before. adds_all base out.keeper.rows c.kept before;
   told = λ o log told. record { moves = []; told = tells_same second o (log ++ []) (tells_same second o log (comes.told o log told)); some = tt };
 }
@@ -159,8 +156,8 @@ stops_nothing c first second link new_link out comes = record {
 -- memory was wanting for the answer
 pub no_answer : {O : Type 0} (e : NoMemory) (c : Conversation) (k new : RunnerKept)
     (first second : O → List LinkMove → Type 0) (link new_link : LinkState) (out : Outlets)
-    → c.end ≡ None → AfterComing (Err e) k new first second link new_link → StopsOver c first second link new_link out out
-unfolding conversation_after_all log_up_to sent_last
+    → c.end ≡ None → AfterComing (Err e) k new first second link new_link → StopsOver Anywhere c first second link new_link out out
+unfolding conversation_after_all log_up_to sent_last text_up_to steps_last
 no_answer e c k new first second link new_link out on (inl comes) = stops_nothing c first second link new_link out comes
 no_answer e c k new first second link new_link out on (inr comes) =
     let a = comes.0 in
@@ -169,8 +166,8 @@ no_answer e c k new first second link new_link out on (inr comes) =
       history = comes.1.history;
       awaited = (on, tt);
       text = λ base before.
-          subst (λ t. AppendsPart base out.sink.held t) (sym (text_after c a on))
-          (puts_more base out.sink.held c.text (printed_by (turns_after c a).steps) (puts_all base out.sink.held c.text before));
+          stops_on Anywhere c.text (turns_after c a).steps base out.sink.held out.sink.held before
+          (stops_before (turns_after c a).steps out.sink.held);
       rows = λ base before.
           subst (λ t. AddsPart base out.keeper.rows t) (sym (kept_after c a on))
           (adds_more base out.keeper.rows c.kept (kept_by (turns_after c a).steps) (adds_all base out.keeper.rows c.kept before));
@@ -212,7 +209,7 @@ pub round_link : {O : Type 0} (kind : Came) (k heard_k new : RunnerKept)
 round_link kind k heard_k new first second third link mid_link new_link out new_out quiet c at t behind same later =
     let after = turns_behind (Ok turned.LinkFault) kind k heard_k new first second third link mid_link new_link out new_out quiet c at t behind in (
       rose_later link.faults mid_link.faults new_link.faults later after.0,
-      inr (ends_cut c t.answer first second third link mid_link new_link out new_out at.on t.comes same after.1),
+      inr (ends_cut AtSend c t.answer first second third link mid_link new_link out new_out at.on t.comes same after.1),
     )
 
 pub round_write : {O : Type 0} (kind : Came) (k heard_k new : RunnerKept)
@@ -222,7 +219,7 @@ pub round_write : {O : Type 0} (kind : Came) (k heard_k new : RunnerKept)
     → AfterRound (Ok (heard.Ends (record_end.Loop end.WriteFault))) c new first third link new_link out new_out
 round_write kind k heard_k new first second third link mid_link new_link out new_out quiet c at t behind same =
     let after = turns_behind (Ok turned.WriteFault) kind k heard_k new first second third link mid_link new_link out new_out quiet c at t behind in
-    (after.0, ends_cut c t.answer first second third link mid_link new_link out new_out at.on t.comes same after.1)
+    (after.0, ends_cut AtPrint c t.answer first second third link mid_link new_link out new_out at.on t.comes same after.1)
 
 pub round_keeper : {O : Type 0} (kind : Came) (k heard_k new : RunnerKept)
     (first second third : O → List LinkMove → Type 0) (link mid_link new_link : LinkState) (out new_out : Outlets)
@@ -231,7 +228,7 @@ pub round_keeper : {O : Type 0} (kind : Came) (k heard_k new : RunnerKept)
     → AfterRound (Ok (heard.Ends record_end.KeeperFault)) c new first third link new_link out new_out
 round_keeper kind k heard_k new first second third link mid_link new_link out new_out quiet c at t behind same =
     let after = turns_behind (Ok turned.KeeperFault) kind k heard_k new first second third link mid_link new_link out new_out quiet c at t behind in
-    (after.0, ends_cut c t.answer first second third link mid_link new_link out new_out at.on t.comes same after.1)
+    (after.0, ends_cut Anywhere c t.answer first second third link mid_link new_link out new_out at.on t.comes same after.1)
 
 pub round_not : {O : Type 0} (e : NoMemory) (kind : Came) (k heard_k new : RunnerKept)
     (first second third : O → List LinkMove → Type 0) (link mid_link new_link : LinkState) (out new_out : Outlets)
@@ -239,7 +236,7 @@ pub round_not : {O : Type 0} (e : NoMemory) (kind : Came) (k heard_k new : Runne
     → Behind (Err e) kind heard_k new second third mid_link new_link out new_out → new_link.history ≡ mid_link.history
     → AfterRound (Err e) c new first third link new_link out new_out
 round_not e kind k heard_k new first second third link mid_link new_link out new_out quiet c at t behind same =
-    ends_cut c t.answer first second third link mid_link new_link out new_out at.on t.comes same
+    ends_cut Anywhere c t.answer first second third link mid_link new_link out new_out at.on t.comes same
     (turns_behind (Err e) kind k heard_k new first second third link mid_link new_link out new_out quiet c at t behind)
 
 -- it waits, and goes on

@@ -127,19 +127,17 @@ gives_then s u t v p q first second third out mid new a b = record {
       subst (λ ms. third o (log ++ ms)) (sym (map-append _ s u)) (tells_more third o log (sent_moves s) (sent_moves u) later);
 }
 
--- nothing was sent, put or kept
-pub gives_none : {O : Type 0} (s : List Sent) (t : List ℕ) (p : List Row) (tells : O → List LinkMove → Type 0) (out : Outlets)
-    → GivesSome s t p tells tells out out
-gives_none s t p tells out = record {
-  put = puts_none out.sink.held t;
+-- nothing was sent or kept
+pub gives_none : {O : Type 0} (s : List Sent) (p : List Row) (tells : O → List LinkMove → Type 0) (out : Outlets)
+    → GivesSome s p tells tells out out
+gives_none s p tells out = record {
   kept = adds_none out.keeper.rows p;
   told = λ o log told. record { moves = []; told = tells_same tells o log told; some = tt };
 }
 
-pub gives_some_then : {O : Type 0} (s u : List Sent) (t v : List ℕ) (p q : List Row) (first second third : O → List LinkMove → Type 0) (out mid new : Outlets)
-    → Gives s t p first second out mid → GivesSome u v q second third mid new → GivesSome (s ++ u) (t ++ v) (p ++ q) first third out new
-gives_some_then s u t v p q first second third out mid new a b = record {
-  put = puts_part out.sink.held mid.sink.held new.sink.held t v a.put b.put;
+pub gives_some_then : {O : Type 0} (s u : List Sent) (t : List ℕ) (p q : List Row) (first second third : O → List LinkMove → Type 0) (out mid new : Outlets)
+    → Gives s t p first second out mid → GivesSome u q second third mid new → GivesSome (s ++ u) (p ++ q) first third out new
+gives_some_then s u t p q first second third out mid new a b = record {
   kept = adds_part out.keeper.rows mid.keeper.rows new.keeper.rows p q a.kept b.kept;
   told = λ o log told.
       let later = b.told o (log ++ sent_moves s) (a.told o log told) in
@@ -151,10 +149,9 @@ gives_some_then s u t v p q first second third out mid new a b = record {
 }
 
 -- and more would have been
-pub gives_some_more : {O : Type 0} (s u : List Sent) (t v : List ℕ) (p q : List Row) (first second : O → List LinkMove → Type 0) (out new : Outlets)
-    → GivesSome s t p first second out new → GivesSome (s ++ u) (t ++ v) (p ++ q) first second out new
-gives_some_more s u t v p q first second out new a = record {
-  put = puts_more out.sink.held new.sink.held t v a.put;
+pub gives_some_more : {O : Type 0} (s u : List Sent) (p q : List Row) (first second : O → List LinkMove → Type 0) (out new : Outlets)
+    → GivesSome s p first second out new → GivesSome (s ++ u) (p ++ q) first second out new
+gives_some_more s u p q first second out new a = record {
   kept = adds_more out.keeper.rows new.keeper.rows p q a.kept;
   told = λ o log told.
       let some = a.told o log told in

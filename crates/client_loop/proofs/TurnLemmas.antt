@@ -18,12 +18,15 @@ use Rattle.client_calls.specs.Kept.{RunnerKept}
 use Rattle.client_calls.specs.Represents.{StandsFor}
 use Rattle.client_loop.specs.declared.turning.Turned.{Turned}
 use Rattle.client_loop.specs.declared.turning.Turned.TheVariants as turned
+use Rattle.client_loop.specs.Due.{AtSend, AtPrint, Anywhere}
 use Rattle.client_loop.specs.Outlets.{Outlets, outlets, IsLater, Adds, AddsPart}
 use Rattle.client_loop.specs.Said.{Gives, GivesSome}
 use Rattle.client_loop.specs.Turning.{GivesSteps, GivesSomeSteps, AfterSend, AfterPut, AfterKeep, AfterTurn, IfWaits, UnlessTurned, AfterTurns, TakesTurns}
 use Rattle.client_loop.proofs.SaidLemmas.{puts_nothing, puts_none, puts_more, adds_nothing, adds_none}
-use Rattle.client_loop.proofs.SaidLemmas.{tells_same, gives_nothing, gives_then, gives_some_then}
+use Rattle.client_loop.proofs.SaidLemmas.{tells_same, gives_nothing, gives_none, gives_then, gives_some_then}
 use Rattle.client_loop.proofs.SaidLemmas.{gives_some_more, part_sent}
+use Rattle.client_loop.proofs.DueLemmas.{StopsLonger, send_longer, print_longer, any_longer}
+use Rattle.client_loop.proofs.DueLemmas.{stops_at_once, stops_before, stops_then, stops_longer}
 use Rattle.client_loop.proofs.RestLemmas.{turn_rests, unfolds_sent, unfolds_printed, unfolds_kept}
 use Rattle.client_loop.proofs.RestLemmas.{unfolds_waiting, unfolds_over, sent-append, printed-append}
 use Rattle.client_loop.proofs.RestLemmas.{kept-append, joined_step}
@@ -35,7 +38,7 @@ abbrev Gave : {O : Type 0} → ℕ → List CallStep → List Row → (O → Lis
 Gave n steps rows first third out new_out = Gives (sent_by n steps) (printed_by steps) rows first third out new_out
 
 abbrev GaveSome : {O : Type 0} → ℕ → List CallStep → List Row → (O → List LinkMove → Type 0) → (O → List LinkMove → Type 0) → Outlets → Outlets → Type 0
-GaveSome n steps rows first third out new_out = GivesSome (sent_by n steps) (printed_by steps) rows first third out new_out
+GaveSome n steps rows first third out new_out = GivesSome (sent_by n steps) rows first third out new_out
 
 pub steps_then : {O : Type 0} (n : ℕ) (a b : List CallStep) (first second third : O → List LinkMove → Type 0) (out mid new_out : Outlets)
     → GivesSteps n a first second out mid → GivesSteps n b second third mid new_out → GivesSteps n (a ++ b) first third out new_out
@@ -45,29 +48,42 @@ steps_then n a b first second third out mid new_out x y =
     (subst (λ t. Gives (sent_by n a ++ sent_by n b) t (kept_by a ++ kept_by b) first third out new_out) (sym (printed-append a b))
     (gives_then (sent_by n a) (sent_by n b) (printed_by a) (printed_by b) (kept_by a) (kept_by b) first second third out mid new_out x y)))
 
-pub some_steps_then : {O : Type 0} (n : ℕ) (a b : List CallStep) (first second third : O → List LinkMove → Type 0) (out mid new_out : Outlets)
-    → GivesSteps n a first second out mid → GivesSomeSteps n b second third mid new_out → GivesSomeSteps n (a ++ b) first third out new_out
-some_steps_then n a b first second third out mid new_out x y =
-    subst (λ p. GaveSome n (a ++ b) p first third out new_out) (sym (kept-append a b))
-    (subst (λ s. GivesSome s (printed_by (a ++ b)) (kept_by a ++ kept_by b) first third out new_out) (sym (sent-append n a b))
-    (subst (λ t. GivesSome (sent_by n a ++ sent_by n b) t (kept_by a ++ kept_by b) first third out new_out) (sym (printed-append a b))
-    (gives_some_then (sent_by n a) (sent_by n b) (printed_by a) (printed_by b) (kept_by a) (kept_by b) first second third out mid new_out x y)))
+pub some_steps_then : {O : Type 0} (IsStop : List CallStep → Type 0) (n : ℕ) (a b : List CallStep) (first second third : O → List LinkMove → Type 0)
+    (out mid new_out : Outlets)
+    → GivesSteps n a first second out mid → GivesSomeSteps IsStop n b second third mid new_out → GivesSomeSteps IsStop n (a ++ b) first third out new_out
+some_steps_then IsStop n a b first second third out mid new_out x y = record {
+  some =
+      subst (λ p. GaveSome n (a ++ b) p first third out new_out) (sym (kept-append a b))
+      (subst (λ s. GivesSome s (kept_by a ++ kept_by b) first third out new_out) (sym (sent-append n a b))
+      (gives_some_then (sent_by n a) (sent_by n b) (printed_by a) (kept_by a) (kept_by b) first second third out mid new_out x y.some));
+  stops = stops_then IsStop a b out.sink.held mid.sink.held new_out.sink.held x.put y.stops;
+}
 
-pub some_steps_more : {O : Type 0} (n : ℕ) (a b : List CallStep) (first second : O → List LinkMove → Type 0) (out new_out : Outlets)
-    → GivesSomeSteps n a first second out new_out → GivesSomeSteps n (a ++ b) first second out new_out
-some_steps_more n a b first second out new_out x =
-    subst (λ p. GaveSome n (a ++ b) p first second out new_out) (sym (kept-append a b))
-    (subst (λ s. GivesSome s (printed_by (a ++ b)) (kept_by a ++ kept_by b) first second out new_out) (sym (sent-append n a b))
-    (subst (λ t. GivesSome (sent_by n a ++ sent_by n b) t (kept_by a ++ kept_by b) first second out new_out) (sym (printed-append a b))
-    (gives_some_more (sent_by n a) (sent_by n b) (printed_by a) (printed_by b) (kept_by a) (kept_by b) first second out new_out x)))
+some_steps_more : {O : Type 0} (IsStop : List CallStep → Type 0) → StopsLonger IsStop → (n : ℕ) (a b : List CallStep)
+    (first second : O → List LinkMove → Type 0) (out new_out : Outlets)
+    → GivesSomeSteps IsStop n a first second out new_out → GivesSomeSteps IsStop n (a ++ b) first second out new_out
+some_steps_more IsStop longer n a b first second out new_out x = record {
+  some =
+      subst (λ p. GaveSome n (a ++ b) p first second out new_out) (sym (kept-append a b))
+      (subst (λ s. GivesSome s (kept_by a ++ kept_by b) first second out new_out) (sym (sent-append n a b))
+      (gives_some_more (sent_by n a) (sent_by n b) (kept_by a) (kept_by b) first second out new_out x.some));
+  stops = stops_longer IsStop longer [] a b out.sink.held new_out.sink.held x.stops;
+}
+
+-- no step was given
+pub no_steps : {O : Type 0} (n : ℕ) (steps : List CallStep) (tells : O → List LinkMove → Type 0) (out : Outlets)
+    → GivesSomeSteps Anywhere n steps tells tells out out
+no_steps n steps tells out =
+    record { some = gives_none (sent_by n steps) (kept_by steps) tells out; stops = stops_before steps out.sink.held }
 
 -- where a step of a turn is cut short, all turns are
-cut_behind : {O : Type 0} (now n : ℕ) (r : Runner) (first second : O → List LinkMove → Type 0) (out new_out : Outlets)
-    → turns now r ≡ after_step (turn now r) (turns now (turn now r).runner) → GivesSomeSteps n ((turn now r).step ∷ []) first second out new_out
-    → GivesSomeSteps n (turns now r).steps first second out new_out
-cut_behind now n r first second out new_out is x =
-    subst (λ (ts : Turns). GivesSomeSteps n ts.steps first second out new_out) (sym is)
-    (some_steps_more n ((turn now r).step ∷ []) (turns now (turn now r).runner).steps first second out new_out x)
+cut_behind : {O : Type 0} (IsStop : List CallStep → Type 0) → StopsLonger IsStop → (now n : ℕ) (r : Runner)
+    (first second : O → List LinkMove → Type 0) (out new_out : Outlets)
+    → turns now r ≡ after_step (turn now r) (turns now (turn now r).runner) → GivesSomeSteps IsStop n ((turn now r).step ∷ []) first second out new_out
+    → GivesSomeSteps IsStop n (turns now r).steps first second out new_out
+cut_behind IsStop longer now n r first second out new_out is x =
+    subst (λ (ts : Turns). GivesSomeSteps IsStop n ts.steps first second out new_out) (sym is)
+    (some_steps_more IsStop longer n ((turn now r).step ∷ []) (turns now (turn now r).runner).steps first second out new_out x)
 
 -- bytes were sent, or not
 pub turn_sent : {O : Type 0} (result : Result (Option Turned) NoMemory) (now : ℕ) (new : RunnerKept) (old_tells new_tells : O → List LinkMove → Type 0)
@@ -82,23 +98,33 @@ turn_sent (Ok None) now new old_tells new_tells link new_link out bytes n r sent
 turn_sent (Ok (Some turned.LinkFault)) now new old_tells new_tells link new_link out bytes n r sent is stands = (
   sent.0,
   unfolds_sent now r bytes is,
-  subst (λ step. GivesSomeSteps n (step ∷ []) old_tells new_tells out out) is (record {
-    put = puts_none out.sink.held [];
-    kept = adds_none out.keeper.rows [];
-    told = λ o log told. let part = sent.1 o log told in part_sent new_tells o log (record { answers = n; bytes = bytes }) part.0 part.1;
+  subst (λ step. GivesSomeSteps AtSend n (step ∷ []) old_tells new_tells out out) is (record {
+    some = record {
+      kept = adds_none out.keeper.rows [];
+      told = λ o log told. let part = sent.1 o log told in part_sent new_tells o log (record { answers = n; bytes = bytes }) part.0 part.1;
+    };
+    stops = stops_at_once AtSend (Send bytes) out.sink.held out.sink.held tt (puts_none out.sink.held []);
   }),
 )
 turn_sent (Ok (Some other)) now new old_tells new_tells link new_link out bytes n r sent is stands = absurd sent
 turn_sent (Err e) now new old_tells new_tells link new_link out bytes n r sent is stands =
-    cut_behind now n r old_tells new_tells out out (unfolds_sent now r bytes is)
-    (subst (λ step. GivesSomeSteps n (step ∷ []) old_tells new_tells out out) is (record {
-      put = puts_none out.sink.held [];
-      kept = adds_none out.keeper.rows [];
-      told = λ o log told. let part = sent o log told in part_sent new_tells o log (record { answers = n; bytes = bytes }) part.0 part.1;
+    cut_behind Anywhere any_longer now n r old_tells new_tells out out (unfolds_sent now r bytes is)
+    (subst (λ step. GivesSomeSteps Anywhere n (step ∷ []) old_tells new_tells out out) is (record {
+      some = record {
+        kept = adds_none out.keeper.rows [];
+        told = λ o log told. let part = sent o log told in part_sent new_tells o log (record { answers = n; bytes = bytes }) part.0 part.1;
+      };
+      stops = stops_at_once Anywhere (Send bytes) out.sink.held out.sink.held tt (puts_none out.sink.held []);
     }))
 
 text_alone : (held new : Option (List ℕ)) (text : List ℕ) → Appends held new text → Appends held new (text ++ [])
 text_alone held new text put = subst (λ t. Appends held new t) (sym (append-nil text)) put
+
+-- nothing was sent
+gives_none_but : {O : Type 0} {rows : List Row} (tells : O → List LinkMove → Type 0) (out new_out : Outlets)
+    → AddsPart out.keeper.rows new_out.keeper.rows rows → GivesSome [] rows tells tells out new_out
+gives_none_but tells out new_out kept =
+    record { kept = kept; told = λ o log told. record { moves = []; told = tells_same tells o log told; some = tt } }
 
 -- a text was put, or not
 pub turn_printed : {O : Type 0} (result : Result (Option Turned) NoMemory) (now : ℕ) (new : RunnerKept) (tells : O → List LinkMove → Type 0)
@@ -117,19 +143,17 @@ turn_printed (Ok None) now new tells link out new_out keeper text n r put is sta
 turn_printed (Ok (Some turned.WriteFault)) now new tells link out new_out keeper text n r put is stands = (
   put.1,
   unfolds_printed now r text is,
-  subst (λ step. GivesSomeSteps n (step ∷ []) tells tells (outlets out keeper) (outlets new_out keeper)) is (record {
-    put = puts_more out.held new_out.held text [] put.0;
-    kept = adds_none keeper.rows [];
-    told = λ o log told. record { moves = []; told = tells_same tells o log told; some = tt };
+  subst (λ step. GivesSomeSteps AtPrint n (step ∷ []) tells tells (outlets out keeper) (outlets new_out keeper)) is (record {
+    some = gives_none_but tells (outlets out keeper) (outlets new_out keeper) (adds_none keeper.rows []);
+    stops = stops_at_once AtPrint (Print text) out.held new_out.held tt (puts_more out.held new_out.held text [] put.0);
   }),
 )
 turn_printed (Ok (Some other)) now new tells link out new_out keeper text n r put is stands = absurd put
 turn_printed (Err e) now new tells link out new_out keeper text n r put is stands =
-    cut_behind now n r tells tells (outlets out keeper) (outlets new_out keeper) (unfolds_printed now r text is)
-    (subst (λ step. GivesSomeSteps n (step ∷ []) tells tells (outlets out keeper) (outlets new_out keeper)) is (record {
-      put = puts_more out.held new_out.held text [] put;
-      kept = adds_none keeper.rows [];
-      told = λ o log told. record { moves = []; told = tells_same tells o log told; some = tt };
+    cut_behind Anywhere any_longer now n r tells tells (outlets out keeper) (outlets new_out keeper) (unfolds_printed now r text is)
+    (subst (λ step. GivesSomeSteps Anywhere n (step ∷ []) tells tells (outlets out keeper) (outlets new_out keeper)) is (record {
+      some = gives_none_but tells (outlets out keeper) (outlets new_out keeper) (adds_none keeper.rows []);
+      stops = stops_at_once Anywhere (Print text) out.held new_out.held tt (puts_more out.held new_out.held text [] put);
     }))
 
 rows_none : (old new : Option (List Row)) (row : Row) → new ≡ old → AddsPart old new (row ∷ [])
@@ -152,19 +176,17 @@ turn_kept (Ok None) now new tells link out keeper new_keeper row n r kept is sta
 turn_kept (Ok (Some turned.KeeperFault)) now new tells link out keeper new_keeper row n r kept is stands = (
   kept.1,
   unfolds_kept now r row is,
-  subst (λ step. GivesSomeSteps n (step ∷ []) tells tells (outlets out keeper) (outlets out new_keeper)) is (record {
-    put = puts_none out.held [];
-    kept = rows_none keeper.rows new_keeper.rows row kept.0;
-    told = λ o log told. record { moves = []; told = tells_same tells o log told; some = tt };
+  subst (λ step. GivesSomeSteps Anywhere n (step ∷ []) tells tells (outlets out keeper) (outlets out new_keeper)) is (record {
+    some = gives_none_but tells (outlets out keeper) (outlets out new_keeper) (rows_none keeper.rows new_keeper.rows row kept.0);
+    stops = stops_at_once Anywhere (Keep row) out.held out.held tt (puts_none out.held []);
   }),
 )
 turn_kept (Ok (Some other)) now new tells link out keeper new_keeper row n r kept is stands = absurd kept
 turn_kept (Err e) now new tells link out keeper new_keeper row n r kept is stands =
-    cut_behind now n r tells tells (outlets out keeper) (outlets out new_keeper) (unfolds_kept now r row is)
-    (subst (λ step. GivesSomeSteps n (step ∷ []) tells tells (outlets out keeper) (outlets out new_keeper)) is (record {
-      put = puts_none out.held [];
-      kept = rows_none keeper.rows new_keeper.rows row kept;
-      told = λ o log told. record { moves = []; told = tells_same tells o log told; some = tt };
+    cut_behind Anywhere any_longer now n r tells tells (outlets out keeper) (outlets out new_keeper) (unfolds_kept now r row is)
+    (subst (λ step. GivesSomeSteps Anywhere n (step ∷ []) tells tells (outlets out keeper) (outlets out new_keeper)) is (record {
+      some = gives_none_but tells (outlets out keeper) (outlets out new_keeper) (rows_none keeper.rows new_keeper.rows row kept);
+      stops = stops_at_once Anywhere (Keep row) out.held out.held tt (puts_none out.held []);
     }))
 
 pub unless_turned : (result : Result (Option Turned) NoMemory) (P : Type 0) → P → UnlessTurned result P
@@ -214,15 +236,17 @@ takes_more now k new first second third mid_link new_link out mid new_out n r t 
       gives = steps_then n t.steps ((turn now b).step ∷ []) first second third out mid new_out t.gives more.2;
     }
 
-abbrev Cut : {O : Type 0} → ℕ → Runner → ℕ → (O → List LinkMove → Type 0) → (O → List LinkMove → Type 0) → Outlets → Outlets → Type 0
-Cut now r n first third out new_out = GivesSomeSteps n (turns now r).steps first third out new_out
+abbrev Cut : {O : Type 0} → (List CallStep → Type 0) → ℕ → Runner → ℕ → (O → List LinkMove → Type 0) → (O → List LinkMove → Type 0)
+    → Outlets → Outlets → Type 0
+Cut IsStop now r n first third out new_out = GivesSomeSteps IsStop n (turns now r).steps first third out new_out
 
 -- the turns behind those that were taken are cut short
-cut_later : {O : Type 0} (now : ℕ) (k : RunnerKept) (first second third : O → List LinkMove → Type 0) (out mid new_out : Outlets) (n : ℕ) (r : Runner)
-    (t : TakesTurns now k first second out mid n r) → Cut now t.behind n second third mid new_out → Cut now r n first third out new_out
-cut_later now k first second third out mid new_out n r t cut =
-    subst (λ (ts : Turns). GivesSomeSteps n ts.steps first third out new_out) (sym t.same)
-    (some_steps_then n t.steps (turns now t.behind).steps first second third out mid new_out t.gives cut)
+cut_later : {O : Type 0} (IsStop : List CallStep → Type 0) (now : ℕ) (k : RunnerKept) (first second third : O → List LinkMove → Type 0)
+    (out mid new_out : Outlets) (n : ℕ) (r : Runner)
+    (t : TakesTurns now k first second out mid n r) → Cut IsStop now t.behind n second third mid new_out → Cut IsStop now r n first third out new_out
+cut_later IsStop now k first second third out mid new_out n r t cut =
+    subst (λ (ts : Turns). GivesSomeSteps IsStop n ts.steps first third out new_out) (sym t.same)
+    (some_steps_then IsStop n t.steps (turns now t.behind).steps first second third out mid new_out t.gives cut)
 
 -- and then the runner rests, or breaks off
 pub turned_so : {O : Type 0} (result : Turned) (now : ℕ) (k new : RunnerKept)
@@ -249,19 +273,19 @@ turned_so turned.LinkFault now k new first second third link mid_link new_link o
     let b = t.behind in
     let rest = after b n t.stands in (
       rose_later link.faults mid_link.faults new_link.faults linked rest.0,
-      cut_later now k first second third out mid new_out n r t (cut_behind now n b second third mid new_out rest.1 rest.2),
+      cut_later AtSend now k first second third out mid new_out n r t (cut_behind AtSend send_longer now n b second third mid new_out rest.1 rest.2),
     )
 turned_so turned.WriteFault now k new first second third link mid_link new_link out mid new_out n r linked outed t after =
     let b = t.behind in
     let rest = after b n t.stands in (
       rose_later out.sink.faults mid.sink.faults new_out.sink.faults outed.sink.faults rest.0,
-      cut_later now k first second third out mid new_out n r t (cut_behind now n b second third mid new_out rest.1 rest.2),
+      cut_later AtPrint now k first second third out mid new_out n r t (cut_behind AtPrint print_longer now n b second third mid new_out rest.1 rest.2),
     )
 turned_so turned.KeeperFault now k new first second third link mid_link new_link out mid new_out n r linked outed t after =
     let b = t.behind in
     let rest = after b n t.stands in (
       rose_later out.keeper.faults mid.keeper.faults new_out.keeper.faults outed.keeper rest.0,
-      cut_later now k first second third out mid new_out n r t (cut_behind now n b second third mid new_out rest.1 rest.2),
+      cut_later Anywhere now k first second third out mid new_out n r t (cut_behind Anywhere any_longer now n b second third mid new_out rest.1 rest.2),
     )
 
 -- memory was wanting
@@ -271,4 +295,4 @@ pub turned_not : {O : Type 0} (e : NoMemory) (now : ℕ) (k new : RunnerKept)
     → ((b : Runner) (m : ℕ) → StandsFor k b → AfterTurn (Err e) now new second third mid_link new_link mid new_out m b)
     → AfterTurns (Err e) now new first third link new_link out new_out n r
 turned_not e now k new first second third link mid_link new_link out mid new_out n r t after =
-    cut_later now k first second third out mid new_out n r t (after t.behind n t.stands)
+    cut_later Anywhere now k first second third out mid new_out n r t (after t.behind n t.stands)

@@ -7,17 +7,19 @@ use Rattle.ads_outside.specs.declared.connected.Connected.TheVariants as connect
 use Rattle.ads_outside.specs.declared.link_move.LinkMove.{LinkMove}
 use Rattle.ads_outside.specs.LinkAnswers.{log_after_connect}
 use Rattle.ads_outside.specs.LinkState.{LinkState}
-use Rattle.ads_outside.specs.Puts.{Appends, AppendsPart}
+use Rattle.ads_outside.specs.Puts.{Appends}
 use Rattle.ads_outside.specs.Rose.{Rose}
 use Rattle.ads_outside.specs.SinkState.{SinkState}
 use Rattle.spec_client.specs.Calls.{Call}
 use Rattle.spec_client.specs.CallOver.{call_over}
 use Rattle.spec_client.specs.Conversation as conversation
 use Rattle.spec_client.specs.Conversation.{LinkAnswer, Conversation, conversation_begun, conversation_after}
+use Rattle.spec_client.specs.Runner.{CallStep}
 use Rattle.spec_client.specs.CallLog.{call_log, call_log_up_to, call_sent_last}
 use Rattle.client_replies.specs.Stages.{end_meant}
 use Rattle.client_loop.specs.declared.loop_end.LoopEnd.{LoopEnd}
 use Rattle.client_loop.specs.declared.loop_end.LoopEnd.TheVariants as end
+use Rattle.client_loop.specs.Due.{AtSend, AtPrint, Anywhere, StopsAt, call_steps_last, call_text_up_to}
 use Rattle.client_loop.specs.LinkAfter.{history_over, history_left}
 use Rattle.client_loop.specs.Said.{SentSome}
 
@@ -65,15 +67,16 @@ pub record Talks {O : Type 0} (x : Calling) (ended : Option conversation.LoopEnd
   pub text : Appends out.held out_new.held (over x moment answers).text
   pub told : LogsAll x moment answers old_tells new_tells
 
--- The same of a call that broke off behind these answers: of its text some first bytes were put, and of what it sends behind the
--- last answer some was sent.
-pub record BreaksOff {O : Type 0} (x : Calling) (old_tells new_tells : O → List LinkMove → Type 0)
+-- The same of a call that broke off behind these answers, at a step of those that it gives behind the last of them: all its text before that
+-- step was put, also where a step that sends could not be given. Of what it sends behind the last answer some was sent.
+pub record BreaksOff {O : Type 0} (IsStop : List CallStep → Type 0) (x : Calling) (old_tells new_tells : O → List LinkMove → Type 0)
     (new : LinkState) (out out_new : SinkState) : Type 0 where
   pub moment : ℕ
   pub answers : List LinkAnswer
   pub history : new.history ≡ history_over moment answers
   pub awaited : AreAwaited (conversation_begun x.me x.peer x.call moment) answers
-  pub text : AppendsPart out.held out_new.held (over x moment answers).text
+  pub text : StopsAt IsStop (call_text_up_to x.me x.peer x.call moment answers) (call_steps_last x.me x.peer x.call moment answers)
+      out.held out_new.held
   pub told : LogsSome x moment answers old_tells new_tells
 
 -- The link was not connected: nothing was sent, and nothing put.
@@ -84,11 +87,11 @@ pub record NeverBegins {O : Type 0} (x : Calling) (answer : Connected)
   pub told : (o : O) (log : List LinkMove) → old_tells o log → new_tells o (log_after_connect answer x.to log)
 
 -- A link that was connected failed. Where its history says that to receive failed, no text is lost: all was heard, sent and put up to that.
--- Else to send failed.
+-- Else to send failed: all text that comes before what was to be sent was put.
 abbrev pub Fails : {O : Type 0} → (broken : Bool) → Calling → (O → List LinkMove → Type 0) → (O → List LinkMove → Type 0)
     → LinkState → SinkState → SinkState → Type 0
 Fails true x old_tells new_tells new out out_new = Talks x None old_tells new_tells new out out_new
-Fails false x old_tells new_tells new out out_new = BreaksOff x old_tells new_tells new out out_new
+Fails false x old_tells new_tells new out out_new = BreaksOff AtSend x old_tells new_tells new out out_new
 
 -- What a call leaves, by how it ended. Want of memory may come at each call, also behind a text that was put whole.
 abbrev pub AfterCall : {O : Type 0} → Result LoopEnd NoMemory → Calling → (O → List LinkMove → Type 0)
@@ -102,7 +105,7 @@ AfterCall (Ok end.LinkFault) x old_tells new_tells old new out out_new =
     × (NeverBegins x connected.Failed old_tells new_tells old new out out_new
     ⊎ Fails new.history.broken x old_tells new_tells new out out_new)
 AfterCall (Ok end.WriteFault) x old_tells new_tells old new out out_new =
-    Rose out.faults out_new.faults × BreaksOff x old_tells new_tells new out out_new
+    Rose out.faults out_new.faults × BreaksOff AtPrint x old_tells new_tells new out out_new
 AfterCall (Err e) x old_tells new_tells old new out out_new =
     NeverBegins x connected.Memory old_tells new_tells old new out out_new
-    ⊎ BreaksOff x old_tells new_tells new out out_new
+    ⊎ BreaksOff Anywhere x old_tells new_tells new out out_new

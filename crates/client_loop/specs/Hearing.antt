@@ -5,7 +5,7 @@ use Rattle.ads_base.specs.declared.peer.Peer.TheVariants as peer
 use Rattle.ads_outside.specs.declared.link_move.LinkMove.{LinkMove}
 use Rattle.ads_outside.specs.declared.link_move.LinkMove.TheVariants as move
 use Rattle.ads_outside.specs.LinkState.{LinkState, LinkHistory, broke_off}
-use Rattle.ads_outside.specs.Puts.{Appends, AppendsPart}
+use Rattle.ads_outside.specs.Puts.{Appends}
 use Rattle.ads_outside.specs.Rose.{Rose}
 use Rattle.ads_outside.specs.SinkState.{SinkState}
 use Rattle.sample_store.specs.Keeper.{KeeperState}
@@ -14,7 +14,7 @@ use Rattle.spec_client.specs.Stages.{entries_taken}
 use Rattle.spec_client.specs.CallOver.{conversation_after_all}
 use Rattle.spec_client.specs.Conversation as conversation
 use Rattle.spec_client.specs.Conversation.{LinkAnswer, Conversation, Sent, MAX_QUIET, MAX_ANSWERS, runner_after_answer, conversation_after}
-use Rattle.spec_client.specs.Runner.{Runner}
+use Rattle.spec_client.specs.Runner.{Runner, CallStep}
 use Rattle.spec_client.specs.CallLog.{event_of, sent_last, log_behind, log_up_to}
 use Rattle.client_replies.specs.Stages.{end_meant}
 use Rattle.client_calls.specs.Kept.{RunnerKept}
@@ -31,6 +31,7 @@ use Rattle.client_loop.specs.declared.turning.Turned.TheVariants as turned
 use Rattle.client_loop.specs.Called.{AreAwaited}
 use Rattle.client_loop.specs.declared.record_end.RecordEnd.{RecordEnd}
 use Rattle.client_loop.specs.declared.record_end.RecordEnd.TheVariants as record_end
+use Rattle.client_loop.specs.Due.{AtSend, AtPrint, Anywhere, StopsAt, steps_last, text_up_to}
 use Rattle.client_loop.specs.LinkAfter.{history_after_answer, history_after_answers, history_left}
 use Rattle.client_loop.specs.Outlets.{Outlets, outlets, Adds, AddsPart}
 use Rattle.client_loop.specs.Said.{SentSome}
@@ -93,38 +94,39 @@ pub record IsWhole {O : Type 0} (before : Before) (c : Conversation) (new : Runn
       → Adds base new_out.keeper.rows (conversation_after_all c answers).kept
   pub told : (o : O) (log : List LinkMove) → old_tells o log → new_tells o (log ++ log_behind before.pending c answers)
 
--- It broke off: some first bytes of its text stand there, some first ones of its rows, and some of what it sends behind the last answer.
-pub record IsPart {O : Type 0} (before : Before) (c : Conversation)
+-- It broke off, where these steps were still to be given: it stopped at one of those behind the last answer, and all its text before that
+-- stands there. So do some first ones of its rows, and some of what it sends behind the last answer.
+pub record IsPart {O : Type 0} (IsStop : List CallStep → Type 0) (before : Before) (steps : List CallStep) (c : Conversation)
     (old_tells new_tells : O → List LinkMove → Type 0) (link new_link : LinkState) (out new_out : Outlets)
     : Type 0 where
   pub answers : List LinkAnswer
   pub history : new_link.history ≡ history_after_answers link.history answers
   pub awaited : AreAwaited c answers
   pub text : (base : Option (List ℕ)) → Appends base out.sink.held before.text
-      → AppendsPart base new_out.sink.held (conversation_after_all c answers).text
+      → StopsAt IsStop (text_up_to before.text c answers) (steps_last steps c answers) base new_out.sink.held
   pub rows : (base : Option (List Row)) → Adds base out.keeper.rows before.rows
       → AddsPart base new_out.keeper.rows (conversation_after_all c answers).kept
   pub told : (o : O) (log : List LinkMove) → old_tells o log
       → SentSome (sent_last before.pending c answers) new_tells o (log ++ log_up_to before.pending c answers)
 
 -- by how it ended
-abbrev pub EndsBy : {O : Type 0} → Result RecordEnd NoMemory → Before → Conversation → RunnerKept
+abbrev pub EndsBy : {O : Type 0} → Result RecordEnd NoMemory → Before → List CallStep → Conversation → RunnerKept
     → (O → List LinkMove → Type 0) → (O → List LinkMove → Type 0) → LinkState → LinkState → Outlets → Outlets
     → Type 0
-EndsBy (Ok (record_end.Loop (end.Call e))) before c new old_tells new_tells link new_link out new_out =
+EndsBy (Ok (record_end.Loop (end.Call e))) before steps c new old_tells new_tells link new_link out new_out =
     IsWhole before c new (Some (conversation.CallEnded (end_meant e))) old_tells new_tells link new_link out new_out
-EndsBy (Ok (record_end.Loop end.Budget)) before c new old_tells new_tells link new_link out new_out =
+EndsBy (Ok (record_end.Loop end.Budget)) before steps c new old_tells new_tells link new_link out new_out =
     IsWhole before c new (Some conversation.Budget) old_tells new_tells link new_link out new_out
-EndsBy (Ok (record_end.Loop end.LinkFault)) before c new old_tells new_tells link new_link out new_out =
+EndsBy (Ok (record_end.Loop end.LinkFault)) before steps c new old_tells new_tells link new_link out new_out =
     Rose link.faults new_link.faults
     × (IsWhole before c new None old_tells new_tells link new_link out new_out
-    ⊎ IsPart before c old_tells new_tells link new_link out new_out)
-EndsBy (Ok (record_end.Loop end.WriteFault)) before c new old_tells new_tells link new_link out new_out =
-    Rose out.sink.faults new_out.sink.faults × IsPart before c old_tells new_tells link new_link out new_out
-EndsBy (Ok record_end.KeeperFault) before c new old_tells new_tells link new_link out new_out =
-    Rose out.keeper.faults new_out.keeper.faults × IsPart before c old_tells new_tells link new_link out new_out
-EndsBy (Err e) before c new old_tells new_tells link new_link out new_out =
-    IsPart before c old_tells new_tells link new_link out new_out
+    ⊎ IsPart AtSend before steps c old_tells new_tells link new_link out new_out)
+EndsBy (Ok (record_end.Loop end.WriteFault)) before steps c new old_tells new_tells link new_link out new_out =
+    Rose out.sink.faults new_out.sink.faults × IsPart AtPrint before steps c old_tells new_tells link new_link out new_out
+EndsBy (Ok record_end.KeeperFault) before steps c new old_tells new_tells link new_link out new_out =
+    Rose out.keeper.faults new_out.keeper.faults × IsPart Anywhere before steps c old_tells new_tells link new_link out new_out
+EndsBy (Err e) before steps c new old_tells new_tells link new_link out new_out =
+    IsPart Anywhere before steps c old_tells new_tells link new_link out new_out
 
 -- all that a conversation gave stands there
 abbrev pub all_of : Conversation → Before
@@ -138,35 +140,35 @@ none_of c = record { text = []; rows = []; pending = c.sent }
 abbrev pub EndsOver : {O : Type 0} → Result RecordEnd NoMemory → Conversation → RunnerKept → (O → List LinkMove → Type 0)
     → (O → List LinkMove → Type 0) → LinkState → LinkState → Outlets → Outlets → Type 0
 EndsOver result c new old_tells new_tells link new_link out new_out =
-    EndsBy result (all_of c) c new old_tells new_tells link new_link out new_out
+    EndsBy result (all_of c) [] c new old_tells new_tells link new_link out new_out
 
--- one that only begins
-abbrev pub EndsFrom : {O : Type 0} → Result RecordEnd NoMemory → Conversation → RunnerKept → (O → List LinkMove → Type 0)
+-- one that only begins, with these steps
+abbrev pub EndsFrom : {O : Type 0} → Result RecordEnd NoMemory → List CallStep → Conversation → RunnerKept → (O → List LinkMove → Type 0)
     → (O → List LinkMove → Type 0) → LinkState → LinkState → Outlets → Outlets → Type 0
-EndsFrom result c new old_tells new_tells link new_link out new_out =
-    EndsBy result (none_of c) c new old_tells new_tells link new_link out new_out
+EndsFrom result steps c new old_tells new_tells link new_link out new_out =
+    EndsBy result (none_of c) steps c new old_tells new_tells link new_link out new_out
 
 -- a keeper that tells no rows, and never failed
 abbrev pub no_rows : KeeperState
-no_rows = record { rows = None; faults = 0 }
+no_rows = record { rows = None; names = None; faults = 0 }
 
--- a call that is no recording, and only begins
-abbrev pub TalksAlone : {O : Type 0} → Result LoopEnd NoMemory → Conversation → (O → List LinkMove → Type 0)
+-- a call that is no recording, and only begins, with these steps
+abbrev pub TalksAlone : {O : Type 0} → Result LoopEnd NoMemory → List CallStep → Conversation → (O → List LinkMove → Type 0)
     → (O → List LinkMove → Type 0) → LinkState → LinkState → SinkState → SinkState → Type 0
-TalksAlone (Ok e) c old_tells new_tells link new_link out new_out =
-    (new : RunnerKept) × EndsFrom (Ok (record_end.Loop e)) c new old_tells new_tells link new_link (outlets out no_rows) (outlets new_out no_rows)
-TalksAlone (Err e) c old_tells new_tells link new_link out new_out =
-    IsPart (none_of c) c old_tells new_tells link new_link (outlets out no_rows) (outlets new_out no_rows)
+TalksAlone (Ok e) steps c old_tells new_tells link new_link out new_out =
+    (new : RunnerKept) × EndsFrom (Ok (record_end.Loop e)) steps c new old_tells new_tells link new_link (outlets out no_rows) (outlets new_out no_rows)
+TalksAlone (Err e) steps c old_tells new_tells link new_link out new_out =
+    IsPart Anywhere (none_of c) steps c old_tells new_tells link new_link (outlets out no_rows) (outlets new_out no_rows)
 
 abbrev pub GoesOver : {O : Type 0} → Conversation → RunnerKept → Option conversation.LoopEnd → (O → List LinkMove → Type 0)
     → (O → List LinkMove → Type 0) → LinkState → LinkState → Outlets → Outlets → Type 0
 GoesOver c new ended old_tells new_tells link new_link out new_out =
     IsWhole (all_of c) c new ended old_tells new_tells link new_link out new_out
 
-abbrev pub StopsOver : {O : Type 0} → Conversation → (O → List LinkMove → Type 0)
+abbrev pub StopsOver : {O : Type 0} → (List CallStep → Type 0) → Conversation → (O → List LinkMove → Type 0)
     → (O → List LinkMove → Type 0) → LinkState → LinkState → Outlets → Outlets → Type 0
-StopsOver c old_tells new_tells link new_link out new_out =
-    IsPart (all_of c) c old_tells new_tells link new_link out new_out
+StopsOver IsStop c old_tells new_tells link new_link out new_out =
+    IsPart IsStop (all_of c) [] c old_tells new_tells link new_link out new_out
 
 -- the end of a conversation that goes on, unless the last answer came
 abbrev pub end_at_last : Conversation → Option conversation.LoopEnd

@@ -1,6 +1,7 @@
 pub mod LinkAfter
 pub mod Outlets
 pub mod Ready
+pub mod Due
 pub mod Said
 pub mod Called
 pub mod Recorded

@@ -9,6 +9,7 @@ use Rattle.spec_formats.specs.SymbolEntry.{SymbolEntry}
 use Rattle.spec_samples.specs.Row.{Row}
 use Rattle.spec_client.specs.Conversation as conversation
 use Rattle.spec_client.specs.Conversation.{Conversation}
+use Rattle.spec_client.specs.Runner.{CallStep}
 use Rattle.spec_client.specs.Stages.{Done, entries_taken}
 use Rattle.spec_samples.specs.Totals.{Total, total_of}
 use Rattle.sample_store.specs.Keeper.{KeeperState}
@@ -21,6 +22,7 @@ use Rattle.client_loop.specs.declared.loop_end.LoopEnd.TheVariants as end
 use Rattle.client_loop.specs.declared.record_end.RecordEnd.{RecordEnd}
 use Rattle.client_loop.specs.declared.record_end.RecordEnd.TheVariants as record_end
 use Rattle.client_loop.specs.declared.turning.Turned.{Turned}
+use Rattle.client_loop.specs.Due.{AtSend, AtPrint, Anywhere}
 use Rattle.client_loop.specs.Hearing.{IsWhole, IsPart, none_of}
 use Rattle.client_loop.specs.Outlets.{Outlets}
 
@@ -81,33 +83,34 @@ abbrev pub EndsWhole : {O : Type 0} → Conversation → Option conversation.Loo
 EndsWhole c ended old_tells new_tells link new_link out new_out =
     (kept : RunnerKept) × IsWhole (none_of c) c kept ended old_tells new_tells link new_link out new_out
 
-abbrev pub EndsInPart : {O : Type 0} → Conversation → (O → List LinkMove → Type 0)
+abbrev pub EndsInPart : {O : Type 0} → (List CallStep → Type 0) → List CallStep → Conversation → (O → List LinkMove → Type 0)
     → (O → List LinkMove → Type 0) → LinkState → LinkState → Outlets → Outlets → Type 0
-EndsInPart c old_tells new_tells link new_link out new_out = IsPart (none_of c) c old_tells new_tells link new_link out new_out
+EndsInPart IsStop steps c old_tells new_tells link new_link out new_out =
+    IsPart IsStop (none_of c) steps c old_tells new_tells link new_link out new_out
 
--- a recording that only begins, by how it ended
-abbrev pub EndsRecord : {O : Type 0} → Result RecordEnd NoMemory → Conversation → (O → List LinkMove → Type 0)
+-- a recording that only begins, with these steps, by how it ended
+abbrev pub EndsRecord : {O : Type 0} → Result RecordEnd NoMemory → List CallStep → Conversation → (O → List LinkMove → Type 0)
     → (O → List LinkMove → Type 0) → LinkState → LinkState → Outlets → Outlets → Type 0
-EndsRecord (Ok (record_end.Loop (end.Call call_end.Done))) c old_tells new_tells link new_link out new_out =
+EndsRecord (Ok (record_end.Loop (end.Call call_end.Done))) steps c old_tells new_tells link new_link out new_out =
     EndsWithLines Appends c old_tells new_tells link new_link out new_out
-EndsRecord (Ok (record_end.Loop (end.Call e))) c old_tells new_tells link new_link out new_out =
+EndsRecord (Ok (record_end.Loop (end.Call e))) steps c old_tells new_tells link new_link out new_out =
     EndsWhole c (Some (conversation.CallEnded (end_meant e))) old_tells new_tells link new_link out new_out
-EndsRecord (Ok (record_end.Loop end.Budget)) c old_tells new_tells link new_link out new_out =
+EndsRecord (Ok (record_end.Loop end.Budget)) steps c old_tells new_tells link new_link out new_out =
     EndsWhole c (Some conversation.Budget) old_tells new_tells link new_link out new_out
-EndsRecord (Ok (record_end.Loop end.LinkFault)) c old_tells new_tells link new_link out new_out =
+EndsRecord (Ok (record_end.Loop end.LinkFault)) steps c old_tells new_tells link new_link out new_out =
     Rose link.faults new_link.faults
     × (EndsWhole c None old_tells new_tells link new_link out new_out
-    ⊎ EndsInPart c old_tells new_tells link new_link out new_out)
-EndsRecord (Ok (record_end.Loop end.WriteFault)) c old_tells new_tells link new_link out new_out =
+    ⊎ EndsInPart AtSend steps c old_tells new_tells link new_link out new_out)
+EndsRecord (Ok (record_end.Loop end.WriteFault)) steps c old_tells new_tells link new_link out new_out =
     Rose out.sink.faults new_out.sink.faults
-    × (EndsInPart c old_tells new_tells link new_link out new_out
+    × (EndsInPart AtPrint steps c old_tells new_tells link new_link out new_out
     ⊎ EndsWithLines AppendsPart c old_tells new_tells link new_link out new_out)
-EndsRecord (Ok record_end.KeeperFault) c old_tells new_tells link new_link out new_out =
+EndsRecord (Ok record_end.KeeperFault) steps c old_tells new_tells link new_link out new_out =
     Rose out.keeper.faults new_out.keeper.faults
-    × (EndsInPart c old_tells new_tells link new_link out new_out
+    × (EndsInPart Anywhere steps c old_tells new_tells link new_link out new_out
     ⊎ EndsWhole c (Some (conversation.CallEnded Done)) old_tells new_tells link new_link out new_out)
-EndsRecord (Err e) c old_tells new_tells link new_link out new_out =
-    EndsInPart c old_tells new_tells link new_link out new_out
+EndsRecord (Err e) steps c old_tells new_tells link new_link out new_out =
+    EndsInPart Anywhere steps c old_tells new_tells link new_link out new_out
     ⊎ EndsWithLines AppendsPart c old_tells new_tells link new_link out new_out
 
 -- behind an end come the lines, where it is done; else nothing does

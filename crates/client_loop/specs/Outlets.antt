@@ -13,10 +13,11 @@ pub record Outlets : Type 0 where
 abbrev pub outlets : SinkState → KeeperState → Outlets
 outlets sink keeper = record { sink = sink; keeper = keeper }
 
--- none of their counts falls
+-- none of their counts falls, and no table is opened
 pub record IsLater (old new : Outlets) : Type 0 where
   pub sink : NeverFalls old.sink new.sink
   pub keeper : old.keeper.faults ≤ new.keeper.faults
+  pub names : new.keeper.names ≡ old.keeper.names
 
 -- these rows were put, in order and each once, on top of those that stood there, where they are told
 abbrev pub Adds : Option (List Row) → Option (List Row) → List Row → Type 0

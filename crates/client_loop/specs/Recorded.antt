@@ -10,6 +10,7 @@ use Rattle.ads_outside.specs.Rose.{Rose}
 use Rattle.ads_outside.specs.SinkState.{SinkState}
 use Rattle.spec_samples.specs.Row.{Row}
 use Rattle.spec_client.specs.Conversation as conversation
+use Rattle.spec_client.specs.Runner.{CallStep}
 use Rattle.spec_client.specs.Stages.{Done, entries_taken}
 use Rattle.spec_client.specs.TotalLines.{total_lines}
 use Rattle.client_replies.specs.Stages.{end_meant}
@@ -18,6 +19,7 @@ use Rattle.client_loop.specs.declared.loop_end.LoopEnd.TheVariants as end
 use Rattle.client_loop.specs.declared.record_end.RecordEnd.{RecordEnd}
 use Rattle.client_loop.specs.declared.record_end.RecordEnd.TheVariants as record_end
 use Rattle.client_loop.specs.Called.{Calling, over, Talks, BreaksOff, NeverBegins}
+use Rattle.client_loop.specs.Due.{AtSend, AtPrint, Anywhere}
 use Rattle.client_loop.specs.Outlets.{Outlets, outlets, Adds, AddsPart}
 
 -- the first number of a recording is one more than the number of the rows, where they are told
@@ -32,9 +34,9 @@ pub record RecordsAll {O : Type 0} (x : Calling) (ended : Option conversation.Lo
   pub rows : Adds out.keeper.rows out_new.keeper.rows (over x talks.moment talks.answers).kept
 
 -- one that broke off, some first ones of whose rows were put
-pub record RecordsSome {O : Type 0} (x : Calling)
+pub record RecordsSome {O : Type 0} (IsStop : List CallStep → Type 0) (x : Calling)
     (old_tells new_tells : O → List LinkMove → Type 0) (new : LinkState) (out out_new : Outlets) : Type 0 where
-  pub breaks : BreaksOff x old_tells new_tells new out.sink out_new.sink
+  pub breaks : BreaksOff IsStop x old_tells new_tells new out.sink out_new.sink
   pub rows : AddsPart out.keeper.rows out_new.keeper.rows (over x breaks.moment breaks.answers).kept
 
 -- One that is done: behind all of it, and behind all totals, the lines of its entries were put as one text, whole or in part. They are
@@ -59,7 +61,7 @@ pub record NeverRecords {O : Type 0} (x : Calling) (answer : Connected)
 abbrev pub RecordFails : {O : Type 0} → (broken : Bool) → Calling → (O → List LinkMove → Type 0) → (O → List LinkMove → Type 0)
     → LinkState → Outlets → Outlets → Type 0
 RecordFails true x old_tells new_tells new out out_new = RecordsAll x None old_tells new_tells new out out_new
-RecordFails false x old_tells new_tells new out out_new = RecordsSome x old_tells new_tells new out out_new
+RecordFails false x old_tells new_tells new out out_new = RecordsSome AtSend x old_tells new_tells new out out_new
 
 -- what a recording leaves, by how it ended
 abbrev pub AfterRecord : {O : Type 0} → Result RecordEnd NoMemory → Calling → (O → List LinkMove → Type 0)
@@ -76,13 +78,13 @@ AfterRecord (Ok (record_end.Loop end.LinkFault)) x old_tells new_tells old new o
     ⊎ RecordFails new.history.broken x old_tells new_tells new out out_new)
 AfterRecord (Ok (record_end.Loop end.WriteFault)) x old_tells new_tells old new out out_new =
     Rose out.sink.faults out_new.sink.faults
-    × (RecordsSome x old_tells new_tells new out out_new
+    × (RecordsSome AtPrint x old_tells new_tells new out out_new
     ⊎ RecordsDone AppendsPart x old_tells new_tells new out out_new)
 AfterRecord (Ok record_end.KeeperFault) x old_tells new_tells old new out out_new =
     Rose out.keeper.faults out_new.keeper.faults
-    × (RecordsSome x old_tells new_tells new out out_new
+    × (RecordsSome Anywhere x old_tells new_tells new out out_new
     ⊎ RecordsAll x (Some (conversation.CallEnded Done)) old_tells new_tells new out out_new)
 AfterRecord (Err e) x old_tells new_tells old new out out_new =
     NeverRecords x connected.Memory old_tells new_tells old new out out_new
-    ⊎ RecordsSome x old_tells new_tells new out out_new
+    ⊎ RecordsSome Anywhere x old_tells new_tells new out out_new
     ⊎ RecordsDone AppendsPart x old_tells new_tells new out out_new

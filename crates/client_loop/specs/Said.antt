@@ -2,7 +2,7 @@
 use Rattle.std.specs.Prelude.{◌≡◌, ◌⊎◌, ℕ, List, [], ◌∷◌, ◌++◌, take}
 use Rattle.ads_outside.specs.declared.link_move.LinkMove.{LinkMove}
 use Rattle.ads_outside.specs.declared.link_move.LinkMove.TheVariants as move
-use Rattle.ads_outside.specs.Puts.{Appends, AppendsPart}
+use Rattle.ads_outside.specs.Puts.{Appends}
 use Rattle.spec_samples.specs.Row.{Row}
 use Rattle.spec_client.specs.Conversation.{Sent}
 use Rattle.spec_client.specs.CallLog.{sent_moves}
@@ -29,9 +29,8 @@ pub record Gives {O : Type 0} (sent : List Sent) (text : List ℕ) (rows : List 
   pub kept : Adds out.keeper.rows new_out.keeper.rows rows
   pub told : (o : O) (log : List LinkMove) → old_tells o log → new_tells o (log ++ sent_moves sent)
 
--- some of this was sent, some first bytes of the text were put, and some first rows kept
-pub record GivesSome {O : Type 0} (sent : List Sent) (text : List ℕ) (rows : List Row)
+-- some of this was sent, and some first rows were kept
+pub record GivesSome {O : Type 0} (sent : List Sent) (rows : List Row)
     (old_tells new_tells : O → List LinkMove → Type 0) (out new_out : Outlets) : Type 0 where
-  pub put : AppendsPart out.sink.held new_out.sink.held text
   pub kept : AddsPart out.keeper.rows new_out.keeper.rows rows
   pub told : (o : O) (log : List LinkMove) → old_tells o log → SentSome sent new_tells o log

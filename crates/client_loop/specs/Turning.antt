@@ -19,6 +19,7 @@ use Rattle.client_calls.specs.Represents.{StandsFor}
 use Rattle.client_loop.specs.declared.turning.Turned.{Turned}
 use Rattle.client_loop.specs.declared.turning.Turned.TheVariants as turned
 use Rattle.client_loop.specs.Outlets.{Outlets, Adds}
+use Rattle.client_loop.specs.Due.{AtSend, AtPrint, Anywhere, StopsAt}
 use Rattle.client_loop.specs.Said.{Gives, GivesSome}
 
 -- bytes are sent whole
@@ -37,10 +38,11 @@ abbrev pub GivesSteps : {O : Type 0} → ℕ → List CallStep → (O → List L
 GivesSteps n steps old_tells new_tells out new_out =
     Gives (sent_by n steps) (printed_by steps) (kept_by steps) old_tells new_tells out new_out
 
-abbrev pub GivesSomeSteps : {O : Type 0} → ℕ → List CallStep → (O → List LinkMove → Type 0) → (O → List LinkMove → Type 0)
-    → Outlets → Outlets → Type 0
-GivesSomeSteps n steps old_tells new_tells out new_out =
-    GivesSome (sent_by n steps) (printed_by steps) (kept_by steps) old_tells new_tells out new_out
+-- they stopped at one of them, by which all text before it was put
+pub record GivesSomeSteps {O : Type 0} (IsStop : List CallStep → Type 0) (n : ℕ) (steps : List CallStep)
+    (old_tells new_tells : O → List LinkMove → Type 0) (out new_out : Outlets) : Type 0 where
+  pub some : GivesSome (sent_by n steps) (kept_by steps) old_tells new_tells out new_out
+  pub stops : StopsAt IsStop [] steps out.sink.held new_out.sink.held
 
 -- what became of bytes that were to be sent
 abbrev pub AfterSend : {O : Type 0} → Result (Option Turned) NoMemory → (O → List LinkMove → Type 0)
@@ -85,17 +87,17 @@ AfterTurn (Ok (Some (turned.Over end))) now new old_tells new_tells link new_lin
 AfterTurn (Ok (Some turned.LinkFault)) now new old_tells new_tells link new_link out new_out n r =
     Rose link.faults new_link.faults
     × (turns now r ≡ after_step (turn now r) (turns now (turn now r).runner))
-    × GivesSomeSteps n ((turn now r).step ∷ []) old_tells new_tells out new_out
+    × GivesSomeSteps AtSend n ((turn now r).step ∷ []) old_tells new_tells out new_out
 AfterTurn (Ok (Some turned.KeeperFault)) now new old_tells new_tells link new_link out new_out n r =
     Rose out.keeper.faults new_out.keeper.faults
     × (turns now r ≡ after_step (turn now r) (turns now (turn now r).runner))
-    × GivesSomeSteps n ((turn now r).step ∷ []) old_tells new_tells out new_out
+    × GivesSomeSteps Anywhere n ((turn now r).step ∷ []) old_tells new_tells out new_out
 AfterTurn (Ok (Some turned.WriteFault)) now new old_tells new_tells link new_link out new_out n r =
     Rose out.sink.faults new_out.sink.faults
     × (turns now r ≡ after_step (turn now r) (turns now (turn now r).runner))
-    × GivesSomeSteps n ((turn now r).step ∷ []) old_tells new_tells out new_out
+    × GivesSomeSteps AtPrint n ((turn now r).step ∷ []) old_tells new_tells out new_out
 AfterTurn (Err e) now new old_tells new_tells link new_link out new_out n r =
-    GivesSomeSteps n (turns now r).steps old_tells new_tells out new_out
+    GivesSomeSteps Anywhere n (turns now r).steps old_tells new_tells out new_out
 
 -- all turns of a runner, up to a wait or the end
 abbrev pub AfterTurns : {O : Type 0} → Result Turned NoMemory → ℕ → RunnerKept → (O → List LinkMove → Type 0)
@@ -108,13 +110,13 @@ AfterTurns (Ok (turned.Over end)) now new old_tells new_tells link new_link out 
     × GivesSteps n (turns now r).steps old_tells new_tells out new_out
     × (entries_taken new.stage ≡ entries_taken (turns now r).runner.stage)
 AfterTurns (Ok turned.LinkFault) now new old_tells new_tells link new_link out new_out n r =
-    Rose link.faults new_link.faults × GivesSomeSteps n (turns now r).steps old_tells new_tells out new_out
+    Rose link.faults new_link.faults × GivesSomeSteps AtSend n (turns now r).steps old_tells new_tells out new_out
 AfterTurns (Ok turned.KeeperFault) now new old_tells new_tells link new_link out new_out n r =
-    Rose out.keeper.faults new_out.keeper.faults × GivesSomeSteps n (turns now r).steps old_tells new_tells out new_out
+    Rose out.keeper.faults new_out.keeper.faults × GivesSomeSteps Anywhere n (turns now r).steps old_tells new_tells out new_out
 AfterTurns (Ok turned.WriteFault) now new old_tells new_tells link new_link out new_out n r =
-    Rose out.sink.faults new_out.sink.faults × GivesSomeSteps n (turns now r).steps old_tells new_tells out new_out
+    Rose out.sink.faults new_out.sink.faults × GivesSomeSteps AtPrint n (turns now r).steps old_tells new_tells out new_out
 AfterTurns (Err e) now new old_tells new_tells link new_link out new_out n r =
-    GivesSomeSteps n (turns now r).steps old_tells new_tells out new_out
+    GivesSomeSteps Anywhere n (turns now r).steps old_tells new_tells out new_out
 
 -- the call waits for more
 abbrev pub IfWaits : Result Turned NoMemory → Type 0 → Type 0

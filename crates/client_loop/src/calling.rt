@@ -11,6 +11,7 @@ ghost use Rattle.ads_outside.specs.SinkState.{NeverFalls};
 ghost use Rattle.client_replies.specs.Sound.{HasShortTexts};
 ghost use Rattle.client_replies.specs.Stages.{call_meant};
 ghost use Rattle.client_loop.specs.Called.{AfterCall, calling};
+ghost use Rattle.client_loop.specs.Due.{first_steps};
 ghost use Rattle.client_loop.specs.Hearing.{EndsFrom, TalksAlone};
 ghost use Rattle.client_loop.specs.Outlets.{outlets, IsLater};
 ghost use Rattle.client_loop.specs.Ready.{IsReady};
@@ -61,7 +62,8 @@ fn talk<L: Link, S: Sink>(
     now: u64,
 ) -> Result<LoopEnd, NoMemory>
     requires { HasShortTexts (call_meant call) }
-    ensures talks { TalksAlone result (conversation_begun (address_of me) (address_of peer) (call_meant call) now)
+    ensures talks { TalksAlone result (first_steps (address_of me) (address_of peer) (call_meant call) now)
+        (conversation_begun (address_of me) (address_of peer) (call_meant call) now)
         (L.tells link.old) (L.tells link.new) (L.state link.old) (L.state link.new) (S.state out.old) (S.state out.new) }
     ensures link_later { LinkNeverFalls (L.state link.old) (L.state link.new) }
     ensures out_later { NeverFalls (S.state out.old) (S.state out.new) }
@@ -82,7 +84,7 @@ fn talk_alone<L: Link, S: Sink>(
 ) -> Result<LoopEnd, NoMemory>
     requires { IsGoingOn runner.old }
     ensures talks { (me peer : AmsAddress) (call : CallSpec) → StandsFor runner.old (new_runner me peer call)
-        → TalksAlone result (conversation_begun me peer call now)
+        → TalksAlone result (first_steps me peer call now) (conversation_begun me peer call now)
         (L.tells link.old) (L.tells link.new) (L.state link.old) (L.state link.new) (S.state out.old) (S.state out.new) }
     ensures link_later { LinkNeverFalls (L.state link.old) (L.state link.new) }
     ensures out_later { NeverFalls (S.state out.old) (S.state out.new) }
@@ -107,7 +109,7 @@ pub(crate) fn talk_by<L: Link, S: Sink, K: Keeper>(
 ) -> Result<RecordEnd, NoMemory>
     requires { IsReady runner.old (K.state keeper.old).rows }
     ensures talks { (me peer : AmsAddress) (call : CallSpec) → StandsFor runner.old (new_runner me peer call)
-        → EndsFrom result (conversation_begun me peer call now) runner.new
+        → EndsFrom result (first_steps me peer call now) (conversation_begun me peer call now) runner.new
         (L.tells link.old) (L.tells link.new) (L.state link.old) (L.state link.new)
         (outlets (S.state out.old) (K.state keeper.old)) (outlets (S.state out.new) (K.state keeper.new)) }
     ensures link_later { LinkNeverFalls (L.state link.old) (L.state link.new) }

@@ -10,7 +10,7 @@ impl Keeper for NoKeeper {
     ghost use Rattle.std.specs.Prelude.{None};
     ghost use Rattle.sample_store.specs.Keeper.{KeeperState};
 
-    ghost state = { λ k. let x : KeeperState = record { rows = None; faults = 0 } in x };
+    ghost state = { λ k. let x : KeeperState = record { rows = None; names = None; faults = 0 } in x };
 
     fn faults(&self) -> u64 {
         0

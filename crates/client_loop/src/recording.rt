@@ -12,6 +12,7 @@ ghost use Rattle.sample_store.specs.Keeper.{AreNumbered};
 ghost use Rattle.client_calls.specs.Recording.{AreNames, CanRecord, record_meant};
 ghost use Rattle.client_calls.specs.Represents.{StandsFor};
 ghost use Rattle.client_loop.specs.Called.{calling};
+ghost use Rattle.client_loop.specs.Due.{first_steps};
 ghost use Rattle.client_loop.specs.Lines.{AfterLines, EndsRecord, Finishes, ended_by};
 ghost use Rattle.client_loop.specs.Outlets.{outlets, IsLater};
 ghost use Rattle.client_loop.specs.Ready.{IsReady};
@@ -73,7 +74,8 @@ fn record<L: Link, S: Sink, K: Keeper>(
     requires spec { CanRecord spec }
     requires numbers { AreNumbered (K.state keeper.old).rows }
     requires next { IsFirst (K.state keeper.old).rows spec.first }
-    ensures records { EndsRecord result (conversation_begun (address_of me) (address_of peer) (record_meant names.now spec) now)
+    ensures records { EndsRecord result (first_steps (address_of me) (address_of peer) (record_meant names.now spec) now)
+        (conversation_begun (address_of me) (address_of peer) (record_meant names.now spec) now)
         (L.tells link.old) (L.tells link.new) (L.state link.old) (L.state link.new)
         (outlets (S.state out.old) (K.state keeper.old)) (outlets (S.state out.new) (K.state keeper.new)) }
     ensures link_later { LinkNeverFalls (L.state link.old) (L.state link.new) }
@@ -96,7 +98,7 @@ fn record_by<L: Link, S: Sink, K: Keeper>(
 ) -> Result<RecordEnd, NoMemory>
     requires { IsReady runner.old (K.state keeper.old).rows }
     ensures records { (me peer : AmsAddress) (call : CallSpec) → StandsFor runner.old (new_runner me peer call)
-        → EndsRecord result (conversation_begun me peer call now)
+        → EndsRecord result (first_steps me peer call now) (conversation_begun me peer call now)
         (L.tells link.old) (L.tells link.new) (L.state link.old) (L.state link.new)
         (outlets (S.state out.old) (K.state keeper.old)) (outlets (S.state out.new) (K.state keeper.new)) }
     ensures link_later { LinkNeverFalls (L.state link.old) (L.state link.new) }

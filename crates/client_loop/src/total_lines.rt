@@ -18,6 +18,7 @@ pub(crate) fn total_lines<K: Keeper>(
 ) -> Result<Option<Octets>, NoMemory>
     ensures lines { AfterTotals result (entries_taken runner.now.stage) (K.state keeper.old) (K.state keeper.new) }
     ensures rows { (K.state keeper.new).rows ≡ (K.state keeper.old).rows }
+    ensures names { (K.state keeper.new).names ≡ (K.state keeper.old).names }
     ensures keeper_later { (K.state keeper.old).faults ≤ (K.state keeper.new).faults }
 {
     let mut text = Octets::new(alloc);
@@ -44,6 +45,7 @@ fn put_line<K: Keeper>(
 ) -> Result<bool, NoMemory>
     ensures line { AfterLine result name.now type_id text.old text.new (K.state keeper.old) (K.state keeper.new) }
     ensures rows { (K.state keeper.new).rows ≡ (K.state keeper.old).rows }
+    ensures names { (K.state keeper.new).names ≡ (K.state keeper.old).names }
     ensures keeper_later { (K.state keeper.old).faults ≤ (K.state keeper.new).faults }
 {
     match keeper.total(name) {

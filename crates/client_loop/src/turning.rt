@@ -84,6 +84,7 @@ fn give_turns<L: Link, S: Sink, K: Keeper>(
 fn settle_behind<K: Keeper>(keeper: &mut K, turned: Turned) -> Result<Turned, NoMemory>
     ensures settled { AfterSettle result turned (K.state keeper.old) (K.state keeper.new) }
     ensures rows { (K.state keeper.new).rows ≡ (K.state keeper.old).rows }
+    ensures names { (K.state keeper.new).names ≡ (K.state keeper.old).names }
     ensures keeper_later { (K.state keeper.old).faults ≤ (K.state keeper.new).faults }
 {
     match keeper.settle() {
@@ -156,6 +157,7 @@ fn keep<K: Keeper>(keeper: &mut K, row: &Row) -> Result<Option<Turned>, NoMemory
     requires most { row.now.number < 2 ^ 63 }
     requires next { IsNext (K.state keeper.old).rows row.now.number }
     ensures kept { AfterKeep result (K.state keeper.old) (K.state keeper.new) (row_kept row.now) }
+    ensures names { (K.state keeper.new).names ≡ (K.state keeper.old).names }
     ensures keeper_later { (K.state keeper.old).faults ≤ (K.state keeper.new).faults }
 {
     match keeper.put(row) {

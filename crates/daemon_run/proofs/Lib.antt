@@ -3,3 +3,4 @@ pub mod StatusLemmas
 pub mod RunningLemmas
 pub mod KeptLemmas
 pub mod PlantDone
+mod PlantExamples

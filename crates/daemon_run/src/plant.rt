@@ -1,9 +1,10 @@
 //! A plant is served until its wire ends, over a store or without one.
 
-ghost use Rattle.std.specs.Prelude.{◌≡◌, ◌<◌, ◌≤◌, ◌^◌, length, None};
+ghost use Rattle.std.specs.Prelude.{◌≡◌, ◌<◌, ◌≤◌, ◌^◌, length, IfSome, None};
 ghost use Rattle.ads_outside.specs.Named.{bytes_of};
 ghost use Rattle.ads_outside.specs.Rose.{Rose, raised};
 ghost use Rattle.server_core.specs.Profiles.{profile_of};
+ghost use Rattle.persist_store.specs.Disk.{OpensOnly};
 ghost use Rattle.keep_play.specs.KeptDisk.{disk_used};
 ghost use Rattle.run_tasks.specs.BeforeRun.{IsBeforeRun};
 ghost use Rattle.run_tasks.specs.Readings.{OverFile, ReadsOne};
@@ -62,6 +63,7 @@ pub fn run_plant<
         (W.state wire.old).history (W.state wire.new).history) }
     ensures done { result ≡ Status.Done → (W.state wire.new).history.ends ≡ raised (W.state wire.old).history.ends }
     ensures no_disk { store.now ≡ None → disk.new ≡ disk.old }
+    ensures opens { IfSome store.now (OpensOnly (D.names disk.old) (D.names disk.new)) }
     ensures store_fault { result ≡ Status.StoreFault → Rose (D.fault_count disk.old) (D.fault_count disk.new) }
     ensures reads { ReadsOne result (F.state files.old).names (F.state files.new).names description.now }
     ensures held { (F.state files.new).held ≡ (F.state files.old).held }

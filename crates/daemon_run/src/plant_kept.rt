@@ -6,6 +6,7 @@ ghost use Rattle.ads_served.specs.Standing.{Standing};
 ghost use Rattle.server_core.specs.Profiles.{profile_of};
 ghost use Rattle.spec_plant.specs.Accepted.{IsAccepted};
 ghost use Rattle.type_layout.specs.Descriptions.{description_of};
+ghost use Rattle.persist_store.specs.Disk.{OpensOnly};
 ghost use Rattle.persist_store.specs.Store.{IsReady};
 ghost use Rattle.server_core.specs.Served.{World, Client};
 ghost use Rattle.server_core.specs.Serves.{StandsAt};
@@ -65,6 +66,7 @@ pub(crate) fn keep_read<
         (disk_used D.contents D.may_leave D.moment D.left_since D.fault_count disk.old disk.new)
         (W.state wire.old).history (W.state wire.new).history }
     ensures status { IsOfPlant result }
+    ensures opens { OpensOnly (D.names disk.old) (D.names disk.new) store.now }
     ensures store_fault { result ≡ Status.StoreFault → Rose (D.fault_count disk.old) (D.fault_count disk.new) }
 {
     match Store::open(alloc, disk, store.as_str()) {
@@ -117,6 +119,7 @@ fn keep_opened<
         D.contents D.may_leave D.moment D.left_since D.fault_count disk.old disk.new (W.state wire.old).history (W.state wire.new).history }
     ensures status { IsOfPlant result }
     ensures later { D.fault_count disk.old ≤ D.fault_count disk.new }
+    ensures opens { OpensOnly (D.names disk.old) (D.names disk.new) file.now }
     ensures store_fault { result ≡ Status.StoreFault → Rose (D.fault_count disk.old) (D.fault_count disk.new) }
 {
     let Accepted { bytes, description } = read;
@@ -180,6 +183,7 @@ fn keep_posted<
         D.contents D.may_leave D.moment D.left_since D.fault_count disk.old disk.new (W.state wire.old).history (W.state wire.new).history }
     ensures status { IsOfPlant result }
     ensures later { D.fault_count disk.old ≤ D.fault_count disk.new }
+    ensures opens { OpensOnly (D.names disk.old) (D.names disk.new) file.now }
     ensures store_fault { result ≡ Status.StoreFault → Rose (D.fault_count disk.old) (D.fault_count disk.new) }
 {
     match start_and_tell(listen, name, first, wire, out) {
@@ -220,6 +224,7 @@ fn run_kept<
         D.contents D.may_leave D.moment D.left_since D.fault_count disk.old disk.new (W.state wire.old).history (W.state wire.new).history }
     ensures status { IsOfPlant result }
     ensures later { D.fault_count disk.old ≤ D.fault_count disk.new }
+    ensures opens { OpensOnly (D.names disk.old) (D.names disk.new) file.now }
     ensures store_fault { result ≡ Status.StoreFault → Rose (D.fault_count disk.old) (D.fault_count disk.new) }
 {
     let kept = keep_on(

@@ -4,3 +4,4 @@ pub mod SecondLemmas
 pub mod VerdictLemmas
 pub mod PlainLemmas
 pub mod MigratedLemmas
+pub mod MigrationExamples

@@ -9,6 +9,7 @@ use Rattle.signals.specs.Wave.{Wave}
 use Rattle.spec_plant.specs.Description.{Description}
 use Rattle.spec_machine.specs.ScriptLine.{ScriptLine}
 use Rattle.spec_store.specs.Slots.{Standing, standing_of}
+use Rattle.persist_store.specs.Disk.{OpensOnce}
 use Rattle.keep_play.specs.declared.kept_play.KeptPlay.{KeptPlay}
 use Rattle.keep_play.specs.declared.kept_play.KeptPlay.TheVariants as kept
 use Rattle.keep_play.specs.KeptPlay.{PlaysOverStore, EndsKept}
@@ -19,11 +20,13 @@ use Rattle.file_run.specs.Keeping.{KeepsBy, EndsKeeping, PrintsKept}
 use Rattle.run_tasks.specs.KeepAsked.{Keeping, keeping}
 use Rattle.file_run.specs.FileOutcomes.{IsOfKeeping, PrintsPlay}
 use Rattle.run_tasks.specs.Prints.{PutsMemoryLine}
+use Rattle.run_tasks.specs.Openings.{OpensOne}
 use Rattle.run_tasks.specs.Readings.{Names, OverFiles, ReadsBoth}
 use Rattle.keep_play.specs.KeptDisk.{DiskUse}
 use Rattle.run_tasks.specs.Verdict.{Keeps, over_store, verdict_of_both}
 use Rattle.run_tasks.proofs.VerdictLemmas.{of_both}
 use Rattle.run_tasks.proofs.EndLemmas.{prints_same, any_files, wants_endings}
+use Rattle.run_tasks.proofs.OpenLemmas.{opens_all, opens_some}
 use Rattle.run_tasks.proofs.ReadLemmas.{some_of_two}
 use Rattle.run_tasks.specs.EndsOr.{EndsOr}
 
@@ -104,3 +107,9 @@ both_read (status.BadPeer broke) old new a b plain h = absurd plain
 both_read (status.TimedOut m n) old new a b plain h = absurd plain
 both_read status.BadValue old new a b plain h = absurd plain
 both_read status.KeeperFault old new a b plain h = absurd plain
+
+-- the store was opened, once, or memory was wanting
+pub kept_opens : (played : Result KeptPlay NoMemory) (s : Status) (out out_new : SinkState) (old new : Names) (name : List ℕ)
+    → PrintsPlay played s out out_new → OpensOnce played old new name → OpensOne s old new name
+kept_opens (Ok end) s out out_new old new name printed all = opens_all s old new name all
+kept_opens (Err e) s out out_new old new name printed some = opens_some s old new name printed.0 some

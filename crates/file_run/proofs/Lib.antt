@@ -9,3 +9,4 @@ pub mod ServiceLemmas
 pub mod MigrationLemmas
 pub mod LoadLemmas
 pub mod KeepLemmas
+mod ServingExamples

@@ -10,6 +10,7 @@ ghost use Rattle.file_run.specs.Keeping.{KeepsBy};
 ghost use Rattle.file_run.specs.Keeping.{EndsKeeping};
 ghost use Rattle.run_tasks.specs.KeepAsked.{keeping};
 ghost use Rattle.file_run.specs.FileOutcomes.{IsOfKeeping, PrintsPlay};
+ghost use Rattle.run_tasks.specs.Openings.{OpensOne};
 ghost use Rattle.run_tasks.specs.Readings.{OverFiles, ReadsBoth};
 ghost use Rattle.keep_play.specs.KeptDisk.{disk_used};
 ghost use Rattle.run_tasks.specs.Verdict.{over_store, verdict_of_both};
@@ -47,6 +48,7 @@ pub fn keep<T: Threads + Sync, F: Files, S: Sink, D: Disk, G: Sources>(
     ensures held { (F.state files.new).held ≡ (F.state files.old).held }
     ensures read_fault { result ≡ Status.ReadFault → Rose (F.state files.old).faults (F.state files.new).faults }
     ensures before_run { IsBeforeRun result → disk.new ≡ disk.old }
+    ensures opens { OpensOne result (D.names disk.old) (D.names disk.new) store.now }
 {
     match read_both(alloc, description, script, signals.count() as u32, files) {
         Err(NoMemory) => end_without_memory(out),
@@ -71,6 +73,7 @@ fn keep_both<T: Threads + Sync, S: Sink, D: Disk, G: Sources>(
     ensures ends { EndsKeeping (keeping (description_of both.description) (G.waves signals) both.script) result
         (S.state out.old) (S.state out.new) (disk_used D.contents D.may_leave D.moment D.left_since D.fault_count disk.old disk.new) }
     ensures status { IsOfKeeping result }
+    ensures opens { OpensOne result (D.names disk.old) (D.names disk.new) store.now }
 {
     let Scripted {
         description,

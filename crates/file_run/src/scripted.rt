@@ -10,6 +10,7 @@ ghost use Rattle.type_layout.specs.Descriptions.{description_of};
 ghost use Rattle.replay_script.specs.Fresh.{OpenNew};
 ghost use Rattle.run_tasks.specs.Verdict.{Play, Verdict, verdict_of_both, verdict_of_file, verdict_of_script};
 ghost use Rattle.file_run.specs.FileOutcomes.{GivesBoth, GivesScript, IsOfFileTask, IsOfScript, IsOfScriptFile, IsScriptOf};
+ghost use Rattle.run_tasks.specs.Openings.{MayOpenNothing};
 ghost use Rattle.run_tasks.specs.Readings.{OverFile, OverFiles, ReadsBoth};
 
 use ads_base::NoMemory;
@@ -29,6 +30,7 @@ pub struct Scripted {
 
 /// The description, for this number of signals, and the script of two files; or how the run ends. The script is read only
 /// where the description is accepted.
+#[tactic(auto, using(run_tasks::proofs::OpenLemmas::may_description))]
 pub fn read_both<F: Files>(
     alloc: Global,
     description: &Text,
@@ -42,6 +44,7 @@ pub fn read_both<F: Files>(
     ensures accepted { IfOk result (λ found. IfOk found (λ both. IsAccepted (description_of both.description) signals)) }
     ensures new { IfOk result (λ found. IfOk found (λ both. OpenNew [] both.script)) }
     ensures status { IfOk result (λ found. IfErr found (λ o. IsOfFileTask o.status)) }
+    ensures unopened { IfOk result (λ found. IfErr found (λ o. MayOpenNothing o.status)) }
     ensures reads_all { IfOk result (λ found. IfOk found (λ both.
         ReadsAll (F.state files.old).names (F.state files.new).names (description.now ∷ script.now ∷ []))) }
     ensures reads { IfOk result (λ found. IfErr found (λ o.
@@ -72,7 +75,7 @@ pub fn read_both<F: Files>(
 }
 
 // The script of a file; or how the run ends.
-#[tactic(auto, using(run_tasks::proofs::ReadLemmas::some_of_one))]
+#[tactic(auto, using(run_tasks::proofs::ReadLemmas::some_of_one, run_tasks::proofs::OpenLemmas::may_file))]
 fn read_file<F: Files>(
     alloc: Global,
     script: &Text,
@@ -83,6 +86,7 @@ fn read_file<F: Files>(
         (Rose (F.state files.old).faults (F.state files.new).faults) found)) }
     ensures new { IfOk result (λ found. IfOk found (OpenNew [])) }
     ensures status { IfOk result (λ found. IfErr found (λ o. IsOfScriptFile o.status)) }
+    ensures unopened { IfOk result (λ found. IfErr found (λ o. MayOpenNothing o.status)) }
     ensures reads { IfOk result (λ found. ReadsAll (F.state files.old).names (F.state files.new).names (script.now ∷ [])) }
     ensures reads_some { OnErr result (ReadsSome (F.state files.old).names (F.state files.new).names (script.now ∷ [])) }
     ensures later { (F.state files.old).faults ≤ (F.state files.new).faults }
@@ -107,6 +111,7 @@ pub fn script_of(alloc: Global, bytes: &[u8]) -> Result<Result<Script, Outcome>,
     ensures is { (play : List ScriptLine → Verdict) → IfOk result (IsScriptOf play (verdict_of_script play bytes.now)) }
     ensures new { IfOk result (λ found. IfOk found (OpenNew [])) }
     ensures status { IfOk result (λ found. IfErr found (λ o. IsOfScript o.status)) }
+    ensures unopened { IfOk result (λ found. IfErr found (λ o. MayOpenNothing o.status)) }
 {
     match read_script(alloc, bytes) {
         Err(e) => Err(e),

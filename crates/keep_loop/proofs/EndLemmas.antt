@@ -27,7 +27,7 @@ use Rattle.keep_loop.specs.Bodies.{BodyOf, bodies_looked_at, bodies_to_end, is_s
 use Rattle.keep_loop.specs.Saving.{LeavesEach, StaysTold, IsBegun, Differs, AfterSave}
 use Rattle.keep_loop.specs.Ending.{EndsBySave, end_of, end_by_save}
 use Rattle.keep_loop.specs.Keeping.{Keeps, EndsAfter, TookAll, StopsInSave, BreaksOff, TookTurns, CountsSaves, FileStandsFor, StandsAfterSaves, StandsAtEnd}
-use Rattle.keep_loop.specs.Keeping.{AfterKeep, KeepsSoFar}
+use Rattle.keep_loop.specs.Keeping.{AfterKeep, AllButLast, KeepsSoFar}
 use Rattle.keep_loop.proofs.SaveLemmas.{last_of, over_then, standing_then, left_then, left_more, left_same, told_then, told_same}
 use Rattle.keep_loop.proofs.TurnLemmas.{state_played, keeps_last, keeps_to}
 use Rattle.keep_loop.proofs.KeepLemmas.{IsBodyOf, any_over, length_one, same_adds, other_adds, tick_keeps}
@@ -68,6 +68,49 @@ module _ {W C D : Type 0} (every : ℕ) (of_world : BodyOf W) (step : EventStep 
       (LeavesEach contents moment left_since old_disk new_disk first.standing)
       (CountsSaves end first.standing)
       (StandsAtEnd end contents may_leave old_disk new_disk first.standing)
+
+  -- what stands is the first of it and others
+  stands_first : (standing one : Option slots.Standing) (last : List (List ℕ)) → one ≡ standing → runs.IsOneOf standing last one
+  unfolding runs.IsOneOf
+  stands_first standing one [] is = is
+  stands_first standing one (body ∷ bodies) is = inl is
+
+  -- a save was begun behind others
+  begun_last : (old_disk mid_disk disk : D) (standing mid_standing : Option slots.Standing) (saves : List (List ℕ)) (body : List ℕ)
+      → ((d : D) (t : ℕ) (c : List ℕ) → t ≤ moment d → may_leave d c → left_since d t c)
+      → is_any_over standing saves ≡ false → mid_standing ≡ runs.standing_after_all standing saves → StaysTold contents old_disk mid_disk
+      → LeavesEach contents moment left_since mid_disk disk mid_standing (body ∷ [])
+      → AllButLast contents may_leave old_disk disk standing (saves ++ body ∷ [])
+  begun_last old_disk mid_disk disk standing mid_standing saves body counts within is told left = record {
+    before = saves;
+    last = body ∷ [];
+    are = refl;
+    one = omega arith;
+    within = within;
+    leaves = λ file here c leaves.
+        let now = told file here in
+        let behind = left now.0 now.1 in
+        subst (λ (s : Option slots.Standing). runs.IsOneOf s (body ∷ []) (slots.standing_of c)) is
+        (behind.each c (counts disk (moment mid_disk) c behind.later leaves));
+  }
+
+  -- nothing was done behind others
+  none_last : (old_disk mid_disk disk : D) (standing : Option slots.Standing) (store : StoreState) (saves last all : List (List ℕ))
+      → all ≡ saves ++ last → length last ≤ 1 → is_any_over standing saves ≡ false → store.standing ≡ runs.standing_after_all standing saves
+      → StaysTold contents old_disk mid_disk → IsReady contents may_leave mid_disk store → store.shut ≡ false → disk ≡ mid_disk
+      → AllButLast contents may_leave old_disk disk standing all
+  none_last old_disk mid_disk disk standing store saves last all are one within is told ready open_ same = record {
+    before = saves;
+    last = last;
+    are = are;
+    one = one;
+    within = within;
+    leaves = λ file here c leaves.
+        let now = told file here in
+        let is_so = ready now.0 now.1 open_ in
+        let stood = is_so.0 c (subst (λ (d : D). may_leave d c) same leaves) in
+        stands_first (runs.standing_after_all standing saves) (slots.standing_of c) last (ap slots.standing_of stood ∙ (is_so.1 ∙ is));
+  }
 
   -- in a save behind a tick
   at_tick : (old_serves new_serves : Standing W C → Type 0) (old new : WireState) (count limit : ℕ) (first : StoreState) (saves : List (List ℕ)) → count < limit
@@ -126,8 +169,9 @@ module _ {W C D : Type 0} (every : ℕ) (of_world : BodyOf W) (step : EventStep 
       → SoFar old_serves mid_serves old.history mid count left old_disk mid_disk first mid_store saved
       → TakesEvent step noted mid_serves new_serves mid new.history turn.Tick
       → (b : IsBegun (IsBodyOf of_world new_serves) contents moment left_since mid_disk disk mid_store) → is_over_limit mid_store.standing b.body ≡ false
+      → ((d : D) (t : ℕ) (c : List ℕ) → t ≤ moment d → may_leave d c → left_since d t c)
       → Ends keep.StoreFault old_serves new_serves old new limit old_disk disk first
-  fails_at_tick old_serves mid_serves new_serves old mid new count left limit old_disk mid_disk disk first mid_store saved fewer due so_far takes b within = record {
+  fails_at_tick old_serves mid_serves new_serves old mid new count left limit old_disk mid_disk disk first mid_store saved fewer due so_far takes b within counts = record {
     saves = so_far.saves ++ b.body ∷ [];
     took = at_tick old_serves new_serves old new count limit first (so_far.saves ++ b.body ∷ []) fewer
         (tick_keeps every of_world step noted contents may_leave moment left_since old_serves mid_serves new_serves old.history mid new.history count left
@@ -135,7 +179,7 @@ module _ {W C D : Type 0} (every : ℕ) (of_world : BodyOf W) (step : EventStep 
     left = left_then contents moment left_since old_disk mid_disk disk first.standing
         mid_store.standing so_far.saves (b.body ∷ []) so_far.left so_far.told so_far.standing b.left;
     counted = over_then so_far.saves b.body first.standing mid_store.standing false so_far.within so_far.standing within;
-    stands = tt;
+    stands = begun_last old_disk mid_disk disk first.standing mid_store.standing so_far.saves b.body counts so_far.within so_far.standing so_far.told b.left;
   }
 
   -- it was refused by its limit
@@ -144,15 +188,16 @@ module _ {W C D : Type 0} (every : ℕ) (of_world : BodyOf W) (step : EventStep 
       → SoFar old_serves mid_serves old.history mid count left old_disk mid_disk first mid_store saved
       → TakesEvent step noted mid_serves new_serves mid new.history turn.Tick
       → (d : Differs (IsBodyOf of_world new_serves) mid_store) → is_over_limit mid_store.standing d.body ≡ true → disk ≡ mid_disk
-      → Ends keep.StoreLimit old_serves new_serves old new limit old_disk disk first
-  limit_at_tick old_serves mid_serves new_serves old mid new count left limit old_disk mid_disk disk first mid_store saved fewer due so_far takes d over same = record {
+      → IsReady contents may_leave mid_disk mid_store → Ends keep.StoreLimit old_serves new_serves old new limit old_disk disk first
+  limit_at_tick old_serves mid_serves new_serves old mid new count left limit old_disk mid_disk disk first mid_store saved fewer due so_far takes d over same ready = record {
     saves = so_far.saves ++ d.body ∷ [];
     took = at_tick old_serves new_serves old new count limit first (so_far.saves ++ d.body ∷ []) fewer
         (tick_keeps every of_world step noted contents may_leave moment left_since old_serves mid_serves new_serves old.history mid new.history count left
         old_disk mid_disk first mid_store saved d.body due so_far takes d.is d.differs).keeps;
     left = left_more contents moment left_since old_disk mid_disk disk first.standing so_far.saves (d.body ∷ []) so_far.left same;
     counted = over_then so_far.saves d.body first.standing mid_store.standing true so_far.within so_far.standing over;
-    stands = tt;
+    stands = none_last old_disk mid_disk disk first.standing mid_store so_far.saves (d.body ∷ []) (so_far.saves ++ d.body ∷ []) refl (omega arith)
+        so_far.within so_far.standing so_far.told ready so_far.open_ same;
   }
 
   -- memory was wanting behind a tick: for the body, or in its save
@@ -161,16 +206,18 @@ module _ {W C D : Type 0} (every : ℕ) (of_world : BodyOf W) (step : EventStep 
       → SoFar old_serves mid_serves old.history mid count left old_disk mid_disk first mid_store saved
       → TakesEvent step noted mid_serves new_serves mid new.history turn.Tick
       → (disk ≡ mid_disk) ⊎ IsBegun (IsBodyOf of_world new_serves) contents moment left_since mid_disk disk mid_store
+      → IsReady contents may_leave mid_disk mid_store → ((d : D) (t : ℕ) (c : List ℕ) → t ≤ moment d → may_leave d c → left_since d t c)
       → Ends keep.Memory old_serves new_serves old new limit old_disk disk first
-  memory_at_tick old_serves mid_serves new_serves old mid new count left limit old_disk mid_disk disk first mid_store saved fewer due so_far takes (inl same) = record {
+  memory_at_tick old_serves mid_serves new_serves old mid new count left limit old_disk mid_disk disk first mid_store saved fewer due so_far takes (inl same) ready counts = record {
     saves = so_far.saves;
     took = inl (breaks_off old_serves mid_serves old mid new count limit first so_far.saves takes.leads.moves so_far.paced.keeps
         (inl takes.leads.logged) (let one = takes.leads.events in omega (arith, one, fewer)) (λ y over. (takes.leads.are y over).offers));
     left = left_same contents moment left_since old_disk mid_disk disk first.standing so_far.saves so_far.left same;
     counted = tt;
-    stands = tt;
+    stands = none_last old_disk mid_disk disk first.standing mid_store so_far.saves [] so_far.saves (sym (append-nil so_far.saves)) (omega arith)
+        so_far.within so_far.standing so_far.told ready so_far.open_ same;
   }
-  memory_at_tick old_serves mid_serves new_serves old mid new count left limit old_disk mid_disk disk first mid_store saved fewer due so_far takes (inr b) = record {
+  memory_at_tick old_serves mid_serves new_serves old mid new count left limit old_disk mid_disk disk first mid_store saved fewer due so_far takes (inr b) ready counts = record {
     saves = so_far.saves ++ b.body ∷ [];
     took = inr (at_tick old_serves new_serves old new count limit first (so_far.saves ++ b.body ∷ []) fewer
         (tick_keeps every of_world step noted contents may_leave moment left_since old_serves mid_serves new_serves old.history mid new.history count left
@@ -178,22 +225,23 @@ module _ {W C D : Type 0} (every : ℕ) (of_world : BodyOf W) (step : EventStep 
     left = left_then contents moment left_since old_disk mid_disk disk first.standing
         mid_store.standing so_far.saves (b.body ∷ []) so_far.left so_far.told so_far.standing b.left;
     counted = tt;
-    stands = tt;
+    stands = begun_last old_disk mid_disk disk first.standing mid_store.standing so_far.saves b.body counts so_far.within so_far.standing so_far.told b.left;
   }
 
   -- memory was wanting in a turn
   pub memory_in_turn : (old_serves mid_serves new_serves : Standing W C → Type 0) (old : WireState) (mid : WireHistory)
       (new : WireState) (count left limit : ℕ) (old_disk disk : D) (first now : StoreState) (saved : ℕ) → count < limit
       → SoFar old_serves mid_serves old.history mid count left old_disk disk first now saved → BreaksTurn step noted mid_serves mid new.history 1
-      → Ends keep.Memory old_serves new_serves old new limit old_disk disk first
-  memory_in_turn old_serves mid_serves new_serves old mid new count left limit old_disk disk first now saved fewer so_far breaks = record {
+      → IsReady contents may_leave disk now → Ends keep.Memory old_serves new_serves old new limit old_disk disk first
+  memory_in_turn old_serves mid_serves new_serves old mid new count left limit old_disk disk first now saved fewer so_far breaks ready = record {
     saves = so_far.saves;
     took = inl (breaks_off old_serves mid_serves old mid new count limit first so_far.saves breaks.breaks.moves so_far.paced.keeps
         (inl breaks.breaks.logged)
         (let events = breaks.breaks.events in let within = breaks.within in omega (arith, events, within, fewer)) breaks.breaks.are);
     left = so_far.left;
     counted = tt;
-    stands = tt;
+    stands = none_last old_disk disk disk first.standing now so_far.saves [] so_far.saves (sym (append-nil so_far.saves)) (omega arith)
+        so_far.within so_far.standing so_far.told ready so_far.open_ refl;
   }
 
   -- the turns of a run, the body at whose end was saved or stands
@@ -282,9 +330,10 @@ module _ {W C D : Type 0} (every : ℕ) (of_world : BodyOf W) (step : EventStep 
       → SoFar old_serves mid_serves old.history mid count left old_disk mid_disk first mid_store saved
       → CameOf ended old new limit count mid → Stays mid_serves new_serves
       → AfterSave by (IsBodyOf of_world new_serves) contents moment left_since mid_disk disk mid_store now → IsReady contents may_leave disk now
+      → IsReady contents may_leave mid_disk mid_store → ((d : D) (t : ℕ) (c : List ℕ) → t ≤ moment d → may_leave d c → left_since d t c)
       → Ends (end_by_save by ended saved) old_serves new_serves old new limit old_disk disk first
   ends_by save.Same ended old_serves mid_serves new_serves old mid new count left limit old_disk
-      mid_disk disk first mid_store now saved so_far came stays same ready =
+      mid_disk disk first mid_store now saved so_far came stays same ready mid_ready counts =
       let P : List (List ℕ) → Type 0 = λ l. Keeps step noted old_serves new_serves (bodies_to_end every of_world step) (body_of first) old.history mid count l in
       all_done ended saved so_far.saves old_serves new_serves old new limit old_disk disk first
       (took_all ended old_serves new_serves old mid new count limit first so_far.saves came (subst P (append-nil so_far.saves)
@@ -297,7 +346,7 @@ module _ {W C D : Type 0} (every : ℕ) (of_world : BodyOf W) (step : EventStep 
       (told_same contents moment left_since old_disk mid_disk disk so_far.told same.disk) ready
       (ap (λ (s : StoreState). s.shut) same.store ∙ so_far.open_) (ap (λ (s : StoreState). s.standing) same.store ∙ so_far.standing))
   ends_by save.Saved ended old_serves mid_serves new_serves old mid new count left limit old_disk
-      mid_disk disk first mid_store now saved so_far came stays s ready =
+      mid_disk disk first mid_store now saved so_far came stays s ready mid_ready counts =
       all_done ended (saved + 1) (so_far.saves ++ s.body ∷ []) old_serves new_serves old new limit old_disk disk first
       (took_all ended old_serves new_serves old mid new count limit first (so_far.saves ++ s.body ∷ []) came
       (last_keeps old_serves mid_serves new_serves old.history mid count left old_disk mid_disk first mid_store saved (s.body ∷ []) so_far stays
@@ -312,7 +361,7 @@ module _ {W C D : Type 0} (every : ℕ) (of_world : BodyOf W) (step : EventStep 
       (ap (λ (t : StoreState). t.shut) s.store)
       (ap (λ (t : StoreState). t.standing) s.store ∙ standing_then so_far.saves s.body first.standing mid_store.standing so_far.standing))
   ends_by save.Failed ended old_serves mid_serves new_serves old mid new count left limit old_disk
-      mid_disk disk first mid_store now saved so_far came stays failed ready =
+      mid_disk disk first mid_store now saved so_far came stays failed ready mid_ready counts =
       let b = failed.0 in
       record {
         saves = so_far.saves ++ b.body ∷ [];
@@ -321,10 +370,11 @@ module _ {W C D : Type 0} (every : ℕ) (of_world : BodyOf W) (step : EventStep 
         left = left_then contents moment left_since old_disk mid_disk disk first.standing
             mid_store.standing so_far.saves (b.body ∷ []) so_far.left so_far.told so_far.standing b.left;
         counted = over_then so_far.saves b.body first.standing mid_store.standing false so_far.within so_far.standing failed.1;
-        stands = tt;
+        stands = begun_last old_disk mid_disk disk first.standing mid_store.standing so_far.saves b.body counts so_far.within so_far.standing so_far.told
+            b.left;
       }
   ends_by save.Limit ended old_serves mid_serves new_serves old mid new count left limit old_disk
-      mid_disk disk first mid_store now saved so_far came stays refused ready =
+      mid_disk disk first mid_store now saved so_far came stays refused ready mid_ready counts =
       let d = refused.0 in
       record {
         saves = so_far.saves ++ d.body ∷ [];
@@ -332,25 +382,28 @@ module _ {W C D : Type 0} (every : ℕ) (of_world : BodyOf W) (step : EventStep 
             came stays d.is d.differs;
         left = left_more contents moment left_since old_disk mid_disk disk first.standing so_far.saves (d.body ∷ []) so_far.left refused.2;
         counted = over_then so_far.saves d.body first.standing mid_store.standing true so_far.within so_far.standing refused.1;
-        stands = tt;
+        stands = none_last old_disk mid_disk disk first.standing mid_store so_far.saves (d.body ∷ []) (so_far.saves ++ d.body ∷ []) refl (omega arith)
+            so_far.within so_far.standing so_far.told mid_ready so_far.open_ refused.2;
       }
   ends_by save.Memory ended old_serves mid_serves new_serves old mid new count left limit old_disk
-      mid_disk disk first mid_store now saved so_far came stays (inl same) ready = record {
+      mid_disk disk first mid_store now saved so_far came stays (inl same) ready mid_ready counts = record {
         saves = so_far.saves;
         took = inl (breaks_here ended old_serves mid_serves old mid new count limit first so_far.saves so_far.paced.keeps came);
         left = left_same contents moment left_since old_disk mid_disk disk first.standing so_far.saves so_far.left same;
         counted = tt;
-        stands = tt;
+        stands = none_last old_disk mid_disk disk first.standing mid_store so_far.saves [] so_far.saves (sym (append-nil so_far.saves)) (omega arith)
+            so_far.within so_far.standing so_far.told mid_ready so_far.open_ same;
       }
   ends_by save.Memory ended old_serves mid_serves new_serves old mid new count left limit old_disk
-      mid_disk disk first mid_store now saved so_far came stays (inr b) ready = record {
+      mid_disk disk first mid_store now saved so_far came stays (inr b) ready mid_ready counts = record {
         saves = so_far.saves ++ b.body ∷ [];
         took = inr (last_took ended old_serves mid_serves new_serves old mid new count left limit old_disk mid_disk first mid_store saved b.body so_far
             came stays b.is b.differs);
         left = left_then contents moment left_since old_disk mid_disk disk first.standing
             mid_store.standing so_far.saves (b.body ∷ []) so_far.left so_far.told so_far.standing b.left;
         counted = tt;
-        stands = tt;
+        stands = begun_last old_disk mid_disk disk first.standing mid_store.standing so_far.saves b.body counts so_far.within so_far.standing so_far.told
+            b.left;
       }
 
   -- the same, whatever that save was
@@ -359,9 +412,10 @@ module _ {W C D : Type 0} (every : ℕ) (of_world : BodyOf W) (step : EventStep 
       → SoFar old_serves mid_serves old.history mid count left old_disk mid_disk first mid_store saved
       → CameOf ended old new limit count mid → Stays mid_serves new_serves
       → EndsBySave end ended saved (IsBodyOf of_world new_serves) contents moment left_since mid_disk disk mid_store now → IsReady contents may_leave disk now
+      → IsReady contents may_leave mid_disk mid_store → ((d : D) (t : ℕ) (c : List ℕ) → t ≤ moment d → may_leave d c → left_since d t c)
       → Ends end old_serves new_serves old new limit old_disk disk first
-  ends_here end ended old_serves mid_serves new_serves old mid new count left limit old_disk mid_disk disk first mid_store now saved so_far came stays ends ready =
+  ends_here end ended old_serves mid_serves new_serves old mid new count left limit old_disk mid_disk disk first mid_store now saved so_far came stays ends ready mid_ready counts =
       let P : KeepEnd → Type 0 = λ e. Ends e old_serves new_serves old new limit old_disk disk first in
       subst P (sym ends.is)
       (ends_by ends.by ended old_serves mid_serves new_serves old mid new count left limit old_disk
-      mid_disk disk first mid_store now saved so_far came stays ends.saves ready)
+      mid_disk disk first mid_store now saved so_far came stays ends.saves ready mid_ready counts)

@@ -118,13 +118,29 @@ abbrev pub StandsAfterSaves : {D : Type 0} → (D → Option (List ℕ)) → (D 
 StandsAfterSaves contents may_leave old new standing saves = (file : List ℕ) → contents old ≡ Some file
     → FileStandsFor contents may_leave new (runs.standing_after_all standing saves)
 
--- once the save at the end of a run is done, or was not needed, the file stands for the last of its saves
+-- all of these saves were done before anything more was taken of the wire, but, it may be, the last one: whichever file a stop
+-- leaves now stands for what stands after the others, or for the last one
+pub record AllButLast {D : Type 0} (contents : D → Option (List ℕ)) (may_leave : D → List ℕ → Type 0) (old new : D)
+    (standing : Option slots.Standing) (saves : List (List ℕ)) : Type 0 where
+  pub before : List (List ℕ)
+  pub last : List (List ℕ)
+  pub are : saves ≡ before ++ last
+  pub one : length last ≤ 1
+  pub within : is_any_over standing before ≡ false
+  -- where the disk told its file
+  pub leaves : (file : List ℕ) → contents old ≡ Some file → (c : List ℕ) → may_leave new c
+      → runs.IsOneOf (runs.standing_after_all standing before) last (slots.standing_of c)
+
+-- once the save at the end of a run is done, or was not needed, the file stands for the last of its saves; a run that ended
+-- otherwise had done all but the last
 abbrev pub StandsAtEnd : {D : Type 0} → KeepEnd → (D → Option (List ℕ)) → (D → List ℕ → Type 0) → D → D
     → Option slots.Standing → List (List ℕ) → Type 0
 StandsAtEnd (keep.Done n) contents may_leave old new standing saves = StandsAfterSaves contents may_leave old new standing saves
 StandsAtEnd (keep.LinkFault n) contents may_leave old new standing saves = StandsAfterSaves contents may_leave old new standing saves
 StandsAtEnd (keep.Budget n) contents may_leave old new standing saves = StandsAfterSaves contents may_leave old new standing saves
-StandsAtEnd end contents may_leave old new standing saves = Unit {0}
+StandsAtEnd keep.StoreFault contents may_leave old new standing saves = AllButLast contents may_leave old new standing saves
+StandsAtEnd keep.StoreLimit contents may_leave old new standing saves = AllButLast contents may_leave old new standing saves
+StandsAtEnd keep.Memory contents may_leave old new standing saves = AllButLast contents may_leave old new standing saves
 
 -- the saves of a run: which turns they belong to, what a stop leaves, how many they are, and what the file stands for
 pub record AfterKeep (Took Left Counted Stands : List (List ℕ) → Type 0) : Type 0 where

@@ -47,6 +47,7 @@ pub fn keep_turns<T: Threads + Sync, W: Wire, M: Persistent, D: Disk>(
     ensures kept { W.kept wire.new ≡ W.kept wire.old }
     // Why it ended.
     ensures store_fault { result ≡ KeepEnd.StoreFault → Rose (D.fault_count disk.old) (D.fault_count disk.new) }
+    ensures names { D.names disk.new ≡ D.names disk.old }
     ensures later { D.fault_count disk.old ≤ D.fault_count disk.new }
     ensures wire_later { (W.state wire.old).faults ≤ (W.state wire.new).faults }
     ensures wanted { (W.state wire.old).wants ≤ (W.state wire.new).wants }
@@ -96,6 +97,7 @@ fn save_last<M: Persistent, D: Disk>(
         D.contents D.moment D.left_since disk.old disk.new store.old store.new }
     ensures ready { IsReady D.contents D.may_leave disk.new store.new }
     ensures untold { D.contents disk.old ≡ None → D.contents disk.new ≡ None }
+    ensures names { D.names disk.new ≡ D.names disk.old }
     ensures later { D.fault_count disk.old ≤ D.fault_count disk.new }
     ensures failed { result ≡ KeepEnd.StoreFault → Rose (D.fault_count disk.old) (D.fault_count disk.new) }
 {

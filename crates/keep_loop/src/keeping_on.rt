@@ -3,6 +3,7 @@
 ghost use Rattle.std.specs.Prelude.{◌≡◌, ◌≤◌, ◌<◌, ◌+◌, ◌-◌, ◌^◌, ◌⊎◌, false, None, Some};
 ghost use Rattle.ads_outside.specs.Rose.{Rose};
 ghost use Rattle.ads_served.specs.Standing.{Standing};
+ghost use Rattle.persist_store.specs.Disk.{OpensOnly};
 ghost use Rattle.persist_store.specs.Store.{IsReady};
 ghost use Rattle.serve_loop.specs.TurnTaken.{StandsOver};
 ghost use Rattle.serve_loop.specs.Wanting.{WasWanting};
@@ -49,6 +50,7 @@ pub fn keep_on<T: Threads + Sync, W: Wire, M: Persistent, D: Disk, N: SaveNotes>
     // Why it failed or ended.
     ensures failed { 0 < result.counts.failed → Rose (D.fault_count disk.old) (D.fault_count disk.new) }
     ensures last_failed { result.last ≡ Some save.Failed → 0 < result.counts.failed }
+    ensures named { OpensOnly (D.names disk.old) (D.names disk.new) name.now }
     ensures later { D.fault_count disk.old ≤ D.fault_count disk.new }
     ensures wire_later { (W.state wire.old).faults ≤ (W.state wire.new).faults }
     ensures wanted { (W.state wire.old).wants ≤ (W.state wire.new).wants }
@@ -109,6 +111,7 @@ fn look_last<M: Persistent, D: Disk, N: SaveNotes>(
         → AfterLook by (M.body_of x.running.state.world) D.contents D.may_leave D.moment D.left_since disk.old disk.new store.old store.new) }
     ensures ready { IsReady D.contents D.may_leave disk.new store.new }
     ensures untold { D.contents disk.old ≡ None → D.contents disk.new ≡ None }
+    ensures named { OpensOnly (D.names disk.old) (D.names disk.new) name.now }
     ensures later { D.fault_count disk.old ≤ D.fault_count disk.new }
     ensures failed { 0 < result.counts.failed → (0 < counts.failed) ⊎ Rose (D.fault_count disk.old) (D.fault_count disk.new) }
     ensures last_failed { result.last ≡ Some save.Failed → 0 < result.counts.failed }

@@ -4,6 +4,7 @@ ghost use Rattle.std.specs.Prelude.{◌≡◌, ◌≤◌, false, None};
 ghost use Rattle.ads_outside.specs.Rose.{Rose};
 ghost use Rattle.ads_served.specs.Standing.{Standing};
 ghost use Rattle.spec_store.specs.Disk.{LeavesOnly};
+ghost use Rattle.persist_store.specs.Disk.{OpensOnly};
 ghost use Rattle.persist_store.specs.Store.{IsReady};
 ghost use Rattle.keep_loop.specs.Looking.{AfterLook, Reopens};
 ghost use Rattle.keep_loop.specs.Saving.{StandsForSome};
@@ -31,6 +32,7 @@ pub(crate) fn look<M: Persistent, D: Disk, N: SaveNotes>(
         D.contents D.may_leave D.moment D.left_since disk.old disk.new store.old store.new }
     ensures ready { IsReady D.contents D.may_leave disk.new store.new }
     ensures untold { D.contents disk.old ≡ None → D.contents disk.new ≡ None }
+    ensures named { OpensOnly (D.names disk.old) (D.names disk.new) name.now }
     ensures later { D.fault_count disk.old ≤ D.fault_count disk.new }
     ensures failed { result ≡ SaveEnd.Failed → Rose (D.fault_count disk.old) (D.fault_count disk.new) }
 {
@@ -53,6 +55,7 @@ fn look_again<M: Persistent, D: Disk>(
         D.contents D.may_leave D.moment D.left_since disk.old disk.new store.old store.new }
     ensures ready { IsReady D.contents D.may_leave disk.new store.new }
     ensures untold { D.contents disk.old ≡ None → D.contents disk.new ≡ None }
+    ensures named { OpensOnly (D.names disk.old) (D.names disk.new) name.now }
     ensures later { D.fault_count disk.old ≤ D.fault_count disk.new }
     ensures failed { result ≡ SaveEnd.Failed → Rose (D.fault_count disk.old) (D.fault_count disk.new) }
 {
@@ -64,10 +67,12 @@ fn look_again<M: Persistent, D: Disk>(
 }
 
 // A store that an earlier save shut is opened again: what the file stands for stands.
+#[tactic(auto, using(persist_store::proofs::NameLemmas::only_none, persist_store::proofs::NameLemmas::all_only, persist_store::proofs::NameLemmas::some_only))]
 fn open_again<D: Disk>(alloc: Global, store: &mut Store, disk: &mut D, name: &str) -> Reopened
     requires ready { IsReady D.contents D.may_leave disk.old store.old }
     ensures opens { Reopens D.contents D.may_leave D.moment D.left_since disk.old disk.new store.old store.new }
     ensures open { result ≡ Reopened.Open → store.new.shut ≡ false }
+    ensures named { OpensOnly (D.names disk.old) (D.names disk.new) name.now }
     ensures later { D.fault_count disk.old ≤ D.fault_count disk.new }
     ensures failed { result ≡ Reopened.Failed → Rose (D.fault_count disk.old) (D.fault_count disk.new) }
 {

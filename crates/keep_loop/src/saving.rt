@@ -29,6 +29,7 @@ pub(crate) fn save_body<M: Persistent, D: Disk>(
     ensures ready { IsReady D.contents D.may_leave disk.new store.new }
     ensures untold { D.contents disk.old ≡ None → D.contents disk.new ≡ None }
     ensures told { D.contents disk.new ≡ None → D.contents disk.old ≡ None }
+    ensures names { D.names disk.new ≡ D.names disk.old }
     ensures later { D.fault_count disk.old ≤ D.fault_count disk.new }
     ensures failed { result ≡ SaveEnd.Failed → Rose (D.fault_count disk.old) (D.fault_count disk.new) }
 {
@@ -65,6 +66,7 @@ fn save_made<M: Persistent, D: Disk>(
     ensures ready { IsReady D.contents D.may_leave disk.new store.new }
     ensures untold { D.contents disk.old ≡ None → D.contents disk.new ≡ None }
     ensures told { D.contents disk.new ≡ None → D.contents disk.old ≡ None }
+    ensures names { D.names disk.new ≡ D.names disk.old }
     ensures later { D.fault_count disk.old ≤ D.fault_count disk.new }
     ensures failed { result ≡ SaveEnd.Failed → Rose (D.fault_count disk.old) (D.fault_count disk.new) }
 {
@@ -84,6 +86,7 @@ fn save_new<D: Disk>(alloc: Global, store: &mut Store, disk: &mut D, body: &[u8]
     ensures ready { IsReady D.contents D.may_leave disk.new store.new }
     ensures untold { D.contents disk.old ≡ None → D.contents disk.new ≡ None }
     ensures told { D.contents disk.new ≡ None → D.contents disk.old ≡ None }
+    ensures names { D.names disk.new ≡ D.names disk.old }
     ensures later { D.fault_count disk.old ≤ D.fault_count disk.new }
     ensures failed { result ≡ SaveEnd.Failed → Rose (D.fault_count disk.old) (D.fault_count disk.new) }
 {

@@ -5,6 +5,7 @@ ghost use Rattle.signals.specs.Wave.{Wave};
 ghost use Rattle.spec_plant.specs.Accepted.{IsAccepted};
 ghost use Rattle.spec_plant.specs.Description as described;
 ghost use Rattle.type_layout.specs.Descriptions.{description_of};
+ghost use Rattle.persist_store.specs.Disk.{OpensOnce};
 ghost use Rattle.persist_store.specs.Store.{IsReady, body_of};
 ghost use Rattle.replay_script.specs.Fresh.{OpenNew};
 ghost use Rattle.server_core.specs.Serves.{StandsAt};
@@ -49,6 +50,7 @@ pub fn keep_play<T: Threads + Sync, D: Disk, G: Sources>(
         (EndsKept (description_of description) (G.waves signals) script
         (disk_used D.contents D.may_leave D.moment D.left_since D.fault_count disk.old disk.new) result) }
     ensures untold { D.contents disk.old ≡ None → D.contents disk.new ≡ None }
+    ensures named { OpensOnce result (D.names disk.old) (D.names disk.new) store.now }
     ensures later { D.fault_count disk.old ≤ D.fault_count disk.new }
 {
     match Store::open(alloc, disk, store) {
@@ -82,6 +84,7 @@ fn play_opened<T: Threads + Sync, D: Disk, G: Sources>(
     ensures left { LeavesEach D.contents D.moment D.left_since disk.old disk.new store.old.standing
         (saves_of_play (description_of description) (G.waves signals) script store.old.standing) }
     ensures untold { D.contents disk.old ≡ None → D.contents disk.new ≡ None }
+    ensures names { D.names disk.new ≡ D.names disk.old }
     ensures later { D.fault_count disk.old ≤ D.fault_count disk.new }
 {
     let stored = match with_stored(alloc, description, store.body()) {
@@ -117,6 +120,7 @@ fn play_core<T: Threads + Sync, D: Disk, G: Sources>(
         → LeavesEach D.contents D.moment D.left_since disk.old disk.new store.old.standing
         (saves_over d waves script (body_of store.old)) }
     ensures untold { D.contents disk.old ≡ None → D.contents disk.new ≡ None }
+    ensures names { D.names disk.new ≡ D.names disk.old }
     ensures later { D.fault_count disk.old ≤ D.fault_count disk.new }
 {
     match keep_script(rt, alloc, kept, script, store, disk) {

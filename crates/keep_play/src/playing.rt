@@ -39,6 +39,7 @@ pub(crate) fn keep_script<T: Threads + Sync, M: Persistent, D: Disk>(
         → LeavesEach D.contents D.moment D.left_since disk.old disk.new store.old.standing
         (saves_of_script M.body_of M.steps x.running.state script (body_of store.old)) }
     ensures untold { D.contents disk.old ≡ None → D.contents disk.new ≡ None }
+    ensures names { D.names disk.new ≡ D.names disk.old }
     ensures later { D.fault_count disk.old ≤ D.fault_count disk.new }
     ensures store_fault { IfOk result (λ played. played ≡ Played.StoreFault
         → Rose (D.fault_count disk.old) (D.fault_count disk.new)) }

@@ -5,3 +5,4 @@ pub mod MadeRead
 pub mod RequestLines
 pub mod LoadLemmas
 pub mod TableLemmas
+pub mod LoadExamples

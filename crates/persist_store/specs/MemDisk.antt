@@ -1,4 +1,4 @@
--- A disk in memory: its file, the writes that were made, and the calls that fail.
+-- A disk in memory: its file, the names that were opened, the writes that were made, and the calls that fail.
 use Rattle.std.specs.Prelude.{◌≡◌, ◌⊎◌, ℕ, ◌+◌, List, [], ◌∷◌, ◌++◌, length, take, Bool, false, ◌||◌, ◌==◌}
 use Rattle.std.specs.Prelude.{nat_lt, nat_le, if◌then◌else◌, Option, Some, None, unwrap_or}
 use Rattle.std.specs.Option.{option_map_or}
@@ -13,6 +13,8 @@ use Rattle.persist_store.specs.declared.stop.Stop.{Stop}
 pub record HeldFile : Type 0 where
   -- what a read gives
   pub file : List ℕ
+  -- the names that were opened, in order
+  pub names : List (List ℕ)
   -- the writes that were made, each with the number of syncs before it
   pub writes : List PastWrite
   -- the number of syncs that were done
@@ -65,6 +67,10 @@ put_next m bytes =
 -- the disk after a call that fails or does not, and writes nothing
 abbrev pub after_call : Bool → HeldFile → HeldFile
 after_call fails m = record m { failing = if fails then faulted m.failing else called m.failing }
+
+-- the disk after a name that is opened
+abbrev pub after_name : HeldFile → List ℕ → HeldFile
+after_name m name = record m { names = m.names ++ name ∷ [] }
 
 -- the disk after a write at a place that left this file
 abbrev pub after_put : HeldFile → ℕ → ℕ → List ℕ → HeldFile

@@ -1,5 +1,6 @@
 -- The steps of a save over a disk that tells its file. No public clause cites this but `IsAt` and `HasCause`.
-use Rattle.std.specs.Prelude.{◌≡◌, ◌≤◌, ℕ, List, length, true, Result, Option, Some, IsErrOf}
+use Rattle.std.specs.Prelude.{◌≡◌, ◌≤◌, ℕ, List, [], ◌∷◌, length, true, Result, Ok, Err, Option, Some, IsErrOf}
+use Rattle.ads_outside.specs.FilesState.{ReadsAll, ReadsSome}
 use Rattle.ads_outside.specs.Rose.{Rose}
 use Rattle.spec_store.specs.Disk.{Only, LeavesOnly}
 use Rattle.spec_store.specs.Slots.{Slot, behind_gate, Standing, standing_of}
@@ -29,6 +30,12 @@ pub record Passes {D : Type 0} (contents : D → Option (List ℕ)) (may_leave :
 pub record HasCause {T : Type 0} (before now : ℕ) (result : Result T StepFault) : Type 0 where
   pub later : before ≤ now
   pub failed : IsErrOf result fault.Failed → Rose before now
+
+-- a step opened a name; where memory was wanting it may not have
+abbrev pub OpensFile : {T : Type 0} → Result T StepFault → Option (List (List ℕ)) → Option (List (List ℕ)) → List ℕ → Type 0
+OpensFile (Ok answer) old new name = ReadsAll old new (name ∷ [])
+OpensFile (Err fault.Failed) old new name = ReadsAll old new (name ∷ [])
+OpensFile (Err fault.Memory) old new name = ReadsSome old new (name ∷ [])
 
 -- the file stands for what it stood for, and the gate at a place is closed
 pub record IsShut {D : Type 0} (contents : D → Option (List ℕ)) (may_leave : D → List ℕ → Type 0) (disk : D) (file : List ℕ) (place : ℕ) : Type 0 where

@@ -4,11 +4,11 @@ ghost use Rattle.std.specs.Prelude.{◌≡◌, ◌≤◌, Option, Some, List, �
 
 use crate::{DiskOpen, DiskRead, Synced, Wrote};
 
-/// A file on a disk. It may tell what it holds; a real disk does not.
+/// A file on a disk. It may tell what it holds and which names were opened; a real disk does not.
 pub trait Disk {
     ghost use Rattle.spec_store.specs.Disk.{written, Torn, Follows, IsSynced, WhereTold, Elapses};
     ghost use Rattle.ads_outside.specs.Rose.{Rose};
-    ghost use Rattle.persist_store.specs.Disk.{Opens, Reads};
+    ghost use Rattle.persist_store.specs.Disk.{Opens, OpensName, Reads};
 
     /// The file that a read gives, where it is told.
     ghost contents: { Self → Option (List ℕ) };
@@ -22,6 +22,9 @@ pub trait Disk {
     /// Whether a stop at some moment from that one on may have left a file.
     ghost left_since: { Self → ℕ → List ℕ → Type 0 };
 
+    /// The names that were opened, in order, where they are told.
+    ghost names: { Self → Option (List (List ℕ)) };
+
     /// How many calls failed.
     ghost fault_count: { Self → ℕ };
 
@@ -32,6 +35,7 @@ pub trait Disk {
     /// Opens the file of a name; a missing one is made empty.
     fn open(&mut self, name: &str) -> DiskOpen
         ensures length { Opens result (contents self.old) }
+        ensures named { OpensName result (names self.old) (names self.new) name.now }
         ensures contents { contents self.new ≡ contents self.old }
         ensures stop { (c : List ℕ) → may_leave self.new c → may_leave self.old c }
         ensures time { Elapses (moment self.old) (moment self.new) (left_since self.old) (left_since self.new) (may_leave self.new) }
@@ -45,6 +49,7 @@ pub trait Disk {
         ensures contents { contents self.new ≡ contents self.old }
         ensures stop { (c : List ℕ) → may_leave self.new c → may_leave self.old c }
         ensures time { Elapses (moment self.old) (moment self.new) (left_since self.old) (left_since self.new) (may_leave self.new) }
+        ensures names { names self.new ≡ names self.old }
         ensures later { fault_count self.old ≤ fault_count self.new }
         ensures failed { result ≡ DiskRead.Failed → Rose (fault_count self.old) (fault_count self.new) };
 
@@ -54,6 +59,7 @@ pub trait Disk {
         ensures touched { WhereTold (Torn at (length bytes.now)) (contents self.old) (contents self.new) }
         ensures stop { Follows (Torn at (length bytes.now)) (may_leave self.old) (may_leave self.new) }
         ensures time { Elapses (moment self.old) (moment self.new) (left_since self.old) (left_since self.new) (may_leave self.new) }
+        ensures names { names self.new ≡ names self.old }
         ensures later { fault_count self.old ≤ fault_count self.new }
         ensures failed { result ≡ Wrote.Failed → Rose (fault_count self.old) (fault_count self.new) };
 
@@ -63,6 +69,7 @@ pub trait Disk {
         ensures contents { contents self.new ≡ contents self.old }
         ensures stop { (c : List ℕ) → may_leave self.new c → may_leave self.old c }
         ensures time { Elapses (moment self.old) (moment self.new) (left_since self.old) (left_since self.new) (may_leave self.new) }
+        ensures names { names self.new ≡ names self.old }
         ensures later { fault_count self.old ≤ fault_count self.new }
         ensures failed { result ≡ Synced.Failed → Rose (fault_count self.old) (fault_count self.new) };
 

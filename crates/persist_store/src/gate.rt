@@ -14,6 +14,7 @@ pub fn is_gate_closed<D: Disk>(disk: &mut D, place: u64) -> Result<bool, StepFau
         → closed ≡ has_closed_gate place file) }
     ensures stays { Stays D.contents D.may_leave disk.old disk.new }
     ensures time { Elapses (D.moment disk.old) (D.moment disk.new) (D.left_since disk.old) (D.left_since disk.new) (D.may_leave disk.new) }
+    ensures names { D.names disk.new ≡ D.names disk.old }
     ensures cause { HasCause (D.fault_count disk.old) (D.fault_count disk.new) result }
 {
     let mut gate = [0u8; 1];

@@ -7,7 +7,7 @@ ghost use Rattle.ads_outside.specs.Rose.{Rose};
 ghost use Rattle.ads_outside.specs.FailingCalls.{none_made};
 ghost use Rattle.spec_store.specs.Disk.{written, Torn};
 ghost use Rattle.persist_store.specs.Disk.{bytes_at};
-ghost use Rattle.persist_store.specs.MemDisk.{stops_next, has_stopped, is_to_fail, are_made_by, some_of, put_next, after_call, after_put, after_sync};
+ghost use Rattle.persist_store.specs.MemDisk.{stops_next, has_stopped, is_to_fail, are_made_by, some_of, put_next, after_call, after_name, after_put, after_sync};
 
 use crate::past_write::{PastWrite, PastWrites};
 use crate::written::written_copy;
@@ -22,6 +22,7 @@ use std::marker::Model;
 pub struct MemDisk {
     alloc: Global,
     file: Octets,
+    names: ListOf<Octets>,
     writes: PastWrites,
     period: u64,
     failing: Failing,
@@ -34,7 +35,7 @@ impl Model for MemDisk {
 
     ghost Value = { HeldFile };
 
-    ghost view = { λ m. record { file = m.file; writes = m.writes; period = m.period; failing = m.failing; stop = m.stop } };
+    ghost view = { λ m. record { file = m.file; names = m.names; writes = m.writes; period = m.period; failing = m.failing; stop = m.stop } };
 
     ghost invariant = { λ m. IsTrue (are_made_by m.period m.writes) };
 }
@@ -43,11 +44,12 @@ impl MemDisk {
     /// A file of which nothing is pending. The calls with these numbers, counted from 1 over all calls, fail and change
     /// nothing; in the call of the stop and in every later one the machine has stopped.
     pub fn new(alloc: Global, file: Octets, fails: Calls, stop: Option<Stop>) -> MemDisk
-        ensures { result ≡ record { file = file; writes = []; period = 0; failing = none_made fails; stop = stop } }
+        ensures { result ≡ record { file = file; names = []; writes = []; period = 0; failing = none_made fails; stop = stop } }
     {
         MemDisk {
             alloc,
             file,
+            names: ListOf::new(alloc),
             writes: ListOf::new(alloc),
             period: 0,
             failing: Failing::new(fails),
@@ -61,6 +63,23 @@ impl MemDisk {
     {
         let MemDisk { file, .. } = self;
         file
+    }
+
+    /// The names that were opened, in order.
+    pub fn names(&self) -> &[Octets]
+        ensures { result.now ≡ self.now.names }
+    {
+        self.names.as_slice()
+    }
+
+    // A name that is opened.
+    fn note(&mut self, name: &str) -> Result<(), NoMemory>
+        ensures ok { OnOk result (self.new ≡ after_name self.old name.now) }
+        ensures no_memory { OnErr result (self.new ≡ self.old) }
+    {
+        let name = Octets::copy_of(self.alloc, name.as_bytes())?;
+        self.names.push(self.alloc, name)?;
+        Ok(())
     }
 
     // Whether the machine stops in the next call.
@@ -237,6 +256,8 @@ impl Disk for MemDisk {
 
     ghost left_since = { leaves_since };
 
+    ghost names = { λ m. Some m.names };
+
     ghost fault_count = { λ m. m.failing.faults };
 
     ghost leaves_contents = { λ m file told. leaves_told m file told };
@@ -250,8 +271,12 @@ impl Disk for MemDisk {
     }
 
     #[tactic(auto, using(crate::proofs::PastLemmas::quiet, crate::proofs::PastLemmas::same_now))]
-    fn open(&mut self, _name: &str) -> DiskOpen {
-        if self.call(false) {
+    fn open(&mut self, name: &str) -> DiskOpen {
+        let failed = self.call(false);
+        if self.note(name).is_err() {
+            return DiskOpen::Memory;
+        }
+        if failed {
             return DiskOpen::Failed;
         }
         DiskOpen::Ready(self.file.len() as u64)

@@ -4,7 +4,7 @@ ghost use Rattle.std.specs.Prelude.{◌≡◌, ◌≤◌, List, ℕ, false, true
 ghost use Rattle.spec_store.specs.Slots.{Slot, Standing, slot_of, standing_of, standing_of_slots};
 ghost use Rattle.spec_store.specs.Saves.{place_of};
 ghost use Rattle.persist_store.specs.Slots.{MAX_SLOT, standing_kept, placed};
-ghost use Rattle.persist_store.specs.Steps.{IsAt, HasCause, Passes};
+ghost use Rattle.persist_store.specs.Steps.{IsAt, HasCause, OpensFile, Passes};
 
 use crate::slot_text::{MAX_SLOT, SECOND_SLOT, read_slot};
 use crate::standing_slot::StandingSlot;
@@ -14,6 +14,7 @@ use ads_base::{NoMemory, Octets};
 use std::alloc::Global;
 
 /// Opens a file, brings it to the disk, and reads what it stands for.
+#[tactic(auto, using(crate::proofs::NameLemmas::file_behind))]
 pub fn open_standing<D: Disk>(
     alloc: Global,
     disk: &mut D,
@@ -22,6 +23,7 @@ pub fn open_standing<D: Disk>(
     ensures told { IfOk result (λ standing. (file : List ℕ) → D.contents disk.old ≡ Some file
         → IsAt D.contents D.may_leave disk.new file × (option_map standing_kept standing ≡ standing_of file)) }
     ensures passes { Passes D.contents D.may_leave D.moment D.left_since disk.old disk.new }
+    ensures named { OpensFile result (D.names disk.old) (D.names disk.new) name.now }
     ensures cause { HasCause (D.fault_count disk.old) (D.fault_count disk.new) result }
 {
     open_file(disk, name)?;
@@ -35,6 +37,7 @@ fn open_file<D: Disk>(disk: &mut D, name: &str) -> Result<(), StepFault>
     ensures synced { OnOk result ((file : List ℕ) → D.contents disk.old ≡ Some file
         → IsAt D.contents D.may_leave disk.new file) }
     ensures passes { Passes D.contents D.may_leave D.moment D.left_since disk.old disk.new }
+    ensures named { OpensFile result (D.names disk.old) (D.names disk.new) name.now }
     ensures cause { HasCause (D.fault_count disk.old) (D.fault_count disk.new) result }
 {
     match disk.open(name) {
@@ -57,6 +60,7 @@ fn slot_at<D: Disk>(
     ensures told { IfOk result (λ slot. (file : List ℕ) → D.contents disk.old ≡ Some file
         → option_map standing_kept slot ≡ option_map (placed is_second) (slot_of (drop (place_of is_second) file))) }
     ensures passes { Passes D.contents D.may_leave D.moment D.left_since disk.old disk.new }
+    ensures names { D.names disk.new ≡ D.names disk.old }
     ensures cause { HasCause (D.fault_count disk.old) (D.fault_count disk.new) result }
 {
     let mut room = match zeros(alloc, MAX_SLOT) {
@@ -85,6 +89,7 @@ fn read_into<D: Disk>(disk: &mut D, place: u64, room: &mut [u8]) -> Result<usize
         → slot_of (take n room.new) ≡ slot_of (drop place file)) }
     ensures within { IfOk result (λ n. n ≤ length room.new) }
     ensures passes { Passes D.contents D.may_leave D.moment D.left_since disk.old disk.new }
+    ensures names { D.names disk.new ≡ D.names disk.old }
     ensures cause { HasCause (D.fault_count disk.old) (D.fault_count disk.new) result }
 {
     match disk.read(place, room) {

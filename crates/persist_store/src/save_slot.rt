@@ -37,6 +37,7 @@ pub fn save_slot<D: Disk>(
         → LeavesOnly D.moment D.left_since disk.old disk.new (IsBeforeOrAfter file body.now) }
     ensures untold { D.contents disk.old ≡ None → D.contents disk.new ≡ None }
     ensures told { D.contents disk.new ≡ None → D.contents disk.old ≡ None }
+    ensures names { D.names disk.new ≡ D.names disk.old }
     ensures cause { HasCause (D.fault_count disk.old) (D.fault_count disk.new) result }
 {
     let slot = match next_slot(alloc, standing, body) {

@@ -22,6 +22,7 @@ pub fn write_slot<D: Disk>(disk: &mut D, place: u64, behind: &[u8]) -> Result<()
         → LeavesOnly D.moment D.left_since disk.old disk.new (IsBeforeOrAfter file body) }
     ensures untold { D.contents disk.old ≡ None → D.contents disk.new ≡ None }
     ensures told { D.contents disk.new ≡ None → D.contents disk.old ≡ None }
+    ensures names { D.names disk.new ≡ D.names disk.old }
     ensures cause { HasCause (D.fault_count disk.old) (D.fault_count disk.new) result }
 {
     close_gate(disk, place)?;
@@ -38,6 +39,7 @@ fn close_gate<D: Disk>(disk: &mut D, place: u64) -> Result<(), StepFault>
         → LeavesOnly D.moment D.left_since disk.old disk.new (λ c. standing_of c ≡ standing_of file) }
     ensures untold { D.contents disk.old ≡ None → D.contents disk.new ≡ None }
     ensures told { D.contents disk.new ≡ None → D.contents disk.old ≡ None }
+    ensures names { D.names disk.new ≡ D.names disk.old }
     ensures cause { HasCause (D.fault_count disk.old) (D.fault_count disk.new) result }
 {
     if is_gate_closed(disk, place)? {
@@ -59,6 +61,7 @@ fn fill_slot<D: Disk>(disk: &mut D, place: u64, behind: &[u8]) -> Result<(), Ste
         → LeavesOnly D.moment D.left_since disk.old disk.new (λ c. standing_of c ≡ standing_of file) }
     ensures untold { D.contents disk.old ≡ None → D.contents disk.new ≡ None }
     ensures told { D.contents disk.new ≡ None → D.contents disk.old ≡ None }
+    ensures names { D.names disk.new ≡ D.names disk.old }
     ensures cause { HasCause (D.fault_count disk.old) (D.fault_count disk.new) result }
 {
     write_and_sync(disk, place + 1, behind)
@@ -74,6 +77,7 @@ fn open_gate<D: Disk>(disk: &mut D, place: u64) -> Result<(), StepFault>
         → LeavesOnly D.moment D.left_since disk.old disk.new (IsBeforeOrAfter file body) }
     ensures untold { D.contents disk.old ≡ None → D.contents disk.new ≡ None }
     ensures told { D.contents disk.new ≡ None → D.contents disk.old ≡ None }
+    ensures names { D.names disk.new ≡ D.names disk.old }
     ensures cause { HasCause (D.fault_count disk.old) (D.fault_count disk.new) result }
 {
     write_and_sync(disk, place, &[1])
@@ -88,6 +92,7 @@ fn write_and_sync<D: Disk>(disk: &mut D, at: u64, bytes: &[u8]) -> Result<(), St
         → LeavesOnly D.moment D.left_since disk.old disk.new (Torn at (length bytes.now) file) }
     ensures untold { D.contents disk.old ≡ None → D.contents disk.new ≡ None }
     ensures told { D.contents disk.new ≡ None → D.contents disk.old ≡ None }
+    ensures names { D.names disk.new ≡ D.names disk.old }
     ensures cause { HasCause (D.fault_count disk.old) (D.fault_count disk.new) result }
 {
     match disk.write_at(at, bytes) {

@@ -48,6 +48,8 @@ impl<R: Files + Alloc + Drop> Disk for RealDisk<R> {
 
     ghost left_since = { λ d t c. Unit {0} };
 
+    ghost names = { λ d. None };
+
     ghost fault_count = { λ d. d.faults };
 
     ghost leaves_contents = { λ d file told. tt };

@@ -14,5 +14,6 @@ pub mod BeforeRun
 pub mod Service
 pub mod Verdict
 pub mod Readings
+pub mod Openings
 pub mod EndsOr
 pub mod Outcomes

@@ -1,3 +1,4 @@
 pub mod PlaceLemmas
 pub mod TotalLemmas
 pub mod NumberLemmas
+mod KeeperExamples

@@ -1,5 +1,6 @@
--- What is known of a keeper: its rows, where they are told, and how many calls failed.
-use Rattle.std.specs.Prelude.{◌≡◌, ℕ, ◌+◌, ◌≤◌, List, length, Option, Some, None, option_map}
+-- What is known of a keeper: its rows and the names that were opened, where they are told, and how many calls failed.
+use Rattle.std.specs.Prelude.{◌≡◌, ℕ, ◌+◌, ◌≤◌, List, [], ◌∷◌, length, Option, Some, None, option_map}
+use Rattle.ads_outside.specs.FilesState.{ReadsAll, ReadsSome}
 use Rattle.spec_samples.specs.Row.{Row}
 use Rattle.spec_samples.specs.Rows.{rows_after_put}
 use Rattle.spec_samples.specs.Totals.{total_of}
@@ -14,6 +15,8 @@ use Rattle.sample_store.specs.Views.{total_told}
 
 pub record KeeperState : Type 0 where
   pub rows : Option (List Row)
+  -- the names that were opened, in order, where they are told
+  pub names : Option (List (List ℕ))
   pub faults : ℕ
 
 -- the rows have the numbers from 1 on, where they are told
@@ -27,6 +30,12 @@ Counts (open_.Ready n) (Some rows) = n ≡ length rows
 Counts (open_.Ready n) None = Unit {0}
 Counts open_.Failed rows = Unit {0}
 Counts open_.Memory rows = Unit {0}
+
+-- a name was opened; where memory was wanting it may not have been
+abbrev pub OpensName : KeeperOpen → Option (List (List ℕ)) → Option (List (List ℕ)) → List ℕ → Type 0
+OpensName (open_.Ready n) old new name = ReadsAll old new (name ∷ [])
+OpensName open_.Failed old new name = ReadsAll old new (name ∷ [])
+OpensName open_.Memory old new name = ReadsSome old new (name ∷ [])
 
 -- the number is there or the next one, where rows are told
 abbrev pub IsNext : Option (List Row) → ℕ → Type 0

@@ -4,13 +4,14 @@ ghost use Rattle.std.specs.Prelude.{◌≡◌, ◌≤◌, ◌<◌, ◌^◌};
 
 use crate::{KeeperOpen, Kept, Row, Totalled};
 
-/// A table of recorded samples. It may tell its rows, which have the numbers from 1 on; a table on a disk does not.
+/// A table of recorded samples. It may tell its rows, which have the numbers from 1 on, and which names were opened; a table
+/// on a disk does not.
 pub trait Keeper {
     ghost use Rattle.ads_outside.specs.Rose.{Rose};
-    ghost use Rattle.sample_store.specs.Keeper.{KeeperState, AreNumbered, Counts, IsNext, Keeps, Totals};
+    ghost use Rattle.sample_store.specs.Keeper.{KeeperState, AreNumbered, Counts, IsNext, Keeps, OpensName, Totals};
     ghost use Rattle.sample_store.specs.Views.{row_kept};
 
-    /// The rows, where they are told, and how many calls failed.
+    /// The rows and the names that were opened, where they are told, and how many calls failed.
     ghost state: { Self → KeeperState };
 
     /// How many calls failed; the count stands still at its type's end.
@@ -20,6 +21,7 @@ pub trait Keeper {
     /// Opens the table of a name, and tells how many rows it has.
     fn open(&mut self, name: &str) -> KeeperOpen
         ensures counts { Counts result (state self.old).rows }
+        ensures named { OpensName result (state self.old).names (state self.new).names name.now }
         ensures numbers { AreNumbered (state self.new).rows }
         ensures rows { (state self.new).rows ≡ (state self.old).rows }
         ensures later { (state self.old).faults ≤ (state self.new).faults }
@@ -32,6 +34,7 @@ pub trait Keeper {
         requires next { IsNext (state self.old).rows row.now.number }
         ensures kept { Keeps result (state self.old).rows (state self.new).rows (row_kept row.now) }
         ensures numbers { AreNumbered (state self.new).rows }
+        ensures names { (state self.new).names ≡ (state self.old).names }
         ensures later { (state self.old).faults ≤ (state self.new).faults }
         ensures failed { result ≡ Kept.Failed → Rose (state self.old).faults (state self.new).faults };
 
@@ -39,6 +42,7 @@ pub trait Keeper {
     /// this fails.
     fn settle(&mut self) -> Kept
         ensures rows { (state self.new).rows ≡ (state self.old).rows }
+        ensures names { (state self.new).names ≡ (state self.old).names }
         ensures later { (state self.old).faults ≤ (state self.new).faults }
         ensures failed { result ≡ Kept.Failed → Rose (state self.old).faults (state self.new).faults };
 
@@ -47,6 +51,7 @@ pub trait Keeper {
         ensures told { Totals result (state self.old).rows name.now }
         ensures numbers { AreNumbered (state self.new).rows }
         ensures rows { (state self.new).rows ≡ (state self.old).rows }
+        ensures names { (state self.new).names ≡ (state self.old).names }
         ensures later { (state self.old).faults ≤ (state self.new).faults }
         ensures failed { result ≡ Totalled.Failed → Rose (state self.old).faults (state self.new).faults };
 }

@@ -6,3 +6,4 @@ mod RecordingExamples
 pub mod Hearings
 pub mod TurnsUnfolded
 pub mod TurnCases
+mod LogExamples

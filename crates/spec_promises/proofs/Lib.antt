@@ -11,3 +11,4 @@ mod WrittenExamples
 mod NotifiedExamples
 mod LifeExamples
 mod KeptExamples
+mod PromiseExamples

@@ -1,5 +1,6 @@
 mod Examples
 mod PassageExamples
+mod PromisedExamples
 pub mod ChangeLemmas
 pub mod GivenLemmas
 pub mod TakenLemmas

@@ -1,4 +1,5 @@
 mod StoreExamples
+mod DiskExamples
 pub mod DiskLemmas
 pub mod SlotLemmas
 pub mod StandingLemmas

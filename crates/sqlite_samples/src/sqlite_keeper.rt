@@ -183,7 +183,7 @@ fn is_memory(error: &Error) -> bool {
 }
 
 impl Keeper for SqliteKeeper {
-    ghost state = { λ k. record { rows = None; faults = k.faults } };
+    ghost state = { λ k. record { rows = None; names = None; faults = k.faults } };
 
     fn faults(&self) -> u64 {
         self.faults

@@ -10,6 +10,7 @@ use Rattle.call_run.specs.CallUses.{keeper_used, link_used}
 use Rattle.run_tasks.specs.Verdict.{verdict_of}
 use Rattle.ads_run.proofs.CauseLemmas.{cause_without_memory}
 use Rattle.file_run.proofs.KeepLemmas.{untouched_same}
+use Rattle.run_tasks.proofs.OpenLemmas.{store_wanting, table_wanting}
 use Rattle.file_run.proofs.MigrationLemmas.{any_without_memory}
 use Rattle.ads_run.proofs.OwnLemmas.{own_without_memory}
 use Rattle.file_run.proofs.PromiseLemmas.{play_keeps_promises}
@@ -74,3 +75,13 @@ returns-in-Ok-clause-relayed g c = λ d lines. relay_play_keeps_promises d lines
 
 pub returns-in-Err-clause-relayed : goal.returns-in-Err-clause-relayed
 returns-in-Err-clause-relayed g c = λ d lines. relay_play_keeps_promises d lines
+
+pub returns-in-Err-clause-opens_store : goal.returns-in-Err-clause-opens_store
+returns-in-Err-clause-opens_store g c =
+    store_wanting (asked_task (words_behind_name c.args.words)) c.end_without_memory.result _ _ c.end_without_memory.ensures.memory
+    (ap g.D.Disk.names c.in-Err.ensures.no_memory.4)
+
+pub returns-in-Err-clause-opens_table : goal.returns-in-Err-clause-opens_table
+returns-in-Err-clause-opens_table g c =
+    table_wanting (asked_task (words_behind_name c.args.words)) c.end_without_memory.result _ _ c.end_without_memory.ensures.memory
+    (ap (λ k. (g.K.Keeper.state k).names) c.in-Err.ensures.no_memory.5)

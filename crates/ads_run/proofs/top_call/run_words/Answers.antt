@@ -1,11 +1,13 @@
 -- The task's run is that of the words.
-use Rattle.std.proofs.Common.{map, sym, ◌∙◌, length, refl}
+use Rattle.std.proofs.Common.{map, sym, subst, ◌∙◌, length, refl}
 use Rattle.std.specs.Prelude.{string_bytes, Some, None}
 use Rattle.ads_outside.specs.Rose.{Rose}
+use Rattle.run_tasks.specs.Openings.{OpensStore, OpensTable}
 use Rattle.run_tasks.specs.Tasks.{asked_task}
 use Rattle.ads_run.specs.Uses.{disk_used, uses}
 use Rattle.call_run.specs.CallUses.{keeper_used, link_used}
 use Rattle.run_tasks.specs.Verdict.{verdict_of}
+use Rattle.run_tasks.proofs.OpenLemmas.{store_wanting, table_wanting}
 use Rattle.file_run.proofs.MigrationLemmas.{of_task, any_without_memory}
 use Rattle.ads_run.proofs.RunLemmas.{runs_as_asked, runs_usage, runs_without_memory}
 use Rattle.ads_run.proofs.top_call.run_words.Goals as goal
@@ -64,3 +66,31 @@ pub returns-in-Err-clause-migrated : goal.returns-in-Err-clause-migrated
 returns-in-Err-clause-migrated g c =
     any_without_memory (length (g.G.Sources.waves c.args.signals)) (asked_task (map string_bytes c.args.words.now)) c.end_without_memory.result
     (g.F.Files.state c.args.files.now).held (g.S.Sink.state c.args.out.now) (g.S.Sink.state c.end_without_memory.new.out) c.end_without_memory.ensures.memory
+
+pub returns-in-Ok-Some-clause-opens_store : goal.returns-in-Ok-Some-clause-opens_store
+returns-in-Ok-Some-clause-opens_store g c =
+    subst (λ t. OpensStore t c.run_task.result (g.D.Disk.names c.args.disk.now) (g.D.Disk.names c.run_task.new.disk))
+    (sym (sym c.in-Ok-Some.ensures.asked ∙ c.in-Ok-Some.field-0-is)) c.run_task.ensures.opens_store
+
+pub returns-in-Ok-Some-clause-opens_table : goal.returns-in-Ok-Some-clause-opens_table
+returns-in-Ok-Some-clause-opens_table g c =
+    subst (λ t. OpensTable t c.run_task.result (g.K.Keeper.state c.args.keeper.now).names (g.K.Keeper.state c.run_task.new.keeper).names)
+    (sym (sym c.in-Ok-Some.ensures.asked ∙ c.in-Ok-Some.field-0-is)) c.run_task.ensures.opens_table
+
+pub returns-in-Ok-None-clause-opens_store : goal.returns-in-Ok-None-clause-opens_store
+returns-in-Ok-None-clause-opens_store g c =
+    subst (λ t. OpensStore t c.print_and_end.result (g.D.Disk.names c.args.disk.now) (g.D.Disk.names c.args.disk.now))
+    (sym (sym c.in-Ok-None.ensures.asked ∙ c.in-Ok-None.field-0-is)) tt
+
+pub returns-in-Ok-None-clause-opens_table : goal.returns-in-Ok-None-clause-opens_table
+returns-in-Ok-None-clause-opens_table g c =
+    subst (λ t. OpensTable t c.print_and_end.result (g.K.Keeper.state c.args.keeper.now).names (g.K.Keeper.state c.args.keeper.now).names)
+    (sym (sym c.in-Ok-None.ensures.asked ∙ c.in-Ok-None.field-0-is)) tt
+
+pub returns-in-Err-clause-opens_store : goal.returns-in-Err-clause-opens_store
+returns-in-Err-clause-opens_store g c =
+    store_wanting (asked_task (map string_bytes c.args.words.now)) c.end_without_memory.result _ _ c.end_without_memory.ensures.memory refl
+
+pub returns-in-Err-clause-opens_table : goal.returns-in-Err-clause-opens_table
+returns-in-Err-clause-opens_table g c =
+    table_wanting (asked_task (map string_bytes c.args.words.now)) c.end_without_memory.result _ _ c.end_without_memory.ensures.memory refl

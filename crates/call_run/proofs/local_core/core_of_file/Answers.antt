@@ -3,7 +3,8 @@ use Rattle.std.proofs.Common.{refl, inl, inr, length}
 use Rattle.ads_outside.specs.Named.{bytes_of}
 use Rattle.ads_outside.specs.Rose.{Rose}
 use Rattle.run_tasks.specs.Verdict.{Serves, verdict_of_description_file}
-use Rattle.run_tasks.proofs.EndLemmas.{ends_as_told}
+use Rattle.run_tasks.proofs.EndLemmas.{ending_in, ends_as_told}
+use Rattle.run_tasks.proofs.OpenLemmas.{may_description, may_printed, may_wanting}
 use Rattle.run_tasks.proofs.ReadLemmas.{reads_one}
 use Rattle.call_run.proofs.local_core.core_of_file.Goals as goal
 
@@ -32,3 +33,15 @@ returns-clause-opened g c = record {
   named = refl;
   serves = c.in-Ok.ensures.serves;
 }
+
+pub returns-in-Err-clause-unopened : goal.returns-in-Err-clause-unopened
+returns-in-Err-clause-unopened g c = may_wanting c.end_without_memory.result c.end_without_memory.ensures.memory
+
+pub returns-in-Ok-Err-clause-unopened : goal.returns-in-Ok-Err-clause-unopened
+returns-in-Ok-Err-clause-unopened g c =
+    may_printed (ending_in c.in-Ok-Err.told) c.print_outcome.result (g.S.Sink.state c.args.out.now) (g.S.Sink.state c.print_outcome.new.out)
+    (may_description c.in-Ok-Err.told.status (rw c.in-Ok-Err.field-0-is at c.in-Ok-Err.ensures.status)) c.print_outcome.ensures
+
+pub returns-in-Err-build-clause-unopened : goal.returns-in-Err-build-clause-unopened
+returns-in-Err-build-clause-unopened g c =
+    may_wanting c.end_without_memory-in-Err-build.result c.end_without_memory-in-Err-build.ensures.memory

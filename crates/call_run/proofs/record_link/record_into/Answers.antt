@@ -33,3 +33,6 @@ returns-in-Ok-clause-grows g c =
 
 pub run_record-answer-requires-clause-names : goal.run_record-answer-requires-clause-names
 run_record-answer-requires-clause-names g c = names_fit c.args.what.now c.in-Ok.names (c.in-Ok.ensures ∙ c.as_slice.ensures) c.requires.what
+
+pub returns-in-Ok-clause-names : goal.returns-in-Ok-clause-names
+returns-in-Ok-clause-names g c = c.run_record-answer.ensures.out_later.names

@@ -1,6 +1,8 @@
 -- The table was opened.
-use Rattle.std.proofs.Common.{refl}
+use Rattle.std.proofs.Common.{[], ◌∷◌, refl, subst, sym}
+use Rattle.ads_outside.specs.FilesState.{ReadsAll}
 use Rattle.sample_store.specs.declared.keeper_open.KeeperOpen.TheVariants as open_
+use Rattle.run_tasks.proofs.OpenLemmas.{opens_all, opens_some}
 use Rattle.call_run.specs.Between.{recording_between}
 use Rattle.call_run.specs.CallUses.{link_used}
 use Rattle.call_run.proofs.RecordLemmas.{leaves_link, opened_ends}
@@ -44,3 +46,17 @@ returns-in-Failed-clause-grows g c = adds_unchanged _ _ c.in-Failed.ensures.rows
 
 pub returns-in-Memory-clause-grows : goal.returns-in-Memory-clause-grows
 returns-in-Memory-clause-grows g c = adds_unchanged _ _ c.in-Memory.ensures.rows
+
+pub returns-in-Ready-clause-opens : goal.returns-in-Ready-clause-opens
+returns-in-Ready-clause-opens g c =
+    opens_all c.record_behind.result _ _ c.args.what.now.store
+    (subst (λ names. ReadsAll (g.K.Keeper.state c.args.keeper.now).names names (c.args.what.now.store ∷ [])) (sym c.record_behind.ensures.names)
+    (rw c.as_str.ensures at c.in-Ready.ensures.named))
+
+pub returns-in-Failed-clause-opens : goal.returns-in-Failed-clause-opens
+returns-in-Failed-clause-opens g c = opens_all c.print_line.result _ _ c.args.what.now.store (rw c.as_str.ensures at c.in-Failed.ensures.named)
+
+pub returns-in-Memory-clause-opens : goal.returns-in-Memory-clause-opens
+returns-in-Memory-clause-opens g c =
+    opens_some c.end_without_memory.result _ _ c.args.what.now.store c.end_without_memory.ensures.memory
+    (rw c.as_str.ensures at c.in-Memory.ensures.named)

@@ -6,6 +6,7 @@ use Rattle.type_layout.specs.Descriptions.{description_of}
 use Rattle.run_tasks.specs.RecordAsked.{local_recording}
 use Rattle.run_tasks.specs.Verdict.{RecordsLocally, Verdict}
 use Rattle.run_tasks.specs.BeforeRun.{IsBeforeRun}
+use Rattle.run_tasks.proofs.OpenLemmas.{opens_none}
 use Rattle.run_tasks.proofs.ReadLemmas.{reads_one}
 use Rattle.call_run.specs.CallUses.{keeper_used}
 use Rattle.call_run.specs.Recording.{EndsLocalRecording}
@@ -49,3 +50,6 @@ returns-in-Ok-clause-read_fault g c = λ is. absurd (c.record_core.ensures.run (
 
 pub returns-in-Ok-clause-before_run : goal.returns-in-Ok-clause-before_run
 returns-in-Ok-clause-before_run g c = λ before. absurd (c.record_core.ensures.run before)
+
+pub returns-in-Err-clause-opens : goal.returns-in-Err-clause-opens
+returns-in-Err-clause-opens g c = opens_none c.in-Err.status _ _ c.args.what.now.store c.in-Err.ensures.unopened refl

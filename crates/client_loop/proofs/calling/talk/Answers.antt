@@ -14,7 +14,7 @@ returns-in-Ok-clause-talks g c = c.talk_alone.ensures.talks _ _ _ c.in-Ok.ensure
 
 pub returns-in-Err-clause-talks : goal.returns-in-Err-clause-talks
 returns-in-Err-clause-talks g c =
-    never_called c.in-Err.e _ _ (g.L.Link.state c.args.link.now) (g.S.Sink.state c.args.out.now)
+    never_called c.in-Err.e _ _ _ (g.L.Link.state c.args.link.now) (g.S.Sink.state c.args.out.now)
 
 pub returns-in-Err-clause-link_later : goal.returns-in-Err-clause-link_later
 returns-in-Err-clause-link_later g c = link_same _

@@ -1,9 +1,10 @@
 -- The first turns, by how they ended.
+use Rattle.client_loop.specs.Due.{first_steps}
 use Rattle.client_loop.specs.Outlets.{outlets}
 use Rattle.client_loop.proofs.LaterLemmas.{link_then, out_then}
 use Rattle.spec_client.specs.Conversation.{conversation_begun}
 use Rattle.spec_client.specs.Runner.{new_runner}
-use Rattle.client_loop.proofs.TalkLemmas.{begins, gives_begun, ends_from, over_first, link_first, write_first, keeper_first, memory_first}
+use Rattle.client_loop.proofs.TalkLemmas.{begins, gives_begun, text_begun, ends_from, over_first, link_first, write_first, keeper_first, memory_first}
 use Rattle.client_loop.proofs.calling.talk_by.Goals as goal
 
 pub take_turns-requires : goal.take_turns-requires
@@ -22,9 +23,10 @@ returns-in-Ok-Waits-clause-talks g c = λ me peer call stands.
     let first = g.L.Link.tells c.args.link.now in
     let second = g.L.Link.tells c.take_turns.new.link in
     let t = (rw c.in-Ok-Waits.field-0-is at c.in-Ok-Waits.ensures.turns) (new_runner me peer call) 1 stands in
-    ends_from c.hear_all.result (conversation_begun me peer call c.args.now) c.hear_all.new.runner first second (g.L.Link.tells c.hear_all.new.link)
+    ends_from c.hear_all.result (first_steps me peer call c.args.now) (conversation_begun me peer call c.args.now) c.hear_all.new.runner
+    first second (g.L.Link.tells c.hear_all.new.link)
     link mid_link (g.L.Link.state c.hear_all.new.link) out mid (outlets (g.S.Sink.state c.hear_all.new.out) (g.K.Keeper.state c.hear_all.new.keeper))
-    c.take_turns.ensures.same c.take_turns.ensures.link_later.faults c.take_turns.ensures.out_later
+    c.take_turns.ensures.same c.take_turns.ensures.link_later.faults c.take_turns.ensures.out_later (text_begun me peer call c.args.now)
     (gives_begun me peer call c.args.now k first second link mid_link out mid t)
     (c.hear_all.ensures.ends (conversation_begun me peer call c.args.now) (begins me peer call c.args.now k first second link mid_link out mid t))
 

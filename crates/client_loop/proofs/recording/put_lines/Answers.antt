@@ -16,13 +16,13 @@ returns-in-Ok-Some-clause-lines g c =
     (rw c.in-Ok-Some.field-0-is at c.in-Ok-Some.ensures.lines) c.print.ensures.put)
 
 pub returns-in-Ok-Some-clause-out_later : goal.returns-in-Ok-Some-clause-out_later
-returns-in-Ok-Some-clause-out_later g c = record { sink = c.print.ensures.out_later; keeper = c.total_lines.ensures.keeper_later }
+returns-in-Ok-Some-clause-out_later g c = record { sink = c.print.ensures.out_later; keeper = c.total_lines.ensures.keeper_later; names = c.total_lines.ensures.names }
 
 pub returns-in-Ok-None-clause-lines : goal.returns-in-Ok-None-clause-lines
 returns-in-Ok-None-clause-lines g c = (rw c.in-Ok-None.field-0-is at c.in-Ok-None.ensures.lines, refl, c.total_lines.ensures.rows)
 
 pub returns-in-Ok-None-clause-out_later : goal.returns-in-Ok-None-clause-out_later
-returns-in-Ok-None-clause-out_later g c = keeper_later (g.S.Sink.state c.args.out.now) _ _ c.total_lines.ensures.keeper_later
+returns-in-Ok-None-clause-out_later g c = keeper_later (g.S.Sink.state c.args.out.now) _ _ c.total_lines.ensures.keeper_later c.total_lines.ensures.names
 
 pub returns-in-Err-clause-lines : goal.returns-in-Err-clause-lines
 returns-in-Err-clause-lines g c =
@@ -31,4 +31,4 @@ returns-in-Err-clause-lines g c =
     c.total_lines.ensures.rows
 
 pub returns-in-Err-clause-out_later : goal.returns-in-Err-clause-out_later
-returns-in-Err-clause-out_later g c = keeper_later (g.S.Sink.state c.args.out.now) _ _ c.total_lines.ensures.keeper_later
+returns-in-Err-clause-out_later g c = keeper_later (g.S.Sink.state c.args.out.now) _ _ c.total_lines.ensures.keeper_later c.total_lines.ensures.names

@@ -14,7 +14,7 @@ returns-in-Ok-clause-records g c = c.record_by.ensures.records _ _ _ c.in-Ok.ens
 
 pub returns-in-Err-clause-records : goal.returns-in-Err-clause-records
 returns-in-Err-clause-records g c =
-    inl (never_first _ _ (g.L.Link.state c.args.link.now) (outlets (g.S.Sink.state c.args.out.now) (g.K.Keeper.state c.args.keeper.now)))
+    inl (never_first _ _ _ (g.L.Link.state c.args.link.now) (outlets (g.S.Sink.state c.args.out.now) (g.K.Keeper.state c.args.keeper.now)))
 
 pub returns-in-Err-clause-link_later : goal.returns-in-Err-clause-link_later
 returns-in-Err-clause-link_later g c = link_same _

@@ -1,6 +1,7 @@
 -- The conversation, and what follows it.
 use Rattle.std.proofs.Common.{inl}
 use Rattle.spec_client.specs.Conversation.{conversation_begun}
+use Rattle.client_loop.specs.Due.{first_steps}
 use Rattle.client_loop.specs.Outlets.{outlets}
 use Rattle.client_loop.proofs.LaterLemmas.{out_then}
 use Rattle.client_loop.proofs.FinishLemmas.{finished_so}
@@ -11,7 +12,7 @@ talk_by-requires g c = c.requires
 
 pub returns-in-Ok-clause-records : goal.returns-in-Ok-clause-records
 returns-in-Ok-clause-records g c = λ me peer call stands.
-    finished_so c.in-Ok.end c.finish.result (conversation_begun me peer call c.args.now) c.talk_by.new.runner
+    finished_so c.in-Ok.end c.finish.result (first_steps me peer call c.args.now) (conversation_begun me peer call c.args.now) c.talk_by.new.runner
     (g.L.Link.tells c.args.link.now) (g.L.Link.tells c.talk_by.new.link) (g.L.Link.state c.args.link.now) (g.L.Link.state c.talk_by.new.link)
     (outlets (g.S.Sink.state c.args.out.now) (g.K.Keeper.state c.args.keeper.now))
     (outlets (g.S.Sink.state c.talk_by.new.out) (g.K.Keeper.state c.talk_by.new.keeper))

@@ -18,5 +18,6 @@ loop-n-preserved g c =
       lines = lines_more (g.K.Keeper.state c.args.keeper.now).rows (entries_taken c.args.runner.now.stage) c.loop-n.n c.in-Some.name.now c.in-Some.type_id
           c.loop-n.text c.put_line.new.text c.in-Some.ensures c.loop-n.invariant.lines (λ rows known. line rows (same ∙ known));
       rows = c.put_line.ensures.rows ∙ same;
+      names = c.put_line.ensures.names ∙ c.loop-n.invariant.names;
       later = le_trans c.loop-n.invariant.later c.put_line.ensures.keeper_later;
     }

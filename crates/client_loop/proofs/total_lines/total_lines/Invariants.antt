@@ -8,5 +8,6 @@ abbrev pub invariant-loop-n : goal.invariant-loop-n
 invariant-loop-n g l = record {
   lines : AreLines (g.K.Keeper.state l.initial.keeper).rows (take l.n (entries_taken l.runner.stage)) l.text;
   rows : (g.K.Keeper.state l.keeper).rows ≡ (g.K.Keeper.state l.initial.keeper).rows;
+  names : (g.K.Keeper.state l.keeper).names ≡ (g.K.Keeper.state l.initial.keeper).names;
   later : (g.K.Keeper.state l.initial.keeper).faults ≤ (g.K.Keeper.state l.keeper).faults;
 }

@@ -4,8 +4,8 @@ use Rattle.spec_client.specs.Runner.{Wait}
 use Rattle.client_loop.specs.Outlets.{outlets}
 use Rattle.client_loop.proofs.LaterLemmas.{link_same, out_same, sink_later, keeper_later, falls_told}
 use Rattle.client_loop.proofs.ReadyLemmas.{next_fits, ready_plain, ready_row}
-use Rattle.client_loop.proofs.SaidLemmas.{gives_none, gives_nothing}
-use Rattle.client_loop.proofs.TurnLemmas.{turn_sent, turn_printed, turn_kept, unless_turned, after_keep}
+use Rattle.client_loop.proofs.SaidLemmas.{gives_nothing}
+use Rattle.client_loop.proofs.TurnLemmas.{no_steps, turn_sent, turn_printed, turn_kept, unless_turned, after_keep}
 use Rattle.client_loop.proofs.turning.take_turn.Goals as goal
 
 pub turn-requires : goal.turn-requires
@@ -80,7 +80,7 @@ pub returns-in-Ok-Keep-clause-link_later : goal.returns-in-Ok-Keep-clause-link_l
 returns-in-Ok-Keep-clause-link_later g c = link_same _
 
 pub returns-in-Ok-Keep-clause-out_later : goal.returns-in-Ok-Keep-clause-out_later
-returns-in-Ok-Keep-clause-out_later g c = keeper_later (g.S.Sink.state c.args.out.now) _ _ c.keep.ensures.keeper_later
+returns-in-Ok-Keep-clause-out_later g c = keeper_later (g.S.Sink.state c.args.out.now) _ _ c.keep.ensures.keeper_later c.keep.ensures.names
 
 pub returns-in-Ok-Wait-clause-turn : goal.returns-in-Ok-Wait-clause-turn
 returns-in-Ok-Wait-clause-turn g c = λ r n stands. (
@@ -115,7 +115,7 @@ pub returns-in-Ok-Over-clause-out_later : goal.returns-in-Ok-Over-clause-out_lat
 returns-in-Ok-Over-clause-out_later g c = out_same (outlets (g.S.Sink.state c.args.out.now) (g.K.Keeper.state c.args.keeper.now))
 
 pub returns-in-Err-clause-turn : goal.returns-in-Err-clause-turn
-returns-in-Err-clause-turn g c = λ r n stands. gives_none _ _ _ _ (outlets (g.S.Sink.state c.args.out.now) (g.K.Keeper.state c.args.keeper.now))
+returns-in-Err-clause-turn g c = λ r n stands. no_steps n _ _ (outlets (g.S.Sink.state c.args.out.now) (g.K.Keeper.state c.args.keeper.now))
 
 pub returns-in-Err-clause-link_later : goal.returns-in-Err-clause-link_later
 returns-in-Err-clause-link_later g c = link_same _

@@ -26,4 +26,4 @@ pub returns-in-Ok-clause-out_later : goal.returns-in-Ok-clause-out_later
 returns-in-Ok-clause-out_later g c =
     out_then _ _ _ c.give_turns.ensures.out_later
     (keeper_later (g.S.Sink.state c.give_turns.new.out) (g.K.Keeper.state c.give_turns.new.keeper) (g.K.Keeper.state c.settle_behind.new.keeper)
-    c.settle_behind.ensures.keeper_later)
+    c.settle_behind.ensures.keeper_later c.settle_behind.ensures.names)

@@ -1,5 +1,8 @@
 -- The file gives no description that is accepted, or its plant is served.
-use Rattle.std.proofs.Common.{◌≡◌, refl, length}
+use Rattle.std.proofs.Common.{◌≡◌, refl, length, subst, sym}
+use Rattle.std.specs.Prelude.{IfSome}
+use Rattle.persist_store.specs.Disk.{OpensOnly}
+use Rattle.persist_store.proofs.NameLemmas.{only_not}
 use Rattle.ads_outside.specs.Named.{bytes_of}
 use Rattle.ads_outside.specs.Rose.{Rose}
 use Rattle.server_core.specs.Profiles.{profile_of}
@@ -149,3 +152,17 @@ returns-in-Some-clause-done g c =
     (g.S.Sink.state c.args.out.now) (g.S.Sink.state c.keep_read.new.out)
     (disk_used g.D.Disk.contents g.D.Disk.may_leave g.D.Disk.moment g.D.Disk.left_since g.D.Disk.fault_count d e)
     (g.W.Wire.state c.args.wire.now).history (g.W.Wire.state c.keep_read.new.wire).history (returns-in-Some-clause-ends g c)
+
+pub returns-in-Err-clause-opens : goal.returns-in-Err-clause-opens
+returns-in-Err-clause-opens g c = only_not c.args.store.now _ _ refl
+
+pub returns-in-Ok-Err-clause-opens : goal.returns-in-Ok-Err-clause-opens
+returns-in-Ok-Err-clause-opens g c = only_not c.args.store.now _ _ refl
+
+pub returns-in-None-clause-opens : goal.returns-in-None-clause-opens
+returns-in-None-clause-opens g c = only_not c.args.store.now _ _ refl
+
+pub returns-in-Some-clause-opens : goal.returns-in-Some-clause-opens
+returns-in-Some-clause-opens g c =
+    subst (λ name. IfSome name (OpensOnly (g.D.Disk.names c.args.disk.now) (g.D.Disk.names c.keep_read.new.disk))) (sym c.in-Some.is)
+    c.keep_read.ensures.opens

@@ -2,6 +2,7 @@
 use Rattle.std.proofs.Common.{refl, inl, inr, length}
 use Rattle.server_core.specs.Profiles.{profile_of}
 use Rattle.type_layout.specs.Descriptions.{description_of}
+use Rattle.persist_store.proofs.NameLemmas.{only_none}
 use Rattle.stored_values.specs.StoredBodies.{bytes_lent}
 use Rattle.keep_play.proofs.CoreLemmas.{kept_is, kept_may_begin}
 use Rattle.file_run.specs.FileOutcomes.{at_start_in}
@@ -52,3 +53,9 @@ returns-clause-ends g c =
     (c.keep_posted.ensures.ends (at_start_in profile stored waves)
     (core_anew c.in-Ok-build_in.core profile stored waves (stands_at_start c.in-Ok-build_in.core profile stored waves
     c.in-Ok-build_in.ensures.serves c.in-Ok-build_in.ensures.counted c.in-Ok-build_in.ensures.notes)))
+
+pub returns-in-Err-clause-opens : goal.returns-in-Err-clause-opens
+returns-in-Err-clause-opens g c = only_none _ _ c.args.file.now refl
+
+pub returns-in-Err-build_in-clause-opens : goal.returns-in-Err-build_in-clause-opens
+returns-in-Err-build_in-clause-opens g c = only_none _ _ c.args.file.now refl

@@ -1,5 +1,6 @@
 -- The wire was started and that is told, or not.
 use Rattle.std.proofs.Common.{refl, inl}
+use Rattle.persist_store.proofs.NameLemmas.{only_none}
 use Rattle.daemon_run.proofs.RunningLemmas.{ran_so}
 use Rattle.daemon_run.proofs.StatusLemmas.{no_store_fault, of_service}
 use Rattle.daemon_run.proofs.plant_kept.keep_posted.Goals as goal
@@ -20,3 +21,6 @@ returns-in-Err-clause-status g c = of_service c.in-Err.status c.in-Err.ensures.s
 
 pub returns-in-Err-clause-store_fault : goal.returns-in-Err-clause-store_fault
 returns-in-Err-clause-store_fault g c = λ is. no_store_fault c.in-Err.status c.in-Err.ensures.status is
+
+pub returns-in-Err-clause-opens : goal.returns-in-Err-clause-opens
+returns-in-Err-clause-opens g c = only_none _ _ c.args.file.now refl

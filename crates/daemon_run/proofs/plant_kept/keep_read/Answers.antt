@@ -1,6 +1,7 @@
 -- The store is opened, and the plant served over it; or it is not.
 use Rattle.std.proofs.Common.{refl, inl, inr}
 use Rattle.std.specs.Prelude.{Some}
+use Rattle.persist_store.proofs.NameLemmas.{all_only, only_join, some_only}
 use Rattle.server_core.specs.Profiles.{profile_of}
 use Rattle.type_layout.specs.Descriptions.{description_of}
 use Rattle.daemon_run.specs.Plant.{plant_of, serving}
@@ -33,3 +34,13 @@ returns-in-Ok-Ready-clause-ends g c =
     c.args.disk.now c.open.new.disk c.keep_opened.new.disk c.keep_opened.result (g.S.Sink.state c.args.out.now) (g.S.Sink.state c.keep_opened.new.out)
     (g.W.Wire.state c.args.wire.now).history (g.W.Wire.state c.keep_opened.new.wire).history c.open.ensures.contents c.open.ensures.stop c.open.ensures.later
     opened.2 c.keep_opened.ensures.ends
+
+pub returns-in-Err-clause-opens : goal.returns-in-Err-clause-opens
+returns-in-Err-clause-opens g c = some_only _ _ c.args.store.now (rw c.as_str.ensures at c.in-Err.ensures.named)
+
+pub returns-in-Ok-Failed-clause-opens : goal.returns-in-Ok-Failed-clause-opens
+returns-in-Ok-Failed-clause-opens g c = all_only _ _ c.args.store.now (rw c.as_str.ensures at c.in-Ok-Failed.ensures.named)
+
+pub returns-in-Ok-Ready-clause-opens : goal.returns-in-Ok-Ready-clause-opens
+returns-in-Ok-Ready-clause-opens g c =
+    only_join _ _ _ c.args.store.now (all_only _ _ c.args.store.now (rw c.as_str.ensures at c.in-Ok-Ready.ensures.named)) c.keep_opened.ensures.opens

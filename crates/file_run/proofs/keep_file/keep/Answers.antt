@@ -1,5 +1,5 @@
 -- A reading that ends the run is told; what was read is played.
-use Rattle.std.proofs.Common.{length}
+use Rattle.std.proofs.Common.{length, refl}
 use Rattle.ads_outside.specs.Rose.{Rose}
 use Rattle.type_layout.specs.Descriptions.{description_of}
 use Rattle.keep_play.specs.KeptDisk.{disk_used}
@@ -7,6 +7,7 @@ use Rattle.run_tasks.specs.declared.file_task.FileTask.TheVariants as file_task
 use Rattle.run_tasks.specs.KeepAsked.{keeping}
 use Rattle.run_tasks.specs.Verdict.{Keeps, over_store, verdict_of_both}
 use Rattle.run_tasks.proofs.EndLemmas.{ending_in, ends_as_decided, ends_run}
+use Rattle.run_tasks.proofs.OpenLemmas.{may_printed, may_wanting, opens_none}
 use Rattle.file_run.specs.Keeping.{EndsKeeping}
 use Rattle.file_run.proofs.KeepLemmas.{keeps_without_memory, both_read}
 use Rattle.file_run.proofs.TaskReadLemmas.{reads_as_ended, reads_without_memory}
@@ -58,3 +59,13 @@ pub returns-in-Ok-Ok-clause-reads : goal.returns-in-Ok-Ok-clause-reads
 returns-in-Ok-Ok-clause-reads g c =
     both_read c.keep_both.result _ _ c.args.description.now c.args.script.now c.keep_both.ensures.status
     (rw c.in-Ok-Ok.field-0-is at c.in-Ok-Ok.ensures.reads_all)
+
+pub returns-in-Err-clause-opens : goal.returns-in-Err-clause-opens
+returns-in-Err-clause-opens g c =
+    opens_none c.end_without_memory.result _ _ c.args.store.now (may_wanting c.end_without_memory.result c.end_without_memory.ensures.memory) refl
+
+pub returns-in-Ok-Err-clause-opens : goal.returns-in-Ok-Err-clause-opens
+returns-in-Ok-Err-clause-opens g c =
+    opens_none c.print_outcome.result _ _ c.args.store.now
+    (may_printed (ending_in c.in-Ok-Err.told) c.print_outcome.result (g.S.Sink.state c.args.out.now) (g.S.Sink.state c.print_outcome.new.out)
+    (rw c.in-Ok-Err.field-0-is at c.in-Ok-Err.ensures.unopened) c.print_outcome.ensures) refl

@@ -18,6 +18,7 @@ loop-taken-init g c = record {
   ready = c.requires.ready;
   few = le_refl _;
   untold = λ e. e;
+  names = refl;
   kept = refl;
   later = le_refl _;
   wire_later = le_refl _;
@@ -40,7 +41,7 @@ returns-in-Failed-clause-keeps g c =
     (g.W.Wire.state c.args.wire.now) (g.W.Wire.state c.loop-taken.wire).history (g.W.Wire.state c.turn.new.wire) c.loop-taken._taken c.loop-taken.left c.args.limit
     c.args.disk.now c.loop-taken.disk c.save_body.new.disk c.args.store.now c.loop-taken.store
     c.loop-taken.saved c.loop-taken-test.true due c.loop-taken.invariant.so_far c.in-Tick-2.ensures.turn
-    c.in-Failed.ensures.saved.0 c.in-Failed.ensures.saved.1
+    c.in-Failed.ensures.saved.0 c.in-Failed.ensures.saved.1 g.met.D.Disk.counts_now
 
 pub returns-in-Limit-clause-keeps : goal.returns-in-Limit-clause-keeps
 returns-in-Limit-clause-keeps g c =
@@ -51,6 +52,7 @@ returns-in-Limit-clause-keeps g c =
     c.args.disk.now c.loop-taken.disk c.save_body.new.disk c.args.store.now c.loop-taken.store
     c.loop-taken.saved c.loop-taken-test.true due c.loop-taken.invariant.so_far c.in-Tick-2.ensures.turn
     c.in-Limit.ensures.saved.0 c.in-Limit.ensures.saved.1 c.in-Limit.ensures.saved.2
+    c.loop-taken.invariant.ready
 
 pub returns-in-Memory-save_body-clause-keeps : goal.returns-in-Memory-save_body-clause-keeps
 returns-in-Memory-save_body-clause-keeps g c =
@@ -60,7 +62,7 @@ returns-in-Memory-save_body-clause-keeps g c =
     (g.W.Wire.state c.args.wire.now) (g.W.Wire.state c.loop-taken.wire).history (g.W.Wire.state c.turn.new.wire) c.loop-taken._taken c.loop-taken.left c.args.limit
     c.args.disk.now c.loop-taken.disk c.save_body.new.disk c.args.store.now c.loop-taken.store
     c.loop-taken.saved c.loop-taken-test.true due c.loop-taken.invariant.so_far c.in-Tick-2.ensures.turn
-    c.in-Memory-save_body.ensures.saved
+    c.in-Memory-save_body.ensures.saved c.loop-taken.invariant.ready g.met.D.Disk.counts_now
 
 -- memory was wanting in the turn, or in the save behind it
 pub returns-in-Memory-clause-memory : goal.returns-in-Memory-clause-memory
@@ -130,6 +132,7 @@ returns-in-End-clause-keeps g c =
     c.args.disk.now c.loop-taken.disk c.save_last.new.disk c.args.store.now c.loop-taken.store
     c.save_last.new.store c.loop-taken.saved c.loop-taken.invariant.so_far
     (c.loop-taken-test.true, c.in-End.ensures.turn.0) c.in-End.ensures.turn.1 c.save_last.ensures.ends c.save_last.ensures.ready
+    c.loop-taken.invariant.ready g.met.D.Disk.counts_now
 
 pub returns-in-LinkFault-clause-keeps : goal.returns-in-LinkFault-clause-keeps
 returns-in-LinkFault-clause-keeps g c =
@@ -142,6 +145,7 @@ returns-in-LinkFault-clause-keeps g c =
     c.args.disk.now c.loop-taken.disk c.save_last-in-LinkFault.new.disk c.args.store.now c.loop-taken.store
     c.save_last-in-LinkFault.new.store c.loop-taken.saved c.loop-taken.invariant.so_far
     came c.in-LinkFault.ensures.turn.1 c.save_last-in-LinkFault.ensures.ends c.save_last-in-LinkFault.ensures.ready
+    c.loop-taken.invariant.ready g.met.D.Disk.counts_now
 
 pub returns-in-Memory-clause-keeps : goal.returns-in-Memory-clause-keeps
 returns-in-Memory-clause-keeps g c =
@@ -149,7 +153,7 @@ returns-in-Memory-clause-keeps g c =
     (g.M.Persistent.serves c.args.served.now) (g.M.Persistent.serves c.loop-taken.served) (g.M.Persistent.serves c.turn.new.self)
     (g.W.Wire.state c.args.wire.now) (g.W.Wire.state c.loop-taken.wire).history (g.W.Wire.state c.turn.new.wire) c.loop-taken._taken c.loop-taken.left c.args.limit
     c.args.disk.now c.loop-taken.disk c.args.store.now c.loop-taken.store c.loop-taken.saved
-    c.loop-taken-test.true c.loop-taken.invariant.so_far c.in-Memory.ensures.turn
+    c.loop-taken-test.true c.loop-taken.invariant.so_far c.in-Memory.ensures.turn c.loop-taken.invariant.ready
 
 pub returns-clause-keeps : goal.returns-clause-keeps
 returns-clause-keeps g c =
@@ -159,6 +163,7 @@ returns-clause-keeps g c =
     c.args.disk.now c.loop-taken.disk c.save_last-2.new.disk c.args.store.now c.loop-taken.store
     c.save_last-2.new.store c.loop-taken.saved c.loop-taken.invariant.so_far
     (omega (arith, c.loop-taken-test.false, c.loop-taken.auto._taken-end), refl) (λ x stands. stands) c.save_last-2.ensures.ends c.save_last-2.ensures.ready
+    c.loop-taken.invariant.ready g.met.D.Disk.counts_now
 
 pub loop-taken-preserved : goal.loop-taken-preserved
 loop-taken-preserved g c = elim c.match-turn.branch [
@@ -171,6 +176,7 @@ loop-taken-preserved g c = elim c.match-turn.branch [
     ready = c.loop-taken.invariant.ready;
     few = omega (arith, c.loop-taken.invariant.few);
     untold = c.loop-taken.invariant.untold;
+    names = c.loop-taken.invariant.names;
     kept = c.turn.ensures.kept ∙ c.loop-taken.invariant.kept;
     later = c.loop-taken.invariant.later;
     wire_later = le_trans c.loop-taken.invariant.wire_later c.turn.ensures.later;
@@ -185,6 +191,7 @@ loop-taken-preserved g c = elim c.match-turn.branch [
     ready = w.in-Same.ensures.ready;
     few = omega (arith, c.loop-taken.invariant.few);
     untold = λ e. w.in-Same.ensures.untold (c.loop-taken.invariant.untold e);
+    names = w.in-Same.ensures.names ∙ c.loop-taken.invariant.names;
     kept = c.turn.ensures.kept ∙ c.loop-taken.invariant.kept;
     later = le_trans c.loop-taken.invariant.later w.in-Same.ensures.later;
     wire_later = le_trans c.loop-taken.invariant.wire_later c.turn.ensures.later;
@@ -199,6 +206,7 @@ loop-taken-preserved g c = elim c.match-turn.branch [
     ready = w.in-Saved.ensures.ready;
     few = omega (arith, c.loop-taken.invariant.few);
     untold = λ e. w.in-Saved.ensures.untold (c.loop-taken.invariant.untold e);
+    names = w.in-Saved.ensures.names ∙ c.loop-taken.invariant.names;
     kept = c.turn.ensures.kept ∙ c.loop-taken.invariant.kept;
     later = le_trans c.loop-taken.invariant.later w.in-Saved.ensures.later;
     wire_later = le_trans c.loop-taken.invariant.wire_later c.turn.ensures.later;
@@ -212,6 +220,7 @@ loop-taken-preserved g c = elim c.match-turn.branch [
     ready = c.loop-taken.invariant.ready;
     few = omega (arith, c.loop-taken.invariant.few);
     untold = c.loop-taken.invariant.untold;
+    names = c.loop-taken.invariant.names;
     kept = c.turn.ensures.kept ∙ c.loop-taken.invariant.kept;
     later = c.loop-taken.invariant.later;
     wire_later = le_trans c.loop-taken.invariant.wire_later c.turn.ensures.later;

@@ -13,6 +13,7 @@ invariant-loop-taken g l = record {
   ready : IsReady g.D.Disk.contents g.D.Disk.may_leave l.disk l.store;
   few : l.saved ≤ l._taken;
   untold : g.D.Disk.contents l.initial.disk ≡ None → g.D.Disk.contents l.disk ≡ None;
+  names : g.D.Disk.names l.disk ≡ g.D.Disk.names l.initial.disk;
   kept : g.W.Wire.kept l.wire ≡ g.W.Wire.kept l.initial.wire;
   later : g.D.Disk.fault_count l.initial.disk ≤ g.D.Disk.fault_count l.disk;
   wire_later : (g.W.Wire.state l.initial.wire).faults ≤ (g.W.Wire.state l.wire).faults;

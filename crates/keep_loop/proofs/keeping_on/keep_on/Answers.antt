@@ -1,6 +1,7 @@
 -- Each way out of the loop, and one turn more.
 use Rattle.std.proofs.Common.{◌≡◌, ◌+◌, ◌-◌, ◌^◌, ◌<◌, refl, sym, subst, ◌∙◌, arith}
 use Rattle.std.proofs.Math.Nat.{le_refl, le_trans}
+use Rattle.persist_store.proofs.NameLemmas.{only_none, only_join}
 use Rattle.serve_loop.proofs.TurnLemmas.{stops_kept, stops_later}
 use Rattle.serve_loop.proofs.WantLemmas.{wanting_later}
 use Rattle.keep_loop.specs.declared.save_counts.SaveCounts.{SaveCounts}
@@ -24,6 +25,7 @@ loop-taken-init g c =
       few = subst (λ counts. AreFew counts 0) (sym c.nothing-counts.ensures) few_first;
       failed = λ more. none_rose _ c.nothing-counts.result c.nothing-counts.ensures more;
       untold = λ e. e;
+      named = only_none _ _ c.args.name.now refl;
       kept = refl;
       later = le_refl _;
       wire_later = le_refl _;
@@ -145,6 +147,15 @@ pub returns-in-Memory-clause-memory : goal.returns-in-Memory-clause-memory
 returns-in-Memory-clause-memory g c = λ is.
     wanting_later _ (g.W.Wire.state c.args.wire.now) (g.W.Wire.state c.loop-taken.wire) (g.W.Wire.state c.turn.new.wire) c.loop-taken.invariant.wanted (c.in-Memory.ensures.memory refl)
 
+pub returns-in-End-clause-named : goal.returns-in-End-clause-named
+returns-in-End-clause-named g c = only_join _ _ _ c.args.name.now c.loop-taken.invariant.named c.look_last.ensures.named
+
+pub returns-in-LinkFault-clause-named : goal.returns-in-LinkFault-clause-named
+returns-in-LinkFault-clause-named g c = only_join _ _ _ c.args.name.now c.loop-taken.invariant.named c.look_last-in-LinkFault.ensures.named
+
+pub returns-clause-named : goal.returns-clause-named
+returns-clause-named g c = only_join _ _ _ c.args.name.now c.loop-taken.invariant.named c.look_last-2.ensures.named
+
 pub loop-taken-preserved : goal.loop-taken-preserved
 loop-taken-preserved g c = elim c.match-turn.branch [
   | in-Tick w ↦ rw (w.store-is, w.disk-is, w.counts-is, w.left-is) record {
@@ -153,6 +164,7 @@ loop-taken-preserved g c = elim c.match-turn.branch [
     few = few_within c.loop-taken.counts c.loop-taken._taken _ (omega arith) c.loop-taken.invariant.few;
     failed = c.loop-taken.invariant.failed;
     untold = c.loop-taken.invariant.untold;
+    named = c.loop-taken.invariant.named;
     later = c.loop-taken.invariant.later;
     kept = c.turn.ensures.kept ∙ c.loop-taken.invariant.kept;
     wire_later = le_trans c.loop-taken.invariant.wire_later c.turn.ensures.later;
@@ -166,6 +178,7 @@ loop-taken-preserved g c = elim c.match-turn.branch [
         c.loop-taken.counts.failed c.loop-taken.invariant.later w.look.ensures.later c.loop-taken.invariant.failed
         (failed_rose w.look.result c.loop-taken.counts _ w.look.ensures.failed (subst (λ (counts : SaveCounts). 0 < counts.failed) w.after-counts.ensures more));
     untold = λ e. w.look.ensures.untold (c.loop-taken.invariant.untold e);
+    named = only_join _ _ _ c.args.name.now c.loop-taken.invariant.named w.look.ensures.named;
     later = le_trans c.loop-taken.invariant.later w.look.ensures.later;
     kept = c.turn.ensures.kept ∙ c.loop-taken.invariant.kept;
     wire_later = le_trans c.loop-taken.invariant.wire_later c.turn.ensures.later;
@@ -177,6 +190,7 @@ loop-taken-preserved g c = elim c.match-turn.branch [
     few = few_within c.loop-taken.counts c.loop-taken._taken _ (omega arith) c.loop-taken.invariant.few;
     failed = c.loop-taken.invariant.failed;
     untold = c.loop-taken.invariant.untold;
+    named = c.loop-taken.invariant.named;
     later = c.loop-taken.invariant.later;
     kept = c.turn.ensures.kept ∙ c.loop-taken.invariant.kept;
     wire_later = le_trans c.loop-taken.invariant.wire_later c.turn.ensures.later;

@@ -2,6 +2,7 @@
 use Rattle.std.proofs.Common.{◌≡◌, ◌<◌, ◌≤◌}
 use Rattle.std.specs.Prelude.{None}
 use Rattle.ads_outside.specs.Rose.{Rose}
+use Rattle.persist_store.specs.Disk.{OpensOnly}
 use Rattle.persist_store.specs.Store.{IsReady}
 use Rattle.keep_loop.specs.Looking.{AreFew, ServesOnSoFar}
 use Rattle.keep_loop.proofs.keeping_on.keep_on.Given as goal
@@ -16,6 +17,7 @@ invariant-loop-taken g l = record {
   few : AreFew l.counts l._taken;
   failed : 0 < l.counts.failed → Rose (g.D.Disk.fault_count l.initial.disk) (g.D.Disk.fault_count l.disk);
   untold : g.D.Disk.contents l.initial.disk ≡ None → g.D.Disk.contents l.disk ≡ None;
+  named : OpensOnly (g.D.Disk.names l.initial.disk) (g.D.Disk.names l.disk) l.name.now;
   kept : g.W.Wire.kept l.wire ≡ g.W.Wire.kept l.initial.wire;
   later : g.D.Disk.fault_count l.initial.disk ≤ g.D.Disk.fault_count l.disk;
   wire_later : (g.W.Wire.state l.initial.wire).faults ≤ (g.W.Wire.state l.wire).faults;

@@ -1,5 +1,6 @@
 -- The store is open, and the body is looked at; or it could not be opened.
-use Rattle.std.proofs.Common.{inl, inr, refl}
+use Rattle.std.proofs.Common.{inl, inr, refl, subst, sym}
+use Rattle.persist_store.specs.Disk.{OpensOnly}
 use Rattle.keep_loop.proofs.SavingLemmas.{saved_to}
 use Rattle.keep_loop.proofs.looking.look_again.Goals as goal
 
@@ -33,3 +34,7 @@ returns-in-Memory-clause-looked g c = λ x stands. record {
   opens = c.in-Memory.ensures.opens;
   looks = inl (tt, refl);
 }
+
+pub returns-in-Open-clause-named : goal.returns-in-Open-clause-named
+returns-in-Open-clause-named g c =
+    subst (λ names. OpensOnly (g.D.Disk.names c.args.disk.now) names c.args.name.now) (sym c.save_body.ensures.names) c.in-Open.ensures.named

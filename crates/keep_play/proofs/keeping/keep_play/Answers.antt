@@ -1,5 +1,6 @@
 -- How the play over the store ends, seen from before it was opened.
 use Rattle.type_layout.specs.Descriptions.{description_of}
+use Rattle.persist_store.proofs.NameLemmas.{once_behind}
 use Rattle.keep_play.proofs.StoreLemmas.{plays_so, plays_unopened, breaks_unopened}
 use Rattle.keep_play.proofs.keeping.keep_play.Goals as goal
 
@@ -21,3 +22,8 @@ returns-in-Ok-Ready-clause-plays g c =
     c.args.disk.now c.open.new.disk c.play_opened.new.disk c.in-Ok-Ready.opened (description_of c.args.description)
     (g.G.Sources.waves c.args.signals) c.args.script c.play_opened.result c.open.ensures.contents c.open.ensures.stop c.open.ensures.later
     opened.2 c.play_opened.ensures.left c.play_opened.ensures.ends
+
+pub returns-in-Ok-Ready-clause-named : goal.returns-in-Ok-Ready-clause-named
+returns-in-Ok-Ready-clause-named g c =
+    once_behind c.play_opened.result (g.D.Disk.names c.args.disk.now) (g.D.Disk.names c.open.new.disk) (g.D.Disk.names c.play_opened.new.disk) c.args.store.now
+    c.in-Ok-Ready.ensures.named c.play_opened.ensures.names
