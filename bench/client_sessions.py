@@ -31,7 +31,7 @@ def useless(data):
     return Outcome(False, "data", data)
 
 
-ARRAY_ID = Outcome(False, "type id", 65)    # TwinCAT gives an array the id of its elements
+ARRAY_ID = Outcome(False, "type id", 65)    # TwinCAT and the wide server give an array the id of its elements
 
 
 def code(number):
@@ -131,7 +131,7 @@ def system_state(said="port 10000"):
 
 
 def notes_of_version():
-    return [step("a notification on 0xF008", add(0xF008, 0, 1, 4), code(0x702)), step("a notification on 0xF100", add(0xF100, 0, 4, 4), code(0x702))]
+    return [step("a notification on 0xF008", add(0xF008, 0, 1, 4), code(0x702), OK), step("a notification on 0xF100", add(0xF100, 0, 4, 4), code(0x702), OK)]
 
 
 SESSIONS = (
@@ -147,7 +147,7 @@ SESSIONS = (
         step("writes", write_handle("count", COUNT), gives(None)), step("a shorter text written", write_handle("title", b"Mix\0"), gives(None)),
         step("a STRING by name, with a buffer of 1,024 bytes", read_write(0xF004, 0, 1024, b"Main.title\0"), code(0x705), gives(TITLE)),
         step("lists by name", read_write(0xF009, 0, 0xFFFF, b"Main.count\0"), OK), *plain_sums(), *lists(),
-        step("an array in a list by name, without `structure_defs`", read_write(0xF009, 0, 0xFFFF, b"Main.axis\0"), ARRAY_ID),
+        step("an array in a list by name, without `structure_defs`", read_write(0xF009, 0, 0xFFFF, b"Main.axis\0"), ARRAY_ID, OK),
         step("notifications", watch_handle("count", 4), OK), step("notifications", add(DATA, 4, 4, 3), OK), step("handles", release("title"), gives(None))]),
     Session("Home Assistant", OWN_IP, False, [
         handle("handles", b"Main.count\0", "count"), step("values", read_handle("count", 4), gives(COUNT)), step("writes", write_handle("count", COUNT), gives(None)),
@@ -158,7 +158,7 @@ SESSIONS = (
         step("`readRawByPath`", read_write(0xF004, 0, 0xFFFFFFFF, b"Main.title"), code(0x705), gives(TITLE)),
         handle("`createVariableHandle`", b"Main.title\0", "title", useless(None), size=0xFFFFFFFF), step("`readRawByHandle`", read_handle("title", 0xFFFFFFFF), code(0x705), gives(TITLE)),
         step("`subscribeRaw`", add(DATA, 0, 4, 4), OK), step("sums", read_write(0xF080, 2, 16, part() + part()), gives(AGAIN_42)), *lists(), types(),
-        step("a type by its name, 0xF011 (`readValue`)", read_write(0xF011, 0, 0xFFFFFFFF, b"Axis\0"), code(0x702))]),
+        step("a type by its name, 0xF011 (`readValue`)", read_write(0xF011, 0, 0xFFFFFFFF, b"Axis\0"), code(0x702), OK)]),
     Session("node-ads, node-red-contrib-ads", ME, False, [
         step("name and version", INFO, OK), step("state", STATE, OK), handle("handles", b"Main.title\0", "title"), handle("handles", b"Main.count\0", "count"),
         handle("names with a full stop in front", b".Main.count\0", "stop", code(0x710), OK), step("`ads.STRING`, 81 bytes", read_handle("title", 81), code(0x705), gives(TITLE)),

@@ -3,6 +3,7 @@
 It shares nothing with the program or its definitions, and is written for reading, not for speed. `python3 bench/random_runs.py` compares the two over random
 descriptions and scripts. A description is a dict with the keys of its text; a script is a list of events (see `turn`).
 """
+import math
 import re
 import struct
 
@@ -20,6 +21,10 @@ SUMS = (0xF080, 0xF081, 0xF082)
 TOLD_SUMS, NOTE_SUMS = (0xF083, 0xF084), (0xF085, 0xF086)
 RIGHTS = {"read": 1, "write": 2, "control": 3}
 LIVE, WATCHES, QUEUED, RECORDS, MOST = 4096, 512, 4194304, 4096, 2000000
+# The greatest number of elements, and of bytes, of an array.
+LIMIT = 1048576
+# The least and the greatest index of a dimension.
+ENDS = r"(?:0|-?[1-9][0-9]*)\.\.(?:0|-?[1-9][0-9]*)"
 
 
 # Packets to a local router: it is asked for an AMS port, which stands behind (0: any), and for its NetId.
@@ -62,10 +67,10 @@ def type_of(text):
 
 
 class Types:
-    """The named types of a description: structures with the places of their members, and enumerations."""
+    """The named types of a description: structures with the places of their members, and enumerations. To the `wide` server's clients the id of an array is its element's."""
 
-    def __init__(self, listed):
-        self.listed, self.named = listed, {}
+    def __init__(self, listed, wide=False):
+        self.listed, self.named, self.wide = listed, {}, wide
         for entry in listed:
             self.named[entry["name"].lower()] = self.built(entry)
 
@@ -121,6 +126,47 @@ class Types:
             return 30
         it = self.named[kind[1].lower()] if kind[0] == "named" else {}
         return PLAIN[it["base"]][1] if "base" in it else 65
+
+    def told(self, kind):
+        """The type id that the entry of a symbol tells."""
+        return self.number(kind[2] if self.wide and kind[0] == "array" else kind)
+
+    def of_text(self, given):
+        """The type that a text writes, in any case of letters; 0x710 where there is none, or an array is too large."""
+        try:
+            text = given.decode("ascii")
+        except UnicodeDecodeError:
+            raise Refused(0x710) from None
+        array = re.fullmatch(rf"ARRAY \[({ENDS}(?:,{ENDS}){{0,2}})\] OF (.*)", text, re.IGNORECASE | re.DOTALL)
+        if not array:
+            return self.element(text)
+        ends = [tuple(int(word) for word in bound.split("..")) for bound in array[1].split(",")]
+        if any(low > high or low < -2 ** 31 or high >= 2 ** 31 for low, high in ends):
+            raise Refused(0x710)
+        kind = "array", [(low, high - low + 1) for low, high in ends], self.element(array[2])
+        if math.prod(count for _, count in kind[1]) > LIMIT or self.size(kind) > LIMIT:
+            raise Refused(0x710)
+        return kind
+
+    def element(self, text):
+        if text.upper() in PLAIN:
+            return "plain", text.upper()
+        if text.upper() == "STRING":
+            return "text", 80
+        found = re.fullmatch(r"STRING\((0|[1-9][0-9]*)\)", text, re.IGNORECASE)
+        if found and int(found[1]) <= 65534:
+            return "text", int(found[1])
+        if text.lower() not in self.named:
+            raise Refused(0x710)
+        return "named", text
+
+    def entry_of(self, kind):
+        """The entry of any type: of a named one that of the upload."""
+        if kind[0] == "named":
+            return self.entry(self.named[kind[1].lower()])
+        if kind[0] == "array":
+            return type_entry(self.size(kind), 0, self.number(kind[2]), 1, self.text(kind), self.text(kind[2]), "", kind[1], [])
+        return type_entry(self.size(kind), 0, self.number(kind), 1, self.text(kind), "", "", [], [])
 
     def step(self, kind, step):
         """The place of a part within its whole, its type, and its declared name and comment where it is a member."""
@@ -237,7 +283,7 @@ class Port:
     def entry(self, it, at, kind, path, comment):
         texts = [text.encode() for text in (path, self.types.text(kind), comment)]
         flags = (1 if it.get("persistent") else 0) + (0x20 if it.get("read_only") else 0)
-        head = u32(GROUP_OF[it["area"]]) + u32(it["at"] + at) + u32(self.types.size(kind)) + u32(self.types.number(kind)) + u32(flags)
+        head = u32(GROUP_OF[it["area"]]) + u32(it["at"] + at) + u32(self.types.size(kind)) + u32(self.types.told(kind)) + u32(flags)
         rest = b"".join(u16(len(text)) for text in texts) + b"".join(text + b"\0" for text in texts)
         return u32(4 + len(head) + len(rest)) + head + rest
 
@@ -327,7 +373,7 @@ class Server:
         self.describe(d, 1)
 
     def describe(self, d, version):
-        self.d, self.net, self.types, self.version = d, net_of(d["net"]), Types(d.get("type", [])), version
+        self.d, self.net, self.types, self.version = d, net_of(d["net"]), Types(d.get("type", []), self.wide), version
         self.routes = {net_of(route["net"]): RIGHTS[route["rights"]] for route in d.get("route", [])}
         self.ports = {port["port"]: Port(self.types, port, version) for port in d["port"]}
 
@@ -432,6 +478,17 @@ class Server:
         if offset + count > size or count > MOST:
             raise Refused(0x705)
 
+    def own(self, port):
+        """A port's own bytes: ADS state, device state, and the version."""
+        return u16(port.state[0]) + u16(port.state[1]) + bytes([self.version])
+
+    @staticmethod
+    def states(offset, count):
+        if offset > 4:
+            raise Refused(0x703)
+        if offset + count > 4:
+            raise Refused(0x705)
+
     @staticmethod
     def bit(port, area, offset, count):
         if offset // 8 >= len(port.areas[area]):
@@ -450,6 +507,9 @@ class Server:
             area, at, size = self.handle(conn, port, offset)
             count = self.at_most(count, size)
             return bytes(port.areas[area][at:at + count])
+        if group == 0xF100 and self.wide:
+            self.states(offset, count)
+            return self.own(port)[offset:offset + count]
         fixed = {
             **{it: lambda area=area: u32(len(port.areas[area])) for it, area in SIZE_OF.items()},
             0xF008: lambda: bytes([self.version]), 0xF00B: port.upload, 0xF00C: lambda: u32(len(port.symbols)) + u32(len(port.upload())),
@@ -501,6 +561,11 @@ class Server:
         return self.ask(conn, port, group, most, given)
 
     def ask(self, conn, port, group, most, given):
+        if group == 0xF011 and self.wide:
+            entry = self.types.entry_of(self.types.of_text(given.split(b"\0")[0]))
+            if most < len(entry):
+                raise Refused(0x705)
+            return entry
         if group not in (0xF003, 0xF004, 0xF007, 0xF009):
             raise Refused(0x702)
         if (group == 0xF003 and most < 4) or (group == 0xF007 and most < 12):
@@ -581,10 +646,18 @@ class Server:
             raise Refused(0x713)
         if count > 2048:
             raise Refused(0x717)
-        if group not in BYTES_OF and group not in BITS_OF and group != 0xF005:
+        own = self.wide and group in (0xF008, 0xF100)
+        if group not in BYTES_OF and group not in BITS_OF and group != 0xF005 and not own:
             raise Refused(0x702)
         bit = None
-        if group == 0xF005:
+        if own and group == 0xF008:
+            area, at = None, 4
+            if count != 1:
+                raise Refused(0x705)
+        elif own:
+            area, at = None, offset
+            self.states(offset, count)
+        elif group == 0xF005:
             area, at, size = self.handle(conn, port, offset)
             if count > size:
                 raise Refused(0x705)
@@ -641,7 +714,8 @@ class Server:
             if watch["last"] is not None and self.moment - watch["last"] < max(watch["cycle"], 1):
                 continue
             port = self.ports[watch["port"]]
-            given = bytes(port.areas[watch["area"]][watch["at"]:watch["at"] + watch["size"]])
+            held = self.own(port) if watch["area"] is None else port.areas[watch["area"]]
+            given = bytes(held[watch["at"]:watch["at"] + watch["size"]])
             if watch["bit"] is not None:
                 given = bytes([given[0] >> watch["bit"] & 1])
             if watch["last"] is None or watch["mode"] == 3 or given != watch["sent"]:
@@ -673,6 +747,11 @@ class Server:
                 it["outdated"] = it["outdated"] or (it["port"], it["symbol"]) not in kept
             ended = []
             for number, watch in sorted(conn.watches.items()):
+                if watch["area"] is None:
+                    if watch["port"] not in self.ports:
+                        ended.append((number, watch, b""))
+                        del conn.watches[number]
+                    continue
                 covering = old[watch["port"]].covering(watch["area"], watch["at"], watch["size"])
                 was = covering[0] if len(covering) == 1 else None
                 whole = was and was["at"] <= watch["at"] and watch["at"] + watch["size"] <= was["at"] + was["size"]

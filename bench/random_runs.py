@@ -213,6 +213,16 @@ def count(r, near):
     return max(0, r.choice((near, near, near, near + 1, near - 1, 0, 1, 4, 2 ** 32 - 1, r.randrange(64))))
 
 
+def a_type_text(r, d):
+    """A text that may be that of a type, with or without its NUL."""
+    names = [it["name"] for it in d.get("type", [])] + ["DINT", "STRING", "STRING(7)", "BOOL", "none"]
+    text = r.choice(names)
+    if r.random() < 0.4:
+        bounds = ",".join(f"{low}..{low + r.choice((0, 1, 2, 900))}" for low in (r.randrange(-3, 4) for _ in range(r.choice((1, 1, 2, 3, 4)))))
+        text = f"ARRAY [{bounds}] OF {text}"
+    return r.choice((text, text.lower(), text.upper())).encode() + r.choice((b"", b"\0", b"\0\0x"))
+
+
 def a_path(r, d):
     """A name that may be a symbol's, or a part's."""
     port = r.choice(d["port"])
@@ -294,8 +304,9 @@ def request(r, d, handles, in_sum=False, notes=True):
 def asked(r, d, handles, in_sum):
     u32 = model.u32
     if in_sum or r.random() < 0.75:
-        group, given = 0xF002 if r.random() < 0.03 else r.choice((0xF003, 0xF003, 0xF003, 0xF004, 0xF007, 0xF009)), a_path(r, d)
-        most = {0xF003: 4, 0xF004: r.choice((1, 2, 4, 8, 0)), 0xF007: 12, 0xF009: 400}.get(group, 9)
+        group = 0xF002 if r.random() < 0.03 else r.choice((0xF003, 0xF003, 0xF003, 0xF004, 0xF007, 0xF009, 0xF011))
+        given = a_type_text(r, d) if group == 0xF011 else a_path(r, d)
+        most = {0xF003: 4, 0xF004: r.choice((1, 2, 4, 8, 0)), 0xF007: 12, 0xF009: 400, 0xF011: 5000}.get(group, 9)
         return u32(group) + u32(r.randrange(3)) + u32(most if r.random() < 0.8 else r.choice((3, 11, 13, 50, 2000))) + u32(len(given)) + given
     group, heads, data, most = r.choice(model.SUMS), b"", b"", 0
     some = r.choice((0, 1, 2, 5, 9))

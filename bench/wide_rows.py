@@ -146,6 +146,73 @@ def modes():
         yield row(f"Mode {mode} is none.", (add(1, 0x4040, 0, 4, mode), refused(1, 0x713, 6)))
 
 
+def control(number, ads, device=0):
+    return frame(5, number, u16(ads) + u16(device) + u32(0))
+
+
+def own():
+    """A port's own bytes: its state words, by 0xF100, and the version of its symbols, by 0xF008."""
+    yield row("The state words by their group: both, one, and a part; none of them at their end.", (read(1, 0xF100, 0, 4), given(1, u16(5) + u16(0))), (read(2, 0xF100, 2, 2), given(2, u16(0))),
+              (read(3, 0xF100, 0, 1), given(3, b"\5")), (read(4, 0xF100, 4, 0), given(4, b"")))
+    yield row("An offset behind them, and more bytes than stand there, are refused; they are not written by their group.", (read(1, 0xF100, 5, 0), refused(1, 0x703)), (read(2, 0xF100, 0, 5), refused(2, 0x705)),
+              (read(3, 0xF100, 3, 0xFFFFFFFF), refused(3, 0x705)), (write(4, 0xF100, 0, u16(6)), refused(4, 0x702, 3)), (ask(5, 0xF100, 0, 4, b""), refused(5, 0x702, 9)))
+    yield row("As a part of a sum of reads.", (ask(1, 0xF080, 2, 13, u32(0xF100) + u32(0) + u32(4) + u32(0xF008) + u32(0) + u32(1)), given(1, u32(0) * 2 + u16(5) + u16(0) + b"\1", 9)))
+    yield row("A notification on the state tells what a control sets, at the tick behind it.", (add(1, 0xF100, 0, 4), added(1, 1)), (("tick", 1000), stamp(1000, (1, u16(5) + u16(0)))), (("tick", 2000),),
+              (control(2, 6, 7), done(2, 5)), (read(3, 0xF100, 0, 4), given(3, u16(6) + u16(7))), (("tick", 3000), stamp(3000, (1, u16(6) + u16(7)))))
+    yield row("A notification on the version tells a reload, at the tick behind it, and one on the state goes on.", (add(1, 0xF008, 99, 1), added(1, 1)),
+              (add(2, 0xF100, 0, 2), added(2, 2)), (("tick", 1000), stamp(1000, (1, b"\1"), (2, u16(5)))), (("reload", PLANT2), "reload ok 2"), (("tick", 2000), stamp(2000, (1, b"\2"))),
+              (read(3, 0xF008, 0, 1), given(3, b"\2")))
+    yield row("A notification on other bytes than these is refused, in the order of the checks of every addition.", (add(1, 0xF008, 0, 2), refused(1, 0x705, 6)), (add(2, 0xF008, 0, 0), refused(2, 0x705, 6)),
+              (add(3, 0xF100, 5, 1), refused(3, 0x703, 6)), (add(4, 0xF100, 3, 2), refused(4, 0x705, 6)), (add(5, 0xF100, 0, 0), refused(5, 0x705, 6)), (add(6, 0xF100, 9, 4, 7), refused(6, 0x713, 6)),
+              (add(7, 0xF100, 9, 2049), refused(7, 0x717, 6)))
+
+
+AXIS = bytes.fromhex(
+    "d7000000 01000000 00000000 00000000 10000000 00000000 41000000 01000000 0400 0000 0000 0000 0300 4178697300 00 00"
+    "37000000 01000000 00000000 00000000 01000000 00000000 21000000 02000000 0600 0400 0000 0000 0000 61637469766500 424f4f4c00 00"
+    "34000000 01000000 00000000 00000000 04000000 04000000 03000000 02000000 0300 0400 0000 0000 0000 706f7300 44494e5400 00"
+    "3b000000 01000000 00000000 00000000 06000000 08000000 1e000000 02000000 0500 0900 0000 0000 0000 6c6162656c00 535452494e4728352900 00")
+
+
+def entry(size, number, name, kind=b"", *dims):
+    """The entry of a type without members."""
+    texts = name + b"\0" + kind + b"\0\0" + b"".join(low.to_bytes(4, "little", signed=True) + u32(count) for low, count in dims)
+    return u32(42 + len(texts)) + u32(1) + u32(0) * 2 + u32(size) + u32(0) + u32(number) + u32(1) + u16(len(name)) + u16(len(kind)) + u16(0) + u16(len(dims)) + u16(0) + texts
+
+
+def typed(number, text, most=0xFFFFFFFF):
+    return ask(number, 0xF011, 0, most, text)
+
+
+def types():
+    """The entry of a type by its text (0xF011), and the id of an array."""
+    dint = entry(4, 3, b"DINT")
+    yield row("The entry of a structure by its name, in any case of letters: that of the type list.", (typed(1, b"Axis\0"), given(1, AXIS, 9)), (typed(2, b"aXIS", 215), given(2, AXIS, 9)),
+              (read(3, 0xF00E, 0, 215), given(3, AXIS)))
+    yield row("A plain type and a text have no text of a type.", (typed(1, b"dint\0"), given(1, dint, 9)), (typed(2, b"String"), given(2, entry(81, 30, b"STRING(80)"), 9)),
+              (typed(3, b"STRING(65534)"), given(3, entry(65535, 30, b"STRING(65534)"), 9)))
+    yield row("An array has its element's text and id, and its bounds.", (typed(1, b"ARRAY [1..3] OF Axis\0"), given(1, entry(48, 65, b"ARRAY [1..3] OF Axis", b"Axis", (1, 3)), 9)),
+              (typed(2, b"array [-1..0,0..2,5..5] of int"), given(2, entry(12, 2, b"ARRAY [-1..0,0..2,5..5] OF INT", b"INT", (-1, 2), (0, 3), (5, 1)), 9)),
+              (typed(3, b"ARRAY [-2147483648..-2147483648] OF STRING(7)"), given(3, entry(8, 30, b"ARRAY [-2147483648..-2147483648] OF STRING(7)", b"STRING(7)", (-2147483648, 1)), 9)))
+    yield row("An array of 1,048,576 bytes is one, of more it is none.", (typed(1, b"ARRAY [0..1048575] OF BYTE"), given(1, entry(1048576, 17, b"ARRAY [0..1048575] OF BYTE", b"BYTE", (0, 1048576)), 9)),
+              (typed(2, b"ARRAY [0..1048576] OF BYTE"), refused(2, 0x710, 9)), (typed(3, b"ARRAY [0..524288] OF INT"), refused(3, 0x710, 9)),
+              (typed(4, b"ARRAY [-2147483648..2147483647,-2147483648..2147483647,-2147483648..2147483647] OF Axis"), refused(4, 0x710, 9)),
+              (typed(5, b"ARRAY [0..65535] OF Axis"), given(5, entry(1048576, 65, b"ARRAY [0..65535] OF Axis", b"Axis", (0, 65536)), 9)), (typed(6, b"ARRAY [0..65536] OF Axis"), refused(6, 0x710, 9)))
+    for number, text in enumerate((b"Nothing\0", b"", b"\0Axis", b"Axis ", b".Axis", b"ARRAY", b"STRING(65535)", b"STRING(07)", b"STRING()", b"ARRAY [3..1] OF INT", b"ARRAY [0..1]OF INT",
+                                   b"ARRAY [0..1,0..1,0..1,0..1] OF INT", b"ARRAY [] OF INT", b"ARRAY [0..2147483648] OF INT", b"ARRAY [0..1] OF ARRAY [0..1] OF INT", b"ARRAY [0..1] OF Nothing",
+                                   b"\xc4xis"), 1):
+        yield row(f"No type: {text!r}.", (typed(number, text), refused(number, 0x710, 9)))
+    yield row("Room for one byte less than the entry is refused, behind the name.", (typed(1, b"Axis", 214), refused(1, 0x705, 9)), (typed(2, b"DINT", 48), refused(2, 0x705, 9)),
+              (typed(3, b"Axis", 0), refused(3, 0x705, 9)), (typed(4, b"Nothing", 0), refused(4, 0x710, 9)))
+    yield row("A part of a sum gives an entry too; by another command the group is none.",
+              (ask(1, 0xF082, 2, 114, u32(0xF011) + u32(0) + u32(49) + u32(4) + u32(0xF011) + u32(0) + u32(49) + u32(5) + b"DINTDINU\0"), given(1, u32(0) + u32(49) + u32(0x710) + u32(0) + dint, 9)),
+              (read(2, 0xF011, 0, 215), refused(2, 0x702)), (write(3, 0xF011, 0, b"Axis"), refused(3, 0x702, 3)))
+    yield row("A client that may only read is told types too.", (frame(9, 1, u32(0xF011) + u32(0) + u32(49) + u32(4) + b"DINT", source=OTHER), reply(9, 1, u32(0) + u32(49) + dint, to=OTHER)))
+    yield row("A reload brings the types of its description.", (("reload", PLANT2), "reload ok 2"), (typed(1, b"Axis"), given(1, AXIS, 9)))
+    yield row("The entry of an array tells its element's id.", (by_name(1, b"Main.axis", 0xF009, 64), given(1, u32(62) + u32(0x4040) + u32(8) + u32(48) + u32(65) + u32(0) + u16(9) + u16(20) + u16(0)
+              + b"Main.axis\0ARRAY [1..3] OF Axis\0\0", 9)))
+
+
 STRANGER = "9.9.9.9.1.1"
 
 
@@ -162,4 +229,5 @@ def others():
     yield row("A reload leaves others their right.", (("reload", PLANT2), "reload ok 2"), (frame(4, 1, b"", source=STRANGER), reply(4, 1, u32(0) + u16(5) + u16(0), to=STRANGER)), (writes, barred), others="read")
 
 
-SUBJECTS = {"wide_longer": longer, "wide_sums": sums, "wide_alike": alike, "wide_reloads": reloads, "wide_names": names, "wide_modes": modes, "wide_others": others}
+SUBJECTS = {"wide_longer": longer, "wide_sums": sums, "wide_alike": alike, "wide_reloads": reloads, "wide_names": names, "wide_modes": modes, "wide_own": own, "wide_others": others,
+            "wide_types": types}

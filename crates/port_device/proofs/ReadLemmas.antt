@@ -1,5 +1,5 @@
 -- Which act a read of a group is, and what is answered to it.
-use Rattle.std.proofs.Common.{◌≡◌, ℕ, ◌+◌, ◌<◌, List, [], ◌∷◌, ◌++◌, true, false, refl, sym, ◌∙◌, ap, subst, arith}
+use Rattle.std.proofs.Common.{◌≡◌, ℕ, ◌+◌, ◌<◌, List, [], ◌∷◌, ◌++◌, map, take, drop, true, false, refl, sym, ◌∙◌, ap, subst, arith}
 use Rattle.std.specs.Prelude.{Bool, Option, Some, None, Result, Ok, Err, IfOk, nat_lt, nat_le, ◌==◌, ◌||◌, ◌/◌, ◌%◌, if◌then◌else◌}
 use Rattle.ads_base.specs.declared.no_memory.NoMemory.{NoMemory}
 use Rattle.std.specs.Int.{w32, to_le_bytes}
@@ -12,7 +12,10 @@ use Rattle.spec_plant.specs.World.{PlantPort}
 use Rattle.spec_formats.specs.Codes.{invalid_offset, invalid_size}
 use Rattle.spec_formats.specs.Groups.{Group, AreaBytes, AreaBit, AreaSize, SymbolVersion, group_of}
 use Rattle.spec_formats.specs.Ranges.{Range, Bytes, Bit, Size, greatest_len, byte_range, bit_range, size_range, range_in, range_of}
-use Rattle.spec_machine.specs.World.{World, Setup}
+use Rattle.spec_machine.specs.World.{World, Setup, own_names, own_bytes}
+use Rattle.spec_machine.specs.Access.{Addressed, WholeByte}
+use Rattle.spec_machine.specs.MoreActs.{states_reach}
+use Rattle.spec_machine.proofs.PortBytesLemmas.{reads_own}
 use Rattle.spec_machine.specs.Client as client
 use Rattle.spec_machine.specs.Acts.{Act, Refusal, fixed_data}
 use Rattle.spec_machine.specs.Reach.{addressed_by_range, reach_of}
@@ -141,3 +144,13 @@ version_read w len old new h e =
     let enough : nat_lt len 1 ≡ false = is_false (nat_lt len 1) (λ t. omega (arith, ltb-true len 1 t, h)) in
     answers_along w (fixed_data (w.version ∷ [])) (fixed_reply len (w.version ∷ [])) (Ok tt) old new
     (ap (λ b. if b then Refusal invalid_size else fixed_data (w.version ∷ [])) enough) (refl, e)
+
+-- bytes of the state words
+pub states_read : (w : World) (p : PlantPort) (m : PortMemory) (first len : ℕ) (old new : List ℕ) → HoldsPort w p m → first + len ≤ 4
+    → states_reach p.number first len ≡ Ok (map WholeByte (own_names p.number first len))
+    → new ≡ old ++ take len (drop first (own_bytes m.bytes.ads m.bytes.device m.bytes.version))
+    → AnswersAct w (read_act (states_reach p.number first len)) (Ok tt) old new
+states_read w p m first len old new h within reached is =
+    let P : Result (List Addressed) ℕ → Type 0 = λ r. AnswersAct w (read_act r) (Ok tt) old new in
+    let bytes = reads_own w.memory p m.bytes first len h.holds (omega (arith, within)) in
+    subst P (sym reached) (refl, is ∙ ap (λ bs. old ++ bs) (sym bytes))

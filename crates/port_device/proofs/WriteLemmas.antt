@@ -31,17 +31,17 @@ refused w p m act code h e =
     let own : EndsAs w p (Refusal (number_of code)) (Err code) m = record { code = refl; holds = h } in
     let P : Act → Type 0 = λ a. EndsAs w p a (Err code) m in subst P (sym e) own
 
--- the port holds the world after an act that leaves these bytes
-pub holds_after : (w : World) (p : PlantPort) (m : PortMemory) (act : Act) (b : PortBytes) → HoldsPort w p m → Holds (memory_after w.memory act) p b
+-- the port holds the world after an act that leaves these bytes, with the same version
+pub holds_after : (w : World) (p : PlantPort) (m : PortMemory) (act : Act) (b : PortBytes) → HoldsPort w p m → b.version ≡ m.bytes.version → Holds (memory_after w.memory act) p b
     → HoldsPort (world_after_act w act) p (record m { bytes = b })
-holds_after w p m act b h after = record {
+holds_after w p m act b h same after = record {
   port = h.port;
   plant = h.plant;
   table = h.table;
   number = h.number;
   facts = h.facts;
   types = h.types;
-  version = h.version;
+  version = same ∙ h.version;
   manner = h.manner;
   plant_sound = h.plant_sound;
   sound = h.sound;
@@ -49,12 +49,12 @@ holds_after w p m act b h after = record {
 }
 
 -- an act that is permitted puts
-pub put : (w : World) (k : Asker) (m : PortMemory) (bytes : List ℕ) (places : List Addressed) (b : PortBytes) → HoldsPort w k.port m
+pub put : (w : World) (k : Asker) (m : PortMemory) (bytes : List ℕ) (places : List Addressed) (b : PortBytes) → HoldsPort w k.port m → b.version ≡ m.bytes.version
     → are_writable k.address.net k.port places ≡ true → Holds (memory_after w.memory (writing (puts_of places bytes))) k.port b
     → EndsAs w k.port (write_act k bytes (Ok places)) (Ok tt) (record m { bytes = b })
-put w k m bytes places b h may after =
+put w k m bytes places b h same may after =
     let act : Act = writing (puts_of places bytes) in
-    let own : EndsAs w k.port act (Ok tt) (record m { bytes = b }) = record { code = refl; holds = holds_after w k.port m act b h after } in
+    let own : EndsAs w k.port act (Ok tt) (record m { bytes = b }) = record { code = refl; holds = holds_after w k.port m act b h same after } in
     let P : Act → Type 0 = λ a. EndsAs w k.port a (Ok tt) (record m { bytes = b }) in
     let e : write_act k bytes (Ok places) ≡ act = ap (λ t. if t then act else Refusal not_permitted) may in
     subst P (sym e) own
@@ -76,7 +76,7 @@ bytes_put w k m area offset bytes h within may =
     → Type 0 = λ x. EndsAs w k.port (write_act k bytes (Ok places)) (Ok tt) (with_image m (with_image_bytes x m.bytes.image area offset bytes)) in
     let after = writes_image w.memory k.port m.bytes area offset (length bytes) bytes h.sound.names h.holds there (omega arith) in
     let b = m.bytes in
-    subst Q e (put w k m bytes places (record b { image = with_image_bytes k.port.sizes m.bytes.image area offset bytes }) h
+    subst Q e (put w k m bytes places (record b { image = with_image_bytes k.port.sizes m.bytes.image area offset bytes }) h refl
     (((writes_by_symbols k.address.net w.plant.ports k.port area offset h.sound).bytes (length bytes)).1 may) after)
 
 pub bytes_not_put : (w : World) (k : Asker) (m : PortMemory) (area : Area) (offset : ℕ) (bytes : List ℕ) → HoldsPort w k.port m
@@ -101,7 +101,7 @@ bit_put w k m area offset bit value h within may =
     let after = writes_bit w.memory k.port m.bytes area offset bit value h.sound.names h.holds there in
     let b = m.bytes in
     subst Q e (put w k m (value ∷ []) places
-    (record b { image = with_nth_byte m.bytes.image (start_in k.port.sizes area + offset) (with_bit bit (min value 1)) }) h
+    (record b { image = with_nth_byte m.bytes.image (start_in k.port.sizes area + offset) (with_bit bit (min value 1)) }) h refl
     (((writes_by_symbols k.address.net w.plant.ports k.port area offset h.sound).bit bit).1 may) after)
 
 pub bit_not_put : (w : World) (k : Asker) (m : PortMemory) (area : Area) (offset bit value : ℕ) → HoldsPort w k.port m
@@ -121,7 +121,7 @@ control_put w k m ads device h may is_state =
     let act : Act = writing (puts_of (map WholeByte (state_names k.port)) (state_bytes ads device)) in
     let set_ : PortBytes = record b { ads = ads; device = device } in
     let own : EndsAs w k.port act (Ok tt) (record m { bytes = set_ })
-    = record { code = refl; holds = holds_after w k.port m act set_ h (sets_states w.memory k.port m.bytes ads device h.holds) } in
+    = record { code = refl; holds = holds_after w k.port m act set_ h refl (sets_states w.memory k.port m.bytes ads device h.holds) } in
     rw (may, is_state) own
 
 pub control_denied : (k : Asker) (ads device : ℕ) → may_control k.rights ≡ false → control_act k ads device ≡ Refusal not_permitted

@@ -32,9 +32,9 @@ pub record IsAsker (k : Asker) (rights : Rights) (net : List ℕ) : Type 0 where
   pub net_is : k.address.net ≡ net
   pub rights_are : k.rights ≡ rights
 
--- only the bytes of a port may be others
+-- only the bytes of a port may be others, and not the version
 abbrev pub KeepsDescription : PortMemory → PortMemory → Type 0
-KeepsDescription old new = new ≡ record old { bytes = new.bytes }
+KeepsDescription old new = let b = new.bytes in new ≡ record old { bytes = record b { version = old.bytes.version } }
 
 -- a write to a range: rights are looked at first
 abbrev pub range_write_act : Asker → Result Range ℕ → List ℕ → Act

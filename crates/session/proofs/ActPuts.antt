@@ -10,14 +10,14 @@ use Rattle.spec_formats.specs.Codes.{symbol_not_found, no_more_notifications, wa
 use Rattle.spec_formats.specs.Codes.{notification_handle_invalid}
 use Rattle.spec_formats.specs.Numbers.{number32}
 use Rattle.spec_formats.specs.Groups.{Group, AreaBytes, AreaBit, ValueByHandle, ReleaseHandle, HandleByName, SumRead, SumWrite, SumReadWrite}
-use Rattle.spec_formats.specs.Ranges.{Range, Bytes, Bit, Size, range_in, greatest_len}
+use Rattle.spec_formats.specs.Ranges.{Range, Bytes, Bit, Size, range_in}
 use Rattle.spec_formats.specs.Request.{Request, ReadDeviceInfo, Read, Write, ReadState, WriteControl}
 use Rattle.spec_formats.specs.Request.{AddDeviceNotification, DeleteDeviceNotification, DeviceNotification}
 use Rattle.spec_formats.specs.Request.{ReadWrite}
 use Rattle.spec_machine.specs.World.{Setup, numbers_from, state_names, state_bytes, RUN, STOP}
 use Rattle.spec_machine.specs.Access.{Addressed, WholeByte, addressed_name, Put, puts_of}
-use Rattle.spec_machine.specs.Acts.{Act, Refusal, Allowed, fixed_data, writing, changing}
-use Rattle.spec_machine.specs.Reads.{fixed_reply, read_act, read_group}
+use Rattle.spec_machine.specs.Acts.{Act, Refusal, Allowed, writing, changing}
+use Rattle.spec_machine.specs.Reads.{read_act, read_group}
 use Rattle.std.specs.Int.{w32, to_le_bytes}
 use Rattle.port_device.specs.Groups.{without_handles}
 use Rattle.spec_machine.specs.Answers.{answered_group, READ, WRITE, ADD_DEVICE_NOTIFICATION, READ_WRITE}
@@ -27,12 +27,9 @@ use Rattle.spec_machine.specs.Watches.{Mode}
 use Rattle.spec_machine.specs.Client.{Client, Place, names_of_place, Grants, Releases, Adds, Deletes}
 use Rattle.spec_machine.specs.Handles.{HandleStatus, Never, Released, Outdated, Live, kept_status, live_count}
 use Rattle.spec_machine.specs.Reach.{addressed_by_range, addressed_by_status, addressed_in_place, reach_of}
-use Rattle.spec_machine.specs.Meanings.{up_to_nul, meant_by}
-use Rattle.spec_machine.specs.TypesByText.{tree_of_text, entry_by_type}
-use Rattle.spec_machine.specs.MoreActs.{if_type, type_act, states_reach, version_reach}
+use Rattle.spec_machine.specs.Meanings.{meant_by}
+use Rattle.spec_machine.specs.MoreActs.{type_act, states_reach, version_reach}
 use Rattle.spec_machine.proofs.MoreActs.{act-cases}
-use Rattle.spec_plant.specs.Trees.{TypeTree}
-use Rattle.spec_formats.specs.TypeEntry.{type_upload_bytes}
 use Rattle.spec_machine.specs.Requests.{MAX_WATCHED, MAX_WATCHES, mode_of, next_watch, add_watch, add_reached, add_of_reach, add_act}
 use Rattle.spec_machine.specs.Requests.{is_watch_of, delete_act, plain_act, act_of}
 use Rattle.spec_machine.specs.Sums.{SumRequest, sum_of_reads, sum_of_writes, sum_of_read_writes, given_in_turn}
@@ -42,7 +39,7 @@ use Rattle.spec_machine.specs.WorldBytes.{AreAtPort}
 use Rattle.spec_machine.specs.Writes.{Asker, may_write, may_control, are_writable, is_releasable, write_act, release_act, write_group, control_act}
 use Rattle.spec_machine.proofs.AreaNames.{names_are_of_areas}
 use Rattle.spec_machine.proofs.WorldBytes.{areas_are_at_their_ports}
-use Rattle.session.proofs.GrantLemmas.{IsIdle, port-idle}
+use Rattle.session.proofs.GrantLemmas.{IsIdle, port-idle, type_act-idle}
 use Rattle.session.proofs.SingleLemmas.{reached-idle, read-idle}
 use Rattle.session.proofs.OtherPorts.{PutsAt, PutAllAt}
 
@@ -141,13 +138,13 @@ found-nothing : (c : Client) (p : PlantPort) (o : Option Found) → WritesNothin
 found-nothing c p None = tt
 found-nothing c p (Some f) = grant-nothing c p (place_of f)
 
-named-nothing : (c : Client) (p : PlantPort) (g : Option Group) (len : ℕ) (name : List ℕ) → WritesNothing (read_write_group c p g len name)
+named-nothing : (d : Setup) (c : Client) (p : PlantPort) (g : Option Group) (len : ℕ) (name : List ℕ) → WritesNothing (read_write_group d c p g len name)
 unfolding read_write_group
-named-nothing c p (Some HandleByName) len name =
+named-nothing d c p (Some HandleByName) len name =
     if-nothing (nat_lt len 4) (Refusal invalid_size)
     (if_found (found_of p.symbols name) (λ f. grant_act c p (place_of f))) tt (found-nothing c p (found_of p.symbols name))
-named-nothing c p (Some ValueByHandle) len name = tt
-named-nothing c p g len name = idle-nothing (read_write_group c p (without_handles g) len name) (port-idle c p g len name)
+named-nothing d c p (Some ValueByHandle) len name = tt
+named-nothing d c p g len name = idle-nothing (read_write_group d c p (without_handles g) len name) (port-idle d c p g len name)
 
 reached-nothing : (c : Client) (k : Asker) (mode : Mode) (len cycle : ℕ) (r : Result (List Addressed) ℕ) → WritesNothing (add_reached c k mode len cycle r)
 reached-nothing c k mode len cycle (Err code) = tt
@@ -195,15 +192,8 @@ plain-at d c k (AddDeviceNotification group offset len mode delay cycle) =
 plain-at d c k (DeleteDeviceNotification handle) = nothing-at k.port.number (delete_act c k handle) (delete-nothing c k handle)
 plain-at d c k (DeviceNotification bytes) = tt
 plain-at d c k (ReadWrite group offset len bytes) =
-    nothing-at k.port.number (read_write_group c k.port (answered_group READ_WRITE group) len bytes)
-    (named-nothing c k.port (answered_group READ_WRITE group) len bytes)
-
-type-nothing : (len : ℕ) (o : Option TypeTree) → WritesNothing (if_type o len)
-type-nothing len None = tt
-type-nothing len (Some tree) =
-    let bytes = type_upload_bytes (entry_by_type tree ∷ []) in
-    if-nothing (nat_lt greatest_len (length bytes)) (Refusal invalid_size) (fixed_reply len bytes) tt
-    (if-nothing (nat_lt len (length bytes)) (Refusal invalid_size) (fixed_data bytes) tt refl)
+    nothing-at k.port.number (read_write_group d c k.port (answered_group READ_WRITE group) len bytes)
+    (named-nothing d c k.port (answered_group READ_WRITE group) len bytes)
 
 pub act-at : (d : Setup) (c : Client) (k : Asker) (r : Request) → PutsAt k.port.number (act_of d c k r)
 act-at d c k r =
@@ -219,7 +209,8 @@ act-at d c k r =
           nothing-at k.port.number (add_of_reach c k len cycle mode (version_reach k.port.number len))
           (add-nothing c k len cycle mode (version_reach k.port.number len));
       types = λ len bytes.
-          nothing-at k.port.number (type_act d.plant len bytes) (type-nothing len (tree_of_text d.plant.types (up_to_nul bytes)));
+          let act = type_act d.plant len bytes in
+          nothing-at k.port.number act (idle-nothing act (type_act-idle d.plant len bytes));
     })
     r (plain-at d c k (meant_by d.profile c k.port r))
 

@@ -9,7 +9,9 @@ use Rattle.spec_formats.specs.Codes.{not_permitted, general_device_error, invali
 use Rattle.spec_formats.specs.Groups.{Group, AreaBytes, AreaBit, ValueByHandle, ReleaseHandle, HandleByName}
 use Rattle.spec_formats.specs.Numbers.{number32}
 use Rattle.spec_formats.specs.Request.{Read, Write, ReadWrite}
-use Rattle.spec_machine.specs.World.{setup_of}
+use Rattle.spec_machine.specs.World.{Setup, setup_of}
+use Rattle.spec_machine.specs.MoreActs.{type_act, more_read_write}
+use Rattle.spec_machine.proofs.MoreActs.{of_more, read_write-more}
 use Rattle.spec_machine.specs.Acts.{Act, Refusal, Allowed, changing, effect_of}
 use Rattle.spec_machine.specs.Answers.{answered_group}
 use Rattle.spec_machine.specs.ByName.{MAX_LIVE, MAX_NUMBER, place_of, grant_act, if_found, read_write_group}
@@ -22,7 +24,7 @@ use Rattle.spec_machine.specs.Access.{Addressed}
 use Rattle.port_device.specs.Groups.{without_handles}
 use Rattle.session.specs.Asking.{Asking, act_asked}
 use Rattle.session.specs.Single.{SameNotes}
-use Rattle.session.proofs.GrantLemmas.{IsIdle, port-idle}
+use Rattle.session.proofs.GrantLemmas.{IsIdle, port-idle, type_act-idle}
 use Rattle.session.proofs.SingleLemmas.{read-act-idle}
 use Rattle.session.proofs.WriteLemmas.{permitted-quiet}
 
@@ -97,13 +99,18 @@ least-effect : (b : Bool) (act : Act) → IsOfHandles (effect_of act) → IsOfHa
 least-effect true act h = tt
 least-effect false act h = h
 
-named-effect : (c : Client) (p : PlantPort) (g : Option Group) (len : ℕ) (name : List ℕ) → IsOfHandles (effect_of (read_write_group c p g len name))
+named-effect : (d : Setup) (c : Client) (p : PlantPort) (g : Option Group) (len : ℕ) (name : List ℕ) → IsOfHandles (effect_of (read_write_group d c p g len name))
 unfolding read_write_group
-named-effect c p (Some HandleByName) len name =
+named-effect d c p (Some HandleByName) len name =
     least-effect (nat_lt len 4) (if_found (found_of p.symbols name) (λ f. grant_act c p (place_of f))) (found-effect c p (found_of p.symbols name))
-named-effect c p (Some ValueByHandle) len name = tt
-named-effect c p g len name = idle-effect (read_write_group c p (without_handles g) len name) (port-idle c p g len name)
+named-effect d c p (Some ValueByHandle) len name = tt
+named-effect d c p g len name = idle-effect (read_write_group d c p (without_handles g) len name) (port-idle d c p g len name)
 
 pub read_write-effect : (a : Asking) (group offset len : ℕ) (bytes : List ℕ) → IsOfHandles (effect_of (act_asked a (ReadWrite group offset len bytes)))
 unfolding act_of plain_act
-read_write-effect a group offset len bytes = named-effect a.client a.asker.port (answered_group _ group) _ _
+read_write-effect a group offset len bytes =
+    let d = setup_of a.world in
+    let P : Act → Type 0 = λ act. IsOfHandles (effect_of act) in
+    of_more P (more_read_write d.profile.manner d group len bytes) _
+    (read_write-more P d.profile.manner d group len bytes (idle-effect (type_act d.plant len bytes) (type_act-idle d.plant len bytes)))
+    (named-effect d a.client a.asker.port (answered_group _ group) _ _)

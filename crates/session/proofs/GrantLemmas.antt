@@ -10,7 +10,10 @@ use Rattle.return_codes.specs.declared.code.Code.{Code}
 use Rattle.return_codes.specs.declared.code.Code.TheVariants.{C700, C705}
 use Rattle.return_codes.specs.Code.{number_of}
 use Rattle.spec_plant.specs.Finding.{Found, found_of}
-use Rattle.spec_plant.specs.World.{PlantPort}
+use Rattle.spec_plant.specs.World.{Plant, PlantPort}
+use Rattle.spec_plant.specs.Trees.{TypeTree}
+use Rattle.spec_formats.specs.TypeEntry.{type_upload_bytes}
+use Rattle.spec_formats.specs.Ranges.{greatest_len}
 use Rattle.spec_formats.specs.Codes.{general_device_error, invalid_size}
 use Rattle.spec_formats.specs.Groups.{Group, HandleByName, ValueByName, InfoByName, ExtendedInfoByName, group_of}
 use Rattle.spec_formats.specs.SymbolEntry.{entry_bytes}
@@ -18,7 +21,10 @@ use Rattle.spec_machine.specs.Entries.{entry_of_part}
 use Rattle.spec_machine.specs.Reads.{fixed_reply}
 use Rattle.spec_formats.specs.Request.{ReadWrite}
 use Rattle.spec_laws.proofs.ShortActs.{no_more_than_asked}
-use Rattle.spec_machine.specs.World.{World, setup_of}
+use Rattle.spec_machine.specs.World.{World, Setup, setup_of}
+use Rattle.spec_machine.specs.Meanings.{up_to_nul}
+use Rattle.spec_machine.specs.TypesByText.{tree_of_text, entry_by_type}
+use Rattle.spec_machine.specs.MoreActs.{if_type, type_act}
 use Rattle.spec_machine.specs.Access.{Put, WholeByte, memory_after_puts}
 use Rattle.spec_machine.specs.Acts.{Act, Refusal, Allowed, fixed_data, reading, changing, outcome_of}
 use Rattle.spec_machine.specs.Answers.{if_answered, answered_group, READ_WRITE}
@@ -48,26 +54,26 @@ use Rattle.session.proofs.ReadLemmas.{answered-len}
 
 -- which act it is
 
-handle-group : (c : client.Client) (p : PlantPort) (g : Option Group) (len : ℕ) (name : List ℕ) → is_handle_by_name g ≡ true
-    → read_write_group c p (option_and_then (if_answered READ_WRITE) g) len name ≡ read_write_group c p (Some HandleByName) len name
-handle-group c p (Some HandleByName) len name is = refl
-handle-group c p g len name is = absurd (false≢true is)
+handle-group : (d : Setup) (c : client.Client) (p : PlantPort) (g : Option Group) (len : ℕ) (name : List ℕ) → is_handle_by_name g ≡ true
+    → read_write_group d c p (option_and_then (if_answered READ_WRITE) g) len name ≡ read_write_group d c p (Some HandleByName) len name
+handle-group d c p (Some HandleByName) len name is = refl
+handle-group d c p g len name is = absurd (false≢true is)
 
-port-group : (c : client.Client) (p : PlantPort) (g : Option Group) (len : ℕ) (name : List ℕ) → is_handle_by_name g ≡ false
-    → read_write_group c p (option_and_then (if_answered READ_WRITE) g) len name ≡ read_write_group c p (without_handles g) len name
+port-group : (d : Setup) (c : client.Client) (p : PlantPort) (g : Option Group) (len : ℕ) (name : List ℕ) → is_handle_by_name g ≡ false
+    → read_write_group d c p (option_and_then (if_answered READ_WRITE) g) len name ≡ read_write_group d c p (without_handles g) len name
 unfolding read_write_group
-port-group c p (Some HandleByName) len name is = absurd (false≢true (sym is))
-port-group c p g len name is = refl
+port-group d c p (Some HandleByName) len name is = absurd (false≢true (sym is))
+port-group d c p g len name is = refl
 
 pub asks-handle : (a : Asking) (group offset len : ℕ) (bytes : List ℕ) → is_handle_by_name (group_of group) ≡ true
     → plain_asked a (ReadWrite group offset len bytes) ≡ handle_act a len bytes
 unfolding plain_act answered_group
-asks-handle a group offset len bytes is = handle-group a.client a.asker.port (group_of group) len bytes is
+asks-handle a group offset len bytes is = handle-group (setup_of a.world) a.client a.asker.port (group_of group) len bytes is
 
 pub asks-port : (a : Asking) (group offset len : ℕ) (bytes : List ℕ) → is_handle_by_name (group_of group) ≡ false
-    → plain_asked a (ReadWrite group offset len bytes) ≡ read_write_group a.client a.asker.port (without_handles (group_of group)) len bytes
+    → plain_asked a (ReadWrite group offset len bytes) ≡ read_write_group (setup_of a.world) a.client a.asker.port (without_handles (group_of group)) len bytes
 unfolding plain_act answered_group
-asks-port a group offset len bytes is = port-group a.client a.asker.port (group_of group) len bytes is
+asks-port a group offset len bytes is = port-group (setup_of a.world) a.client a.asker.port (group_of group) len bytes is
 
 pub read_write-asked : (m : PortMemory) (kept : Kept) (group offset len : ℕ) (bytes : List ℕ)
     (r : Result (Result (Unit {0}) Code) NoMemory) (old new : List ℕ) → SomeAsks m kept
@@ -268,23 +274,33 @@ least-idle : (b : Bool) (act : Act) → IsIdle act → IsIdle (if b then Refusal
 least-idle true act idle = tt
 least-idle false act idle = idle
 
-pub port-idle : (c : client.Client) (p : PlantPort) (g : Option Group) (len : ℕ) (name : List ℕ) → IsIdle (read_write_group c p (without_handles g) len name)
+pub port-idle : (d : Setup) (c : client.Client) (p : PlantPort) (g : Option Group) (len : ℕ) (name : List ℕ) → IsIdle (read_write_group d c p (without_handles g) len name)
 unfolding read_write_group
-port-idle c p (Some ValueByName) len name = found-idle (found_of p.symbols name) _ (λ f. value-idle p len (place_of f))
-port-idle c p (Some InfoByName) len name =
+port-idle d c p (Some ValueByName) len name = found-idle (found_of p.symbols name) _ (λ f. value-idle p len (place_of f))
+port-idle d c p (Some InfoByName) len name =
     least-idle (nat_lt len 12) _ (found-idle (found_of p.symbols name) (λ f. fixed_data (info_of f)) (λ f. (refl, refl)))
-port-idle c p (Some ExtendedInfoByName) len name =
-    found-idle (found_of p.symbols name) _ (λ f. info-idle len (entry_bytes (entry_of_part f)))
-port-idle c p g len name = tt
+port-idle d c p (Some ExtendedInfoByName) len name =
+    found-idle (found_of p.symbols name) _ (λ f. info-idle len (entry_bytes (entry_of_part d.profile.manner f)))
+port-idle d c p g len name = tt
+
+type-idle : (len : ℕ) (o : Option TypeTree) → IsIdle (if_type o len)
+type-idle len None = tt
+type-idle len (Some tree) =
+    let bytes = type_upload_bytes (entry_by_type tree ∷ []) in
+    least-idle (nat_lt greatest_len (length bytes)) (fixed_reply len bytes) (info-idle len bytes)
+
+-- an entry of a type leaves all as it was
+pub type_act-idle : (plant : Plant) (len : ℕ) (text : List ℕ) → IsIdle (type_act plant len text)
+type_act-idle plant len text = type-idle len (tree_of_text plant.types (up_to_nul text))
 
 pub port-leaves : (m : PortMemory) (kept : Kept) (group offset len : ℕ) (bytes : List ℕ) (r : Result (Result (Unit {0}) Code) NoMemory)
     → is_handle_by_name (group_of group) ≡ false
     → OnOk r ((a : Asking) → Asks a m kept → Asks (after_act a (plain_asked a (ReadWrite group offset len bytes))) m kept)
 port-leaves m kept group offset len bytes (Err no_memory) is = tt
 port-leaves m kept group offset len bytes (Ok answer) is = λ a asks.
-    let act = read_write_group a.client a.asker.port (without_handles (group_of group)) len bytes in
+    let act = read_write_group (setup_of a.world) a.client a.asker.port (without_handles (group_of group)) len bytes in
     leaves-along a act (plain_asked a (ReadWrite group offset len bytes)) m kept (asks-port a group offset len bytes is)
-    (idle-leaves a act m kept (port-idle a.client a.asker.port (group_of group) len bytes) asks)
+    (idle-leaves a act m kept (port-idle (setup_of a.world) a.client a.asker.port (group_of group) len bytes) asks)
 
 -- the handle of a name, as the request
 pub asked-leaves : (m : PortMemory) (kept kept' : Kept) (group offset len : ℕ) (bytes : List ℕ) (r : Result (Result (Unit {0}) Code) NoMemory)

@@ -1,6 +1,6 @@
 -- What a request means to the port that is asked, and that what is done of it is done of the request.
 use Rattle.std.proofs.Common.{◌≡◌, ℕ, ◌<◌, List, [], ◌∷◌, Bool, true, false, cond, length, take, drop, get_or, refl, sym, ap, subst, ◌∙◌, arith, inl, inr}
-use Rattle.std.specs.Prelude.{min, ◌==◌, nat_lt, position, Option, Some, None, option_and_then, Result, Ok, Err, IfOk, OnOk}
+use Rattle.std.specs.Prelude.{min, ◌==◌, nat_lt, position, unwrap_or, Option, Some, None, option_and_then, Result, Ok, Err, IfOk, OnOk}
 use Rattle.std.specs.List.{before_first, position_or_len}
 use Rattle.std.proofs.lemmas.Bool.{cases_Bool, false≢true, ltb-false, cond-true, cond-false}
 use Rattle.std.proofs.lemmas.List.{take_all}
@@ -11,15 +11,20 @@ use Rattle.spec_plant.specs.Finding.{Found, found_of}
 use Rattle.spec_formats.specs.Groups.{Group, HandleByName, ValueByHandle, ValueByName, InfoByName, ExtendedInfoByName, group_of}
 use Rattle.spec_formats.specs.Request.{Request, Read, ReadWrite}
 use Rattle.spec_machine.specs.Manner.{Manner, Strict, Wide}
-use Rattle.spec_machine.specs.World.{World}
+use Rattle.spec_machine.specs.World.{World, setup_of}
+use Rattle.spec_machine.specs.Acts.{Act}
+use Rattle.spec_machine.specs.MoreActs.{type_by_text, type_act, more_read_write, more_act}
+use Rattle.port_device.specs.Holds.{HoldsPort}
 use Rattle.spec_machine.specs.Answers.{if_answered, answered_group, READ, READ_WRITE}
 use Rattle.spec_machine.specs.Client as client
 use Rattle.spec_machine.specs.Handles.{HandleStatus, Never, Released, Outdated, Live, kept_status}
 use Rattle.spec_machine.specs.ByName.{place_of}
 use Rattle.spec_machine.specs.Meanings.{len_by_status, len_by_handle, read_len_in, len_found, len_by_name, behind_stop, meant_name, name_by_group}
 use Rattle.spec_machine.specs.Meanings.{without_context, name_in, mode_in, by_name}
-use Rattle.spec_machine.specs.Requests.{act_of}
+use Rattle.spec_machine.specs.Requests.{plain_act, act_of}
 use Rattle.spec_machine.proofs.Meanings.{meant-strict}
+use Rattle.spec_machine.proofs.MoreActs.{more_act-strict, more_read_write-none}
+use Rattle.session.proofs.GrantLemmas.{type_act-idle, leaves-along, idle-leaves}
 use Rattle.symbol_table.specs.declared.place.Place.{Place}
 use Rattle.sym_handles.specs.Kept.{Kept}
 use Rattle.port_device.specs.Answers.{AnswersAct, FindsPlace}
@@ -40,10 +45,10 @@ strict_is : (x : Manner) → is_wide x ≡ false → Strict ≡ x
 strict_is Strict f = refl
 strict_is Wide f = absurd (false≢true (sym f))
 
-wide-world : (a : Asking) (m : PortMemory) (kept : Kept) → Asks a m kept → is_wide m.manner ≡ true → Wide ≡ a.world.profile.manner
+pub wide-world : (a : Asking) (m : PortMemory) (kept : Kept) → Asks a m kept → is_wide m.manner ≡ true → Wide ≡ a.world.profile.manner
 wide-world a m kept asks t = wide_is m.manner t ∙ asks.held.manner
 
-strict-world : (a : Asking) (m : PortMemory) (kept : Kept) → Asks a m kept → is_wide m.manner ≡ false → Strict ≡ a.world.profile.manner
+pub strict-world : (a : Asking) (m : PortMemory) (kept : Kept) → Asks a m kept → is_wide m.manner ≡ false → Strict ≡ a.world.profile.manner
 strict-world a m kept asks f = strict_is m.manner f ∙ asks.held.manner
 
 -- a length by a handle
@@ -226,24 +231,64 @@ read_write-is-meant a group offset len bytes n name m kept asks t named long =
     (ap (λ l. ReadWrite group offset l name) long
     ∙ ap (λ b. ReadWrite group offset (len_by_name a.asker.port g b len) b) named)
 
--- what is done of what is meant
+-- nothing besides is done of it
+
+abbrev pub more_asked : Asking → Request → Option Act
+more_asked a r = more_act (setup_of a.world) a.client a.asker r
+
+pub nothing-strict : (a : Asking) (r : Request) (m : PortMemory) (kept : Kept) → Asks a m kept → is_wide m.manner ≡ false → more_asked a r ≡ None
+nothing-strict a r m kept asks f = more_act-strict (setup_of a.world) a.client a.asker r (sym (strict-world a m kept asks f))
+
+pub nothing-other : (a : Asking) (group offset len : ℕ) (bytes : List ℕ) → (group == type_by_text) ≡ false → more_asked a (ReadWrite group offset len bytes) ≡ None
+nothing-other a group offset len bytes e = more_read_write-none a.world.profile.manner (setup_of a.world) group len bytes e
+
+-- an entry of a type, which a wide port gives
+pub typed-is : (a : Asking) (group offset len : ℕ) (bytes : List ℕ) (m : PortMemory) (kept : Kept) → Asks a m kept → is_wide m.manner ≡ true
+    → (group == type_by_text) ≡ true → act_asked a (ReadWrite group offset len bytes) ≡ type_act a.world.plant len bytes
+unfolding act_of
+typed-is a group offset len bytes m kept asks t e =
+    let d = setup_of a.world in
+    let plain = plain_act d a.client a.asker (meant_in a (ReadWrite group offset len bytes)) in
+    ap (λ (x : Manner). unwrap_or (more_read_write x d group len bytes) plain) (sym (wide-world a m kept asks t))
+    ∙ ap (λ b. unwrap_or (cond b (Some (type_act d.plant len bytes)) None) plain) e
+
+pub typed-answers : (m : PortMemory) (kept : Kept) (group offset len : ℕ) (bytes : List ℕ) (r : Result (Result (Unit {0}) Code) NoMemory) (old new : List ℕ)
+    → is_wide m.manner ≡ true → (group == type_by_text) ≡ true
+    → IfOk r (λ answer. (w : World) (p : PlantPort) → HoldsPort w p m → AnswersAct w (type_act w.plant len bytes) answer old new)
+    → IfOk r (λ answer. (a : Asking) → Asks a m kept → AnswersAct a.world (act_asked a (ReadWrite group offset len bytes)) answer old new)
+typed-answers m kept group offset len bytes (Err no_memory) old new t e said = tt
+typed-answers m kept group offset len bytes (Ok answer) old new t e said = λ a asks.
+    subst (λ (x : Act). AnswersAct a.world x answer old new) (sym (typed-is a group offset len bytes m kept asks t e)) (said a.world a.asker.port asks.held)
+
+pub typed-leaves : (m : PortMemory) (kept : Kept) (group offset len : ℕ) (bytes : List ℕ) (r : Result (Result (Unit {0}) Code) NoMemory)
+    → is_wide m.manner ≡ true → (group == type_by_text) ≡ true
+    → OnOk r ((a : Asking) → Asks a m kept → Asks (asking_after a (ReadWrite group offset len bytes)) m kept)
+typed-leaves m kept group offset len bytes (Err no_memory) t e = tt
+typed-leaves m kept group offset len bytes (Ok answer) t e = λ a asks.
+    let act = type_act a.world.plant len bytes in
+    leaves-along a act (act_asked a (ReadWrite group offset len bytes)) m kept (typed-is a group offset len bytes m kept asks t e)
+    (idle-leaves a act m kept (type_act-idle a.world.plant len bytes) asks)
+
+-- what is done of what is meant, where nothing is done besides
 
 pub meant-answers : (m : PortMemory) (kept : Kept) (asked meant : Request) (r : Result (Result (Unit {0}) Code) NoMemory) (old new : List ℕ)
-    → ((a : Asking) → Asks a m kept → meant ≡ meant_in a asked)
+    → ((a : Asking) → Asks a m kept → meant ≡ meant_in a asked) → ((a : Asking) → Asks a m kept → more_asked a asked ≡ None)
     → IfOk r (λ answer. (a : Asking) → Asks a m kept → AnswersAct a.world (plain_asked a meant) answer old new)
     → IfOk r (λ answer. (a : Asking) → Asks a m kept → AnswersAct a.world (act_asked a asked) answer old new)
 unfolding act_of
-meant-answers m kept asked meant (Err no_memory) old new is said = tt
-meant-answers m kept asked meant (Ok answer) old new is said = λ a asks.
+meant-answers m kept asked meant (Err no_memory) old new is none said = tt
+meant-answers m kept asked meant (Ok answer) old new is none said = λ a asks.
     let P : Request → Type 0 = λ r. AnswersAct a.world (plain_asked a r) answer old new in
-    subst P (is a asks) (said a asks)
+    let Q : Option Act → Type 0 = λ o. AnswersAct a.world (unwrap_or o (plain_asked a (meant_in a asked))) answer old new in
+    subst Q (sym (none a asks)) (subst P (is a asks) (said a asks))
 
 pub meant-leaves : (m : PortMemory) (kept kept' : Kept) (asked meant : Request) (r : Result (Result (Unit {0}) Code) NoMemory)
-    → ((a : Asking) → Asks a m kept → meant ≡ meant_in a asked)
+    → ((a : Asking) → Asks a m kept → meant ≡ meant_in a asked) → ((a : Asking) → Asks a m kept → more_asked a asked ≡ None)
     → OnOk r ((a : Asking) → Asks a m kept → Asks (after_act a (plain_asked a meant)) m kept')
     → OnOk r ((a : Asking) → Asks a m kept → Asks (asking_after a asked) m kept')
 unfolding act_of
-meant-leaves m kept kept' asked meant (Err no_memory) is said = tt
-meant-leaves m kept kept' asked meant (Ok answer) is said = λ a asks.
+meant-leaves m kept kept' asked meant (Err no_memory) is none said = tt
+meant-leaves m kept kept' asked meant (Ok answer) is none said = λ a asks.
     let P : Request → Type 0 = λ r. Asks (after_act a (plain_asked a r)) m kept' in
-    subst P (is a asks) (said a asks)
+    let Q : Option Act → Type 0 = λ o. Asks (after_act a (unwrap_or o (plain_asked a (meant_in a asked)))) m kept' in
+    subst Q (sym (none a asks)) (subst P (is a asks) (said a asks))

@@ -87,11 +87,11 @@ pub read-idle : (d : Setup) (c : Client) (p : PlantPort) (g : Option Group) (off
 unfolding read_group
 read-idle d c p (Some (AreaSize area)) offset len = fixed-idle len (to_le_bytes w32 (size_in p.sizes area))
 read-idle d c p (Some SymbolVersion) offset len = fixed-idle len (d.version ∷ [])
-read-idle d c p (Some SymbolUpload) offset len = fixed-idle len (symbol_upload_of p)
-read-idle d c p (Some UploadInfo) offset len = fixed-idle len (upload_info_of p)
+read-idle d c p (Some SymbolUpload) offset len = fixed-idle len (symbol_upload_of d.profile.manner p)
+read-idle d c p (Some UploadInfo) offset len = fixed-idle len (upload_info_of d.profile.manner p)
 read-idle d c p (Some TypeUpload) offset len =
     if-idle (nat_lt greatest_len (length (type_upload_of d.plant))) (fixed_reply len (type_upload_of d.plant)) (fixed-idle len (type_upload_of d.plant))
-read-idle d c p (Some UploadInfoWithTypes) offset len = fixed-idle len (upload_info_with_types_of d.plant p)
+read-idle d c p (Some UploadInfoWithTypes) offset len = fixed-idle len (upload_info_with_types_of d.profile.manner d.plant p)
 read-idle d c p g offset len = reached-idle (reach_of c p g offset len)
 
 pub read-act-idle : (a : Asking) (group offset len : ℕ) → IsIdle (act_asked a (Read group offset len))
@@ -109,7 +109,8 @@ read-leaves a group offset len m kept asks =
 
 -- only bytes are others, twice
 pub keeps-both : (first second third : PortMemory) → KeepsDescription first second → KeepsDescription second third → KeepsDescription first third
-keeps-both first second third one two = two ∙ ap (λ (m : PortMemory). record m { bytes = third.bytes }) one
+keeps-both first second third one two =
+    let b = third.bytes in two ∙ ap (λ (m : PortMemory). record m { bytes = record b { version = m.bytes.version } }) one
 
 pub keeps-number : (old new : PortMemory) → KeepsDescription old new → new.number ≡ old.number
 keeps-number old new keeps = ap (λ (m : PortMemory). m.number) keeps

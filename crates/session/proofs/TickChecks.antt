@@ -10,7 +10,8 @@ use Rattle.std.proofs.lemmas.List.{append-nil, length-map, get_or-map, take_more
 use Rattle.std.proofs.lemmas.List.Elements.{All-head, All-tail, All-nil, All-cons, All-weaker, All-map, All-filter}
 use Rattle.std.proofs.lemmas.List.Sums.{fold-append, length-filter, count_by-le-length}
 use Rattle.spec_plant.specs.Named.{port_numbered}
-use Rattle.spec_machine.specs.WatchedRanges.{Watched}
+use Rattle.spec_plant.specs.World.{PlantPort}
+use Rattle.spec_machine.specs.WatchedRanges.{Watched, Own}
 use Rattle.spec_machine.specs.Watches.{Watch, AddressedSample, is_due, is_sent, samples_of, addressed_sample}
 use Rattle.spec_machine.specs.World.{World}
 use Rattle.notify_table.specs.declared.spec.Spec.{Spec}
@@ -21,7 +22,7 @@ use Rattle.notify_table.proofs.CallerLemmas.{due_is_live, rises_tail, above_firs
 use Rattle.notify_table.proofs.TickLemmas.{checked_among, checked_none, checked_one_more, found_among, checked_all, not_before}
 use Rattle.port_device.specs.Holds.{HoldsPorts}
 use Rattle.port_device.specs.PortMemory.{PortsMemory}
-use Rattle.session.specs.Checks.{bytes_found, found_in, samples_for, samples_among, samples_found, table_checked, IsInPort, IsReadable, AreReadable}
+use Rattle.session.specs.Checks.{bytes_found, IsInFound, found_in, samples_for, samples_among, samples_found, table_checked, IsInPort, IsReadable, AreReadable}
 use Rattle.session.specs.Checks.{IsCheck, AreChecked}
 use Rattle.session.specs.NoteGroups.{GroupText, groups_with, groups_after, grouped_text, addressed}
 
@@ -50,6 +51,29 @@ spec_is_short handle t s table asked =
         let e : new_watch handle s ≡ before_checks v = cc in
         let watched : watched_meant s.watched ≡ v.watched = ap (λ (u : Watch Watched). u.watched) e in
         rw watched few.1
+
+-- what was added as this can be read
+pub spec_is_readable : (ports : PortsMemory) (now handle : ℕ) (t : WatchTable) (s : Spec)
+    → IsSomeAnd (watch_of_handle handle t) (λ v. new_watch handle s ≡ before_checks v)
+    → IsSomeAnd (watch_of_handle handle t) (λ v. IsTrue (is_due now v) × IsReadable ports v.port v.watched)
+    → IsReadable ports s.port (watched_meant s.watched)
+spec_is_readable ports now handle t s is due = by_watch (watch_of_handle handle t) is due
+  where
+    by_watch : (o : Option (Watch Watched)) → IsSomeAnd o (λ v. new_watch handle s ≡ before_checks v)
+        → IsSomeAnd o (λ v. IsTrue (is_due now v) × IsReadable ports v.port v.watched) → IsReadable ports s.port (watched_meant s.watched)
+    by_watch None e d = absurd e
+    by_watch (Some v) e d =
+        let port : s.port ≡ v.port = ap (λ (u : Watch Watched). u.port) e in
+        let watched : watched_meant s.watched ≡ v.watched = ap (λ (u : Watch Watched). u.watched) e in
+        rw (port, watched) d.1
+
+-- so much of the port's own bytes stands there
+pub own_is_within : (ports : PortsMemory) (port first len : ℕ) → IsReadable ports port (Own first len) → first + len ≤ 5
+own_is_within ports port first len readable = by_port (port_numbered port readable.world.plant.ports) readable.within
+  where
+    by_port : (o : Option PlantPort) → IsInFound o (Own first len) → first + len ≤ 5
+    by_port None within = absurd within
+    by_port (Some p) within = within
 
 -- the sample that a check sends, if it sends one
 abbrev pub sample_where : Bool → Spec → ℕ → List ℕ → List AddressedSample

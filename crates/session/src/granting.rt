@@ -4,6 +4,10 @@ ghost use Rattle.std.specs.Prelude.{◌≡◌, ◌+◌, ◌≤◌, length, IfOk,
 ghost use Rattle.spec_formats.specs.Request.{ReadWrite};
 ghost use Rattle.spec_machine.specs.ByName.{grant_act};
 ghost use Rattle.spec_machine.specs.Client as client;
+ghost use Rattle.spec_machine.specs.MoreActs.{type_act};
+ghost use Rattle.spec_machine.specs.World.{World};
+ghost use Rattle.spec_plant.specs.World.{PlantPort};
+ghost use Rattle.port_device.specs.Holds.{HoldsPort};
 ghost use Rattle.port_device.specs.Answers.{AnswersAct};
 ghost use Rattle.port_device.specs.PortMemory.{PortMemory};
 ghost use Rattle.session.specs.Asking.{Asking, act_asked, plain_asked, asking_after, after_act};
@@ -11,7 +15,7 @@ ghost use Rattle.session.specs.Asks.{Asks, SomeAsks};
 ghost use Rattle.session.specs.Grants.{IsPlaceNamed, handle_act};
 
 use crate::groups::is_handle_by_name;
-use crate::meaning::{name_meant, value_len};
+use crate::meaning::{name_meant, up_to_nul, value_len};
 use crate::requests::ReadWriteRequest;
 use ads_base::{NoMemory, Octets, put32};
 use port_device::Port;
@@ -20,8 +24,11 @@ use std::alloc::Global;
 use sym_handles::Handles;
 use symbol_table::Place;
 
+// The group of the entry of a type by its text, which a wide port knows.
+const TYPE_BY_TEXT: u32 = 0xF011;
+
 /// Grants a handle for a name, or appends what the port gives of a name. A wide port takes a name without its NULs and one
-/// full stop in front, and gives of a value what it has, where more is asked. Beckhoff Information System, "ADS Read Write".
+/// full stop in front, gives of a value what it has, where more is asked, and gives the entry of a type by its text. Beckhoff Information System, "ADS Read Write".
 pub(crate) fn read_write(
     alloc: Global,
     handles: &mut Handles,
@@ -42,6 +49,9 @@ pub(crate) fn read_write(
     if !port.is_wide() {
         return read_write_plain(alloc, handles, port, ams_port, asked, out);
     }
+    if asked.group == TYPE_BY_TEXT {
+        return type_by_text(alloc, port, asked, out);
+    }
     let bytes = name_meant(asked.group, asked.bytes);
     let len = value_len(port, asked.group, asked.len, bytes);
     let meant = ReadWriteRequest {
@@ -51,6 +61,20 @@ pub(crate) fn read_write(
         bytes,
     };
     read_write_plain(alloc, handles, port, ams_port, &meant, out)
+}
+
+// The entry of the type that a text names, which ends at its first NUL.
+fn type_by_text(
+    alloc: Global,
+    port: &Port,
+    asked: &ReadWriteRequest<'_>,
+    out: &mut Octets,
+) -> Result<Result<(), Code>, NoMemory>
+    ensures answer { IfOk result (λ answer. (w : World) (p : PlantPort) → HoldsPort w p port.now
+        → AnswersAct w (type_act w.plant asked.now.len asked.now.bytes.now) answer out.old out.new) }
+    ensures no_memory { OnErr result (out.new ≡ out.old) }
+{
+    port.entry_of_type(alloc, asked.len, up_to_nul(asked.bytes), out)
 }
 
 // The same of a ReadWrite that is taken as it is written.

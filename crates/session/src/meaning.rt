@@ -66,8 +66,8 @@ pub(crate) fn name_meant(group: u32, bytes: &[u8]) -> &[u8]
     behind_stop(up_to_nul(bytes))
 }
 
-// A name up to its first NUL.
-fn up_to_nul(name: &[u8]) -> &[u8]
+/// A name up to its first NUL.
+pub(crate) fn up_to_nul(name: &[u8]) -> &[u8]
     ensures { result.now ≡ machine.up_to_nul name.now }
 {
     match first_nul(name) {

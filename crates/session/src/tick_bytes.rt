@@ -48,12 +48,13 @@ pub(crate) fn own_in(ports: &Ports, port: u16) -> [u8; 5]
 }
 
 /// So many of some bytes, from one of them on.
-pub(crate) fn part_of(bytes: &[u8; 5], first: usize, len: usize) -> &[u8]
+pub(crate) fn part_of(bytes: &[u8; 5], first: u8, len: u8) -> &[u8]
     requires { first + len ≤ 5 }
     ensures part { result.now ≡ take len (drop first bytes.now) }
     ensures len { length result.now ≡ len }
 {
-    &bytes[first..first + len]
+    let first = usize::from(first);
+    &bytes[first..first + usize::from(len)]
 }
 
 fn bit_of(byte: u8, bit: u8) -> u8

@@ -121,7 +121,7 @@ fn check_spec(
         Watched::InArea(Reach::Size { area: _ }) => unreachable!(),
         Watched::Own { first, len } => {
             let own = own_in(ports, spec.port);
-            let bytes = part_of(&own, usize::from(first), usize::from(len));
+            let bytes = part_of(&own, first, len);
             check_bytes(alloc, watches, handle, now, spec, bytes, groups)
         }
     }

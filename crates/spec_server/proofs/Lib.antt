@@ -1,1 +1,2 @@
 pub mod ServerProofs
+mod TypeProofs

@@ -1,3 +1,4 @@
 pub mod Server
 pub mod ServerLaws
 pub mod ProfileLaws
+pub mod TypeLaws

@@ -3,14 +3,14 @@
 ghost use Rattle.std.specs.Prelude.{◌≡◌, ◌<◌, ◌==◌, false, length, IfOk};
 ghost use Rattle.std.specs.List.{list_any};
 ghost use Rattle.std.specs.Option.{option_map_or};
-ghost use Rattle.index_groups.specs.Access.{range_meant};
+ghost use Rattle.notify_table.specs.Specs.{watched_meant};
 ghost use Rattle.notify_table.specs.Table.{watched_len, IsTable, due_handles};
 
 use ads_base::{AmsAddr, NetId, NoMemory, Steps};
 use case_plants::{area, moves, say_area};
 use case_sheets::{Answer, Args, Fault};
 use index_groups::Reach;
-use notify_table::{Ended, Handles32, Mode, Spec, WatchFull, Watches};
+use notify_table::{Ended, Handles32, Mode, Spec, WatchFull, Watched, Watches};
 use std::alloc::Global;
 use std::marker::Brand;
 use std::sync::ledger::{Blank, Ledger};
@@ -23,6 +23,9 @@ const CLIENT: AmsAddr = AmsAddr {
     },
     port: 32905,
 };
+
+// The ports that are there after a reload.
+const PORTS: [u16; 1] = [851];
 
 // The most bytes that a notification watches.
 const MOST_BYTES: u32 = 2048;
@@ -54,14 +57,14 @@ pub fn make(
         "fill" => fill(alloc, watches, args, answer)?,
         "moved" => {
             let moves = moves(alloc)?;
-            say_ended(watches.moved(alloc, &moves)?.as_slice(), answer);
+            say_ended(watches.moved(alloc, &moves, &PORTS)?.as_slice(), answer);
         }
         _ => return Err(Fault::NoCall),
     }
     Ok(())
 }
 
-// PORT MODE CYCLE, and `bytes AREA AT LEN`, `bit AREA AT BIT` or `size AREA`.
+// PORT MODE CYCLE, and `bytes AREA AT LEN`, `bit AREA AT BIT`, `size AREA` or `own FIRST LEN`.
 fn spec(args: &mut Args<'_>) -> Spec {
     let port = args.u16();
     let mode = if args.name() == "cycle" {
@@ -70,9 +73,30 @@ fn spec(args: &mut Args<'_>) -> Spec {
         Mode::Change
     };
     let cycle = args.u32();
+    let watched = watched(args);
+    Spec {
+        port,
+        to: CLIENT,
+        watched,
+        mode,
+        cycle,
+    }
+}
+
+fn watched(args: &mut Args<'_>) -> Watched {
     let kind = args.name();
+    if kind == "own" {
+        return Watched::Own {
+            first: args.u8(),
+            len: args.u8(),
+        };
+    }
+    Watched::InArea(reach(kind, args))
+}
+
+fn reach(kind: &str, args: &mut Args<'_>) -> Reach {
     let area = area(args);
-    let reach = match kind {
+    match kind {
         "bytes" => Reach::Bytes {
             area,
             at: args.u32(),
@@ -84,13 +108,6 @@ fn spec(args: &mut Args<'_>) -> Spec {
             bit: args.u8(),
         },
         _ => Reach::Size { area },
-    };
-    Spec {
-        port,
-        to: CLIENT,
-        reach,
-        mode,
-        cycle,
     }
 }
 
@@ -101,7 +118,17 @@ fn say_spec(spec: &Spec, answer: &mut Answer) {
         Mode::Change => "change",
     });
     answer.tell(u64::from(spec.cycle));
-    match spec.reach {
+    match spec.watched {
+        Watched::InArea(reach) => say_in_area(reach, answer),
+        Watched::Own { first, len } => {
+            answer.name("own", u64::from(first));
+            answer.tell(u64::from(len));
+        }
+    }
+}
+
+fn say_in_area(reach: Reach, answer: &mut Answer) {
+    match reach {
         Reach::Bytes { area, at, len } => say_reach("bytes", area, at, len, answer),
         Reach::Bit { area, at, bit } => say_reach("bit", area, at, u32::from(bit), answer),
         Reach::Size { area } => say_reach("size", area, 0, 0, answer),
@@ -135,7 +162,7 @@ fn add(
     watches: &mut Watches,
     spec: Spec,
 ) -> Result<Option<Result<u32, WatchFull>>, NoMemory> {
-    let len = len_of(spec.reach);
+    let len = len_of(spec.watched);
     if len == 0 || len > MOST_BYTES {
         return Ok(None);
     }
@@ -250,22 +277,23 @@ fn is_among(handles: &[u32], handle: u32) -> bool
 }
 
 fn has_bytes(spec: &Option<Spec>, bytes: &[u8]) -> bool
-    ensures { result ≡ option_map_or (λ s. watched_len (range_meant s.reach) == length bytes.now) spec.now false }
+    ensures { result ≡ option_map_or (λ s. watched_len (watched_meant s.watched) == length bytes.now) spec.now false }
 {
     match spec {
-        Some(spec) => len_of(spec.reach) as usize == bytes.len(),
+        Some(spec) => len_of(spec.watched) as usize == bytes.len(),
         None => false,
     }
 }
 
 // How many bytes a check takes.
-fn len_of(reach: Reach) -> u32
-    ensures { result ≡ watched_len (range_meant reach) }
+fn len_of(watched: Watched) -> u32
+    ensures { result ≡ watched_len (watched_meant watched) }
 {
-    match reach {
-        Reach::Bytes { len, .. } => len,
-        Reach::Bit { .. } => 1,
-        Reach::Size { .. } => 0,
+    match watched {
+        Watched::InArea(Reach::Bytes { len, .. }) => len,
+        Watched::InArea(Reach::Bit { .. }) => 1,
+        Watched::InArea(Reach::Size { .. }) => 0,
+        Watched::Own { len, .. } => u32::from(len),
     }
 }
 

@@ -2,7 +2,7 @@ use Rattle.std.proofs.Common.{sym}
 use Rattle.spec_formats.specs.Groups.{group_of}
 use Rattle.spec_formats.specs.Request.{ReadWrite}
 use Rattle.spec_plant.specs.World.{PlantPort}
-use Rattle.spec_machine.specs.World.{World}
+use Rattle.spec_machine.specs.World.{World, setup_of}
 use Rattle.spec_machine.specs.ByName.{read_write_group}
 use Rattle.spec_machine.specs.Client.{Client}
 use Rattle.port_device.specs.Groups.{without_handles}
@@ -29,11 +29,11 @@ pub returns-clause-answer : goal.returns-clause-answer
 returns-clause-answer c =
     let asked = c.args.asked.now in
     answer-along c.args.port.now c.args.handles.now
-    (λ a. read_write_group a.client a.asker.port (without_handles (group_of asked.group)) asked.len asked.bytes.now)
+    (λ a. read_write_group (setup_of a.world) a.client a.asker.port (without_handles (group_of asked.group)) asked.len asked.bytes.now)
     (λ a. plain_asked a (ReadWrite asked.group asked.offset asked.len asked.bytes.now)) c.ask.result _ _
     (λ a. asks-port a asked.group asked.offset asked.len asked.bytes.now (sym c.if-is_handle_by_name.ensures))
     (port-answer c.args.port.now c.args.handles.now
-    (λ (w : World) (x : Client) (p : PlantPort). read_write_group x p (without_handles (group_of asked.group)) asked.len asked.bytes.now)
+    (λ (w : World) (x : Client) (p : PlantPort). read_write_group (setup_of w) x p (without_handles (group_of asked.group)) asked.len asked.bytes.now)
     c.ask.result _ _ c.ask.ensures.answer)
 
 pub returns-clause-leaves : goal.returns-clause-leaves

@@ -1,31 +1,21 @@
-use Rattle.std.proofs.Common.{◌∙◌, sym, subst, ◌≡◌}
-use Rattle.spec_formats.specs.Ranges.{range_of}
-use Rattle.index_groups.specs.Access.{answer_meant, IsWithin}
-use Rattle.std.specs.Prelude.{IfOk}
-use Rattle.session.proofs.WatchedReach.{watched_in_area, area_len, watched_nowhere, watched_by_value}
+use Rattle.std.proofs.Common.{sym, ◌∙◌, subst}
+use Rattle.spec_machine.specs.Manner.{Manner}
+use Rattle.session.specs.Watching.{addition_reach, IsWatched}
+use Rattle.session.proofs.MeaningLemmas.{strict-world, wide-world}
 use Rattle.session.proofs.watching.watched.Goals as goal
 
-pub returns-then-is_value_by_handle-clause-watched : goal.returns-then-is_value_by_handle-clause-watched
-returns-then-is_value_by_handle-clause-watched c = λ a asks.
+pub returns-then-not-is_wide-clause-watched : goal.returns-then-not-is_wide-clause-watched
+returns-then-not-is_wide-clause-watched c = λ a asks.
     let x = c.args.asked.now in
-    watched_by_value a x.group x.offset x.len c.watched_by_handle.result
-    (sym c.is_value_by_handle.ensures ∙ c.if-is_value_by_handle.true) (c.watched_by_handle.ensures.watched a c.args.port.now c.requires.number asks)
-
-pub returns-then-not-is_bytes_or_bit-clause-watched : goal.returns-then-not-is_bytes_or_bit-clause-watched
-returns-then-not-is_bytes_or_bit-clause-watched c = λ a asks.
-    let x = c.args.asked.now in
-    watched_nowhere a x.group x.offset x.len (sym c.is_bytes_or_bit.ensures ∙ c.if-not-is_bytes_or_bit.true)
-    (sym c.is_value_by_handle.ensures ∙ c.if-is_value_by_handle.false)
+    let P : Manner → Type 0 = λ m.
+    IsWatched a.world.plant.ports a.asker.port.number x.len (addition_reach m a.client a.asker.port x.group x.offset x.len) c.watched_plain.result in
+    subst P (strict-world a c.args.port.now c.args.handles.now asks (sym c.is_wide.ensures ∙ c.if-not-is_wide.true))
+    (c.watched_plain.ensures.watched a asks)
 
 pub returns-clause-watched : goal.returns-clause-watched
 returns-clause-watched c = λ a asks.
     let x = c.args.asked.now in
-    watched_in_area a c.args.port.now x.group x.offset x.len c.reach.result asks.held
-    (sym c.is_bytes_or_bit.ensures ∙ c.if-not-is_bytes_or_bit.false)
-    (subst (λ s. answer_meant c.reach.result ≡ range_of s x.group x.offset x.len) c.sizes.ensures c.reach.ensures.rule)
-    (subst (λ s. IfOk c.reach.result (IsWithin s)) c.sizes.ensures c.reach.ensures.within)
-
-pub returns-clause-len : goal.returns-clause-len
-returns-clause-len c =
-    let x = c.args.asked.now in
-    area_len _ x.group x.offset x.len c.reach.result (sym c.is_bytes_or_bit.ensures ∙ c.if-not-is_bytes_or_bit.false) c.reach.ensures.rule
+    let P : Manner → Type 0 = λ m.
+    IsWatched a.world.plant.ports a.asker.port.number x.len (addition_reach m a.client a.asker.port x.group x.offset x.len) c.watched_wide.result in
+    subst P (wide-world a c.args.port.now c.args.handles.now asks (sym c.is_wide.ensures ∙ c.if-not-is_wide.false))
+    (c.watched_wide.ensures.watched a asks)
