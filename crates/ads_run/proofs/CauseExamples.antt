@@ -100,7 +100,7 @@ local_store c = c
 
 -- a recording ends by the limit only where its table is full, and by its keeper only where that failed
 abbrev keeper : ℕ → KeeperState
-keeper faults = record { rows = Some []; faults = faults }
+keeper faults = record { rows = Some []; names = None; faults = faults }
 
 empty_and_full : IsFull (Some []) → ⊥
 empty_and_full f = omega (arith, f.counts, f.full)
