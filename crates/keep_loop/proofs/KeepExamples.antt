@@ -1,6 +1,6 @@
 -- Which bodies of a run are looked at, which of them are saved, and what may stand behind that, by computation.
 use Rattle.std.specs.Prelude.{◌≡◌, refl, ℕ, ◌/◌, List, [], ◌∷◌, map, length, Bool, true, false, Option, Some, None, is_some, bytes_eq, ◌==◌}
-use Rattle.std.proofs.Common.{ap, arith, inl, inr, lit≤, sym}
+use Rattle.std.proofs.Common.{ap, inl, inr, sym}
 use Rattle.std.proofs.lemmas.Bool.{false≢true}
 use Rattle.ads_outside.specs.declared.end.End.TheVariants as end
 use Rattle.ads_outside.specs.declared.event.Event.{Event}

@@ -49,7 +49,6 @@ use Rattle.spec_machine.specs.LogText.{log_text_of}
 use Rattle.spec_machine.specs.Offers.{left_after}
 use Rattle.spec_machine.specs.Peers.{offers_to, peers_after}
 use Rattle.spec_machine.specs.Play.{moves_of_each, turns_of}
-use Rattle.spec_machine.specs.RunText.{text_of_play}
 use Rattle.spec_machine.specs.ScriptLine.{ScriptLine, Happens}
 use Rattle.hex.specs.Hex.{encode_with}
 use Rattle.spec_plant.proofs.Plant.{plant}
@@ -97,8 +96,8 @@ unfolding ams_length_of is_header front_of packet_of behind_frame frames_from fr
     ended_watches name_behind comment_behind entry_of_part numbers_from name_at names_at content_of projection_of acts_of_packets acts_of_move
     acts_of_log acts_by_others reply_in_forms outcome_in_all response_packet performed grouped frames_of_samples samples_at watches_after_tick
     reach_of outcomes_of memory_after_acts client_after_acts is_kept memory_after_reload world_after_reload client_reloaded answered_group
-    after_packet after_packets after_piece read_group acts_of decide_request decide digits body_of form_of entry_of entries_in entries_of bodies_at_ticks saves_in saves_over left_after offers_to peers_after moves_of_each turns_of
-    log_text_of encode_with
+    after_packet after_packets after_piece read_group acts_of decide_request decide digits
+    body_of form_of entry_of entries_in entries_of bodies_at_ticks saves_in saves_over left_after offers_to peers_after moves_of_each turns_of log_text_of encode_with
 save_rows = record { first = refl; same = refl; written = refl; printed = refl }
 
 -- a disk whose file was told before, and that tells this one
@@ -121,6 +120,9 @@ untold = record { within = refl; stands = λ file e. absurd (false≢true (ap is
 told_no_more : AllSaved (disk (Some []) None) None [] → ⊥
 told_no_more a = false≢true (ap is_some ((a.stands [] refl).told))
 
-over_the_limit : AllSaved (disk None None) (Some (record { is_second = false; slot = record { sequence = 18446744073709551615; body = [] } })) ((1 ∷ []) ∷ []) → ⊥
+abbrev last_number : Option Standing
+last_number = Some (record { is_second = false; slot = record { sequence = 18446744073709551615; body = [] } })
+
+over_the_limit : AllSaved (disk None None) last_number ((1 ∷ []) ∷ []) → ⊥
 unfolding is_any_over
 over_the_limit a = false≢true (sym a.within)
