@@ -467,7 +467,7 @@ Made by `bench/believed.py --write`. A proof shows that the program does what th
 - Of {proved} the first parts have only what signals are seen as, since those of the programs are proved. Its calls are the last part.
 - What the library `std` and the crates of the kit define is not counted.
 
-Worked examples stand beside the definitions (`proofs/*Examples.antt`), computed from them alone; wrong definitions are tried and refused (`wrong-bodies/`); and two models in plain Python, written from the formats ([model.py](../bench/model.py), [client.py](../bench/client.py)), agree with the program on every random and hostile run that was tried.
+Worked examples stand beside the definitions (`proofs/*Examples.antt`), computed from them alone. The last column of the table tells how many lines of the definitions they reach, each that they name and all that it cites; `bench/believed.py --tried` lists those that they do not. Wrong definitions are tried and refused (`wrong-bodies/`); and two models in plain Python, written from the formats ([model.py](../bench/model.py), [client.py](../bench/client.py)), agree with the program on every random and hostile run that was tried.
 """
 
 
@@ -493,20 +493,26 @@ def table_of(items):
         yield f"| {link_to(f'crates/{crate}/README.md', f'`{crate}`')} | {', '.join(texts)} | {lines_of([it for _, here in files for it in here])} |"
 
 
+def share(shares):
+    """Of some parts: how many lines of definitions the worked examples reach, of how many."""
+    return f"{sum(here for here, _ in shares):,} of {sum(every for _, every in shares):,}"
+
+
 def written(parts):
     """The page."""
     out = [INTRODUCTION.format(choices=names_of(CHOICES), proved=names_of(PROVED))]
-    out += ["| part | lines | stands on | with what it needs of these |", "|---|---|---|---|"]
+    out += ["| part | lines | stands on | with what it needs of these | of its definitions tried |", "|---|---|---|---|---|"]
     part = {id(item): k for k, items in enumerate(parts) for item in items}
+    shares = [(every - lines_of(left), every) for every, left in tried(parts)]
     for k, (title, about, places) in enumerate(PARTS):
         alone = reached(map(root, places), {})
         before = sorted({part[it] + 1 for it in alone} - {k + 1})
         out.append(f"| [{k + 1}. {title}](#{k + 1}-{title.lower().replace(' ', '-')}) | {lines_of(parts[k]):,} "
-                   f"| {', '.join(map(str, before)) or 'nothing'} | {lines_of(alone.values()):,} |")
+                   f"| {', '.join(map(str, before)) or 'nothing'} | {lines_of(alone.values()):,} | {share(shares[k:k + 1])} |")
     every = [item for items in parts for item in items]
     crates, files = {item.file.crate for item in every}, {item.file for item in every}
-    out.append(f"| for the programs, without the last part | {sum(map(lines_of, parts[:-1])):,} | | |")
-    out.append(f"| all, in {len(files)} files of {len(crates)} crates | {lines_of(every):,} | | |")
+    out.append(f"| for the programs, without the last part | {sum(map(lines_of, parts[:-1])):,} | | | {share(shares[:-1])} |")
+    out.append(f"| all, in {len(files)} files of {len(crates)} crates | {lines_of(every):,} | | | {share(shares)} |")
     for k, (title, about, places) in enumerate(PARTS):
         roots = ", ".join(f"`{name.split()[-1]}` ({link_to(file, pathlib.Path(file).name)})" for file, _, name in (place.partition(":") for place in places))
         out += [f"\n## {k + 1}. {title}\n", f"{about} It is for {roots}.\n", *table_of(parts[k])]

@@ -1,23 +1,20 @@
 -- Why runs end so, by computation.
-use Rattle.std.specs.Prelude.{◌≡◌, refl, ℕ, List, [], ◌∷◌, codes, map, true, false, Option, Some, None, ◌==◌}
+use Rattle.std.specs.Prelude.{◌≡◌, refl, ℕ, [], ◌∷◌, map, true, false, Some, None, ◌==◌}
 use Rattle.std.proofs.Common.{ap, arith, inl, inr, lit<, lit≤, sym}
 use Rattle.std.proofs.lemmas.Bool.{false≢true}
 use Rattle.ads_outside.specs.WireState.{WireHistory}
 use Rattle.ads_outside.specs.LinkState.{LinkState, connected_at}
-use Rattle.spec_samples.specs.Row.{Row}
 use Rattle.sample_store.specs.Keeper.{KeeperState}
 use Rattle.serve_loop.specs.TurnTaken.{raised_by}
 use Rattle.client_loop.specs.Called.{Calling}
 use Rattle.run_tasks.specs.declared.file_task.FileTask.TheVariants as file_task
-use Rattle.run_tasks.specs.declared.status.Status.{Status}
 use Rattle.run_tasks.specs.declared.status.Status.TheVariants as status
-use Rattle.run_tasks.specs.declared.task.Task.{Task}
 use Rattle.run_tasks.specs.declared.task.Task.TheVariants as task
 use Rattle.run_tasks.specs.StatusTable.{number_of}
 use Rattle.run_tasks.specs.Verdict.{Verdict, ended}
-use Rattle.ads_run.specs.Causes.{is_service, EndsOfWire, TakesAll, FailsOfWire, CauseOfService, CauseOfCall, IsLocalEnd, CauseOfKeeping, HasCause}
+use Rattle.ads_run.specs.Causes.{is_service, CauseOfService, CauseOfCall, IsLocalEnd, CauseOfKeeping, HasCause}
 use Rattle.ads_run.specs.Causes.{NothingFailed, IsOwnEnd}
-use Rattle.ads_run.specs.Ends.{RunsSo, RunsBy}
+use Rattle.ads_run.specs.Ends.{RunsBy}
 use Rattle.ads_run.specs.RecordCauses.{IsFull, CauseOfRecording, CauseOfLocalRecording}
 use Rattle.ads_run.specs.Uses.{Uses}
 use Rattle.ads_outside.specs.FilesState.{FilesState}
@@ -100,7 +97,7 @@ local_store c = c
 
 -- a recording ends by the limit only where its table is full, and by its keeper only where that failed
 abbrev keeper : ℕ → KeeperState
-keeper faults = record { rows = Some []; faults = faults }
+keeper faults = record { rows = Some []; names = None; faults = faults }
 
 empty_and_full : IsFull (Some []) → ⊥
 empty_and_full f = omega (arith, f.counts, f.full)

@@ -1,12 +1,12 @@
 -- What client commands ask, how they end and what is told of that, by computation.
 use Rattle.std.specs.Prelude.{◌≡◌, refl, ℕ, List, [], ◌∷◌, codes, map, true, false, Option, Some, None, Ok, ◌==◌}
-use Rattle.std.proofs.Common.{ap, arith, inl, inr, lit≤, sym}
+use Rattle.std.proofs.Common.{ap, arith, inl, inr, lit≤}
 use Rattle.std.proofs.lemmas.Bool.{false≢true}
 use Rattle.ads_base.specs.declared.net_id.NetId.{NetId}
 use Rattle.ads_base.specs.declared.peer.Peer.TheVariants as broke
 use Rattle.ads_outside.specs.SinkState.{SinkState}
-use Rattle.spec_client.specs.Calls.{Call, Get, Set, Watch, Record}
-use Rattle.spec_client.specs.Conversation.{LoopEnd, CallEnded, Budget}
+use Rattle.spec_client.specs.Calls.{Get, Set, Watch, Record}
+use Rattle.spec_client.specs.Conversation.{CallEnded, Budget}
 use Rattle.spec_client.specs.Stages.{Done, Refused, BadPeer, BadValue, TimedOut}
 use Rattle.spec_local_room.specs.Laws.{is_setting, IsAnswered}
 use Rattle.spec_samples.specs.Laws.{AreCountedFrom}
@@ -15,7 +15,6 @@ use Rattle.client_loop.specs.declared.loop_end.LoopEnd.TheVariants as end
 use Rattle.cli_words.specs.declared.client_words.ClientWords.{ClientWords}
 use Rattle.cli_words.specs.declared.client_words.PeerWords.TheVariants as peer
 use Rattle.run_tasks.specs.declared.client_task.ClientTask.TheVariants as ask
-use Rattle.run_tasks.specs.declared.status.Status.{Status}
 use Rattle.run_tasks.specs.declared.status.Status.TheVariants as status
 use Rattle.run_tasks.specs.declared.record_task.RecordTask.{RecordTask}
 use Rattle.run_tasks.specs.Asking.{call_asked, own_address, asked_address}
@@ -23,7 +22,7 @@ use Rattle.run_tasks.specs.Fits.{FitsClientTask, FitsRecord}
 use Rattle.run_tasks.specs.RecordAsked.{call_recorded}
 use Rattle.run_tasks.specs.StatusTable.{number_of}
 use Rattle.call_run.specs.Calling.{status_of_call, status_of_loop, PrintsAnswer, AfterLocal}
-use Rattle.call_run.specs.RecordRows.{RowsAdded, AddsRows}
+use Rattle.call_run.specs.RecordRows.{AddsRows}
 use Rattle.run_tasks.specs.Asking.{LocalCalling}
 
 -- a client with the NetId 5.1.2.3.1.1 that asks port 851 of a server over the link

@@ -1,16 +1,14 @@
 -- How the run of a plant ends and what it prints, by computation.
-use Rattle.std.specs.Prelude.{◌≡◌, refl, ℕ, ◌+◌, List, [], ◌∷◌, ◌++◌, codes, map, Option, Some, None, ◌==◌}
+use Rattle.std.specs.Prelude.{◌≡◌, refl, ℕ, ◌+◌, List, [], ◌∷◌, codes, map, Some, None, ◌==◌}
 use Rattle.std.proofs.Common.{◌∙◌, ap, inl, inr}
 use Rattle.std.proofs.lemmas.Bool.{false≢true}
 use Rattle.std.specs.Fmt.{digits}
 use Rattle.ads_outside.specs.declared.end.End.TheVariants as end
-use Rattle.ads_outside.specs.declared.listening.Listening.{Listening}
 use Rattle.ads_outside.specs.SinkState.{SinkState}
 use Rattle.ads_outside.specs.WireState.{WireHistory}
 use Rattle.spec_machine.specs.Profile.{strict}
 use Rattle.keep_loop.specs.declared.save_counts.SaveCounts.{SaveCounts}
 use Rattle.keep_loop.specs.declared.save_end.SaveEnd.TheVariants as save
-use Rattle.run_tasks.specs.declared.status.Status.{Status}
 use Rattle.run_tasks.specs.declared.status.Status.TheVariants as status
 use Rattle.run_tasks.specs.BuiltIn.{built_in}
 use Rattle.run_tasks.specs.Ending.{Ending, line_alone}
@@ -18,11 +16,10 @@ use Rattle.run_tasks.specs.Prints.{PrintsEnding}
 use Rattle.run_tasks.specs.StatusTable.{number_of}
 use Rattle.run_tasks.specs.Verdict.{Verdict, Ends, ended}
 use Rattle.keep_play.specs.KeptDisk.{DiskUse}
-use Rattle.daemon_run.specs.Endless.{endless, endless_kept}
 use Rattle.daemon_run.specs.Kept.{status_by}
 use Rattle.daemon_run.specs.Plant.{Plant, Serving, serving, service_of, plant_of, verdict_on}
-use Rattle.daemon_run.specs.PlantEnds.{EndsBy, PlantBy}
-use Rattle.daemon_run.specs.Printed.{ending_so, counts_saved}
+use Rattle.daemon_run.specs.PlantEnds.{PlantBy}
+use Rattle.daemon_run.specs.Printed.{ending_so}
 
 -- the status of a run whose wire had no more events, by what became of the body at its end
 abbrev so_many : ℕ → ℕ → SaveCounts

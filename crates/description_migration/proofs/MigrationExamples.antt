@@ -5,10 +5,8 @@ use Rattle.std.specs.Ordering.{Less, Equal, Greater, nat_cmp, is_eq, match_order
 use Rattle.std.specs.Fmt.{digits}
 use Rattle.std.proofs.Common.{Ordering, ap, sym}
 use Rattle.std.proofs.lemmas.Bool.{false≢true}
-use Rattle.toml.specs.Data.{Data, string, integer, Members, no_members, member, get_member}
-use Rattle.toml.specs.Parse.{parse_document}
+use Rattle.toml.specs.Data.{Data, string, integer, Members, no_members, member}
 use Rattle.toml.proofs.OnLiterals.{toml_on_literals}
-use Rattle.table_text.specs.SetMember.{set_member}
 use Rattle.table_text.specs.TableText.{document_text}
 use Rattle.description_migration.specs.Migration.{SCHEMA, second_schema, migrated_text, ChangesSchemaAlone}
 

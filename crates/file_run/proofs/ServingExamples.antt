@@ -50,8 +50,7 @@ use Rattle.ads_outside.specs.declared.moves.Move.{Move}
 use Rattle.ads_outside.specs.declared.moves.Move.TheVariants as move
 use Rattle.ads_outside.specs.SinkState.{SinkState}
 use Rattle.ads_outside.specs.Streams.{none_taken}
-use Rattle.ads_outside.specs.WireState.{WireHistory, history_after}
-use Rattle.signals.specs.Wave.{Wave}
+use Rattle.ads_outside.specs.WireState.{WireHistory}
 use Rattle.spec_machine.specs.Delivery.{is_cut_off, is_short_from}
 use Rattle.spec_machine.specs.Offers.{taken_of}
 use Rattle.spec_machine.specs.Profile.{strict}
@@ -59,7 +58,6 @@ use Rattle.spec_plant.proofs.Plant.{plant}
 use Rattle.spec_server.specs.Server.{server_output_in}
 use Rattle.serve_loop.specs.Leads.{events_in}
 use Rattle.serve_loop.specs.TurnTaken.{IsCountOf}
-use Rattle.run_tasks.specs.declared.status.Status.{Status}
 use Rattle.run_tasks.specs.declared.status.Status.TheVariants as status
 use Rattle.run_tasks.specs.Service.{Service, OfServer}
 use Rattle.run_tasks.specs.StatusTable.{number_of}

@@ -9,3 +9,4 @@ mod WantLemmas
 mod BegunLemmas
 mod LookLemmas
 mod OnLemmas
+mod KeepExamples

@@ -1,3 +1,4 @@
 pub mod ScriptLemmas
 pub mod CoreLemmas
 pub mod StoreLemmas
+mod KeptExamples

@@ -1,14 +1,14 @@
 -- The plant and the script of small loads, by computation.
-use Rattle.std.specs.Prelude.{◌≡◌, refl, ℕ, List, [], ◌∷◌, ◌++◌, codes, length, map, replicate, pos, Option, Some, None, slice_get, flat_map}
+use Rattle.std.specs.Prelude.{◌≡◌, refl, List, [], ◌∷◌, ◌++◌, codes, length, map, pos, Some, None, slice_get, flat_map}
 use Rattle.std.specs.Fmt.{digits}
 use Rattle.hex.proofs.OnLiterals.{hex_on_literals}
 use Rattle.ads_outside.specs.declared.event.Event.TheVariants as event
 use Rattle.spec_formats.specs.Request.{Read, Write, AddDeviceNotification}
 use Rattle.spec_frames.proofs.Hex.{hex}
 use Rattle.spec_machine.specs.ScriptLine.{Happens}
-use Rattle.spec_plant.specs.Description.{Symbol, Port, Route, Control}
+use Rattle.spec_plant.specs.Description.{Symbol, Port, Route}
 use Rattle.toml.specs.Data.{integer, string, get_member}
-use Rattle.load_maker.specs.MadeLines.{MadeLine, Opens, Sends, Ticks, line_text, script_said, script_text}
+use Rattle.load_maker.specs.MadeLines.{Opens, Sends, Ticks, script_said, script_text}
 use Rattle.load_maker.specs.LoadScript.{request_packet, request_line, watch_line, watch_lines, load_number, turn_request, tick_lines, first_turns, load_lines}
 use Rattle.load_maker.specs.LoadDescription.{symbol_of, symbol_table, symbol_tables, route_table, route_tables, load_table, load_description}
 

@@ -18,11 +18,11 @@ use Rattle.run_tasks.specs.declared.task.Task.TheVariants as task
 use Rattle.run_tasks.specs.BeforeRun.{IsBeforeRun}
 use Rattle.run_tasks.specs.BuiltIn.{built_in}
 use Rattle.run_tasks.specs.Ending.{Ending, line_alone}
-use Rattle.run_tasks.specs.EndsOr.{IsPrinted, IsOfKind, EndsOr, EndsOrBy}
-use Rattle.run_tasks.specs.Prints.{PutsMemoryLine, PutsPartAndMemoryLine, PrintsEnding}
-use Rattle.run_tasks.specs.Readings.{Names, ReadsOne, ReadsBoth, ReadsFiles, reads_no_file, asks_disk, asks_keeper}
+use Rattle.run_tasks.specs.EndsOr.{EndsOrBy}
+use Rattle.run_tasks.specs.Prints.{PrintsEnding}
+use Rattle.run_tasks.specs.Readings.{ReadsFiles, reads_no_file, asks_disk}
 use Rattle.run_tasks.specs.Report.{report_of}
-use Rattle.run_tasks.specs.Service.{OfServer, OfRelay, counts_after, ending_with, ending_after, listening_line}
+use Rattle.run_tasks.specs.Service.{OfServer, OfRelay, counts_after, ending_after, listening_line}
 use Rattle.run_tasks.specs.StatusTable.{number_of, last_line_of}
 use Rattle.run_tasks.specs.Verdict.{Verdict, Ends, Serves, ended}
 

@@ -1,5 +1,5 @@
 -- What the calls of a keeper tell of its rows, by computation.
-use Rattle.std.specs.Prelude.{◌≡◌, refl, ℕ, List, [], ◌∷◌, codes, length, Option, Some, None, is_some, ◌==◌}
+use Rattle.std.specs.Prelude.{refl, ℕ, List, [], ◌∷◌, codes, length, Option, Some, None, is_some, ◌==◌}
 use Rattle.std.proofs.Common.{ap, arith, lit≤, sym}
 use Rattle.std.proofs.lemmas.Bool.{false≢true}
 use Rattle.spec_samples.specs.Row.{Row}

@@ -1,11 +1,11 @@
 -- What a write leaves of a file, what a stop may leave of it, and what stands behind saves, by computation.
-use Rattle.std.specs.Prelude.{◌≡◌, refl, ℕ, ◌-◌, ◌^◌, ◌≤◌, List, [], ◌∷◌, ◌++◌, map, Bool, true, false, Option, Some, None, option_map, bytes_eq}
+use Rattle.std.specs.Prelude.{◌≡◌, refl, ℕ, ◌-◌, ◌^◌, List, [], ◌∷◌, map, Bool, true, false, Option, Some, None, bytes_eq}
 use Rattle.std.specs.Prelude.{◌⊎◌}
 use Rattle.std.proofs.Common.{ap, arith, inl, inr, lit≤, subst, sym}
 use Rattle.std.proofs.lemmas.Bool.{false≢true}
 use Rattle.spec_store.specs.BodyText.{entry_of, entries_in, entries_of}
-use Rattle.spec_store.specs.Disk.{filled_to, written, Torn, Follows, Only, IsSynced, WhereTold, Elapses}
-use Rattle.spec_store.specs.Slots.{Slot, Standing, behind_gate, slot_of, standing_of, standing_body}
+use Rattle.spec_store.specs.Disk.{written, Torn, Follows, Only, IsSynced, WhereTold, Elapses}
+use Rattle.spec_store.specs.Slots.{Standing, behind_gate, slot_of, standing_of, standing_body}
 use Rattle.spec_store.specs.Saves.{is_over_limit, standing_after}
 use Rattle.spec_store.specs.Runs.{standing_after_all, IsOneOf}
 

@@ -1,6 +1,5 @@
 -- What files, a sink, a wire and a link tell after their calls, by computation.
-use Rattle.std.specs.Prelude.{◌≡◌, refl, ℕ, ◌+◌, ◌-◌, ◌^◌, List, [], ◌∷◌, ◌++◌, codes, length, map, Bool, true, false, Option, Some, None, is_some, bytes_eq, ◌==◌}
-use Rattle.std.specs.List.{concat}
+use Rattle.std.specs.Prelude.{◌≡◌, refl, ℕ, ◌-◌, ◌^◌, List, [], ◌∷◌, codes, length, map, true, false, Option, Some, None, is_some, bytes_eq, ◌==◌}
 use Rattle.std.proofs.Common.{◌∙◌, ap, arith, lit<, lit≤, sym}
 use Rattle.std.proofs.lemmas.Bool.{false≢true}
 use Rattle.ads_outside.specs.declared.connected.Connected.TheVariants as connected
@@ -23,13 +22,13 @@ use Rattle.ads_outside.specs.declared.started.Started.TheVariants as started
 use Rattle.ads_outside.specs.FilesState.{AddsName}
 use Rattle.ads_outside.specs.Limit.{IsWithinLimit}
 use Rattle.ads_outside.specs.LinkAnswers.{Connects, Sends, Receives, TellsSent, log_after_connect, log_after_recv}
-use Rattle.ads_outside.specs.LinkState.{LinkState, not_connected, connected_at, bytes_came, quiet_came, closed_came, broke_off, LinkNeverFalls}
-use Rattle.ads_outside.specs.Opened.{is_new, are_new}
+use Rattle.ads_outside.specs.LinkState.{LinkState, not_connected, connected_at, broke_off, LinkNeverFalls}
+use Rattle.ads_outside.specs.Opened.{is_new}
 use Rattle.ads_outside.specs.Puts.{Puts}
 use Rattle.ads_outside.specs.Reads.{Reads}
 use Rattle.ads_outside.specs.Rose.{raised, Rose}
 use Rattle.ads_outside.specs.SinkState.{SinkState, NeverFalls}
-use Rattle.ads_outside.specs.Streams.{Streams, none_taken, streams_after}
+use Rattle.ads_outside.specs.Streams.{none_taken, streams_after}
 use Rattle.ads_outside.specs.WireAnswers.{Starts, Gives, Takes, TakesRun, Shuts}
 use Rattle.ads_outside.specs.WireState.{WireHistory, WireState, history_after}
 

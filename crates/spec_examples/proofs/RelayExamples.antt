@@ -1,6 +1,6 @@
 -- What a relay promises of small logs, and what its play prints, by computation.
-use Rattle.std.specs.Prelude.{◌≡◌, refl, ℕ, List, [], ◌∷◌, ◌++◌, codes, length, Bool, true, false, if◌then◌else◌, Option, Some, None, ◌==◌}
-use Rattle.std.proofs.Common.{ap, inl, lit≤, sym}
+use Rattle.std.specs.Prelude.{◌≡◌, refl, ℕ, List, [], ◌∷◌, ◌++◌, codes, ◌==◌}
+use Rattle.std.proofs.Common.{ap, lit≤, sym}
 use Rattle.std.proofs.lemmas.Bool.{false≢true}
 use Rattle.std.specs.Fmt.{digits}
 use Rattle.hex.specs.Hex.{encode_with}
@@ -16,18 +16,18 @@ use Rattle.spec_machine.specs.Delivery.{is_cut_off, is_short_from}
 use Rattle.spec_machine.specs.LogText.{log_text_of}
 use Rattle.spec_machine.specs.MachineState.{output_of_connection}
 use Rattle.spec_machine.specs.Moves.{state_after_move, state_after}
-use Rattle.spec_machine.specs.Offers.{left_after, taken_of, blocked_after}
+use Rattle.spec_machine.specs.Offers.{left_after, taken_of}
 use Rattle.spec_machine.specs.Peers.{offers_to, peers_after}
 use Rattle.spec_machine.specs.Play.{moves_of_each, turns_of}
 use Rattle.spec_machine.specs.ScriptLine.{Happens}
-use Rattle.spec_machine.specs.Turns.{Serves, ServesEach, AreTurns, KeepsTurns}
-use Rattle.spec_relay.specs.RelayState.{RelayConnection, relay_start}
+use Rattle.spec_machine.specs.Turns.{AreTurns}
+use Rattle.spec_relay.specs.RelayState.{relay_start}
 use Rattle.spec_relay.specs.Requests.{without_first}
 use Rattle.spec_relay.specs.Ways.{way_of_owned}
 use Rattle.spec_relay.specs.Routing.{after_way, after_frame}
 use Rattle.spec_relay.specs.RelayMoves.{after_frames, relay_after_event}
-use Rattle.spec_relay.specs.Passages.{fate_on_way, passages_of, passages_of_frame, passages_of_frames}
-use Rattle.spec_relay.specs.RelayLaws.{frames_given, packets_taken, AreMarked}
+use Rattle.spec_relay.specs.Passages.{passages_of}
+use Rattle.spec_relay.specs.RelayLaws.{AreMarked}
 use Rattle.spec_relay.specs.RelayPromises.{RelayKeepsPromises, RelayKeepsPromisesSoFar}
 use Rattle.spec_relay.specs.RelaySummary.{relay_summary_text, relay_text}
 use Rattle.spec_frames.proofs.Hex.{hex}
