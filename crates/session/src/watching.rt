@@ -254,7 +254,12 @@ fn watched_plain(
 }
 
 // The first bytes of a value by its handle.
-fn watched_by_handle(handles: &Handles, ams_port: u16, handle: u32, len: u32) -> Result<Watched, Code>
+fn watched_by_handle(
+    handles: &Handles,
+    ams_port: u16,
+    handle: u32,
+    len: u32,
+) -> Result<Watched, Code>
     ensures watched { (a : Asking) (port : PortMemory) → ams_port ≡ port.number → Asks a port handles.now
         → IsWatched a.world.plant.ports a.asker.port.number len
         (addressed_by_status a.asker.port.number (kept_status a.client.handles handle a.asker.port.number) len) result }

@@ -48,8 +48,12 @@ abbrev IsBytes : List ℕ → List ℕ → Type 0
 IsBytes bytes c = c ≡ bytes
 
 follows : Follows (Torn 0 1) (IsBytes (5 ∷ [])) (IsBytes (6 ∷ []))
-follows c e = (5 ∷ [], refl, subst (λ c. Torn 0 1 (5 ∷ []) c) (sym e)
-    (record { before = refl; after = refl; no_shorter = lit≤ tt; no_longer = lit≤ tt }))
+follows c e = (
+  5 ∷ [],
+  refl,
+  subst (λ c. Torn 0 1 (5 ∷ []) c) (sym e)
+      (record { before = refl; after = refl; no_shorter = lit≤ tt; no_longer = lit≤ tt }),
+)
 
 -- one file and no other
 only_this : Only four (IsBytes four)

@@ -99,7 +99,7 @@ first_place before (u ∷ us) (suc n) t h e =
     (sym (list_all-append (has_other_name t) before (u ∷ [])) ∙ all)).1 in
     let other = not_true (is_called t u) ((and_parts (has_other_name t u) true last).0) in
     let there = first_place (before ++ u ∷ []) us n t rest e in
-    rw (other, there) refl
+    rw (other, there) (omega arith)
 
 own_place : (types : List NamedType) (place : ℕ) (t : NamedType) → AreTypes types → slice_get types place ≡ Some t
     → place_of_type types (type_name t) ≡ Some place
