@@ -1,5 +1,6 @@
 -- The types that texts name are those of a description, and named ones are found by their names.
 use Rattle.std.proofs.Common.{◌≡◌, ℕ, zero, suc, ◌<◌, Bool, true, false, cond, List, [], ◌∷◌, ◌++◌, length, map, refl, sym, ◌∙◌, ap, subst, inl, inr, arith}
+use Rattle.name_paths.specs.Identifier.{lower}
 use Rattle.std.specs.Prelude.{Option, Some, None, option_map, option_and_then, position, slice_get, not, ◌&&◌, nat_lt, bytes_eq}
 use Rattle.std.specs.List.{list_all, position_or_len}
 use Rattle.std.specs.Option.{option_map_or}
@@ -90,7 +91,7 @@ first_place : (before ts : List NamedType) (i : ℕ) (t : NamedType) → are_typ
 first_place before [] i t h e = cc
 first_place before (u ∷ us) zero t h e =
     let same : u ≡ t = cc in
-    let own : is_called t u ≡ true = subst (λ x. is_called t x ≡ true) (sym same) (same_bytes _) in
+    let own : is_called t u ≡ true = subst (λ x. is_called t x ≡ true) (sym same) (same_bytes (lower (type_name t))) in
     rw own refl
 first_place before (u ∷ us) (suc n) t h e =
     let rest = (and_parts (is_next_type before u) (are_types_behind (before ++ u ∷ []) us) h).1 in
