@@ -18,7 +18,10 @@ use Rattle.spec_formats.specs.Request.{Request, Read}
 use Rattle.spec_machine.specs.World.{World, Setup, setup_of}
 use Rattle.spec_machine.specs.Access.{Addressed}
 use Rattle.spec_machine.specs.Acts.{Act, Refusal, Allowed, fixed_data, outcome_of}
-use Rattle.spec_machine.specs.Answers.{answered_group}
+use Rattle.spec_machine.specs.Answers.{answered_group, READ}
+use Rattle.spec_machine.specs.Meanings.{read_len_in}
+use Rattle.spec_machine.specs.MoreActs.{states_reach, more_read}
+use Rattle.spec_machine.proofs.MoreActs.{of_more, read-more}
 use Rattle.spec_machine.specs.Client.{Client}
 use Rattle.spec_machine.specs.Reach.{reach_of}
 use Rattle.spec_machine.specs.Reads.{fixed_reply, read_act, read_group}

@@ -13,5 +13,5 @@ returns c =
     IfOk-weaker c.numbers_in.result _ _
     (λ numbers is w held.
     let h : HoldsPorts w m = subst (HoldsPorts w) (sym c.self.view_is) held in
-    is ∙ ap numbers_in c.as_slice.ensures ∙ held_numbers w w.plant.ports m.ports h.each)
+    is ∙ ap numbers_in c.as_slice.ensures.value ∙ held_numbers w w.plant.ports m.ports h.each)
     c.numbers_in.ensures
