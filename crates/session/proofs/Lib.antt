@@ -28,3 +28,4 @@ pub mod OtherPorts
 pub mod ActPuts
 pub mod TakeLemmas
 pub mod NumberTests
+pub mod NoteParts
