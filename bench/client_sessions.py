@@ -196,7 +196,7 @@ def outcome_of(it, profile, more):
 
 # The table of docs/CONNECTING.md.
 
-LANDED = model.TOLD_SUMS                 # the further sums that the page tells of
+LANDED = model.MORE_SUMS                 # the further sums that the page tells of
 
 
 def phrases(steps):

@@ -17,8 +17,9 @@ BITS_OF = {0xF021: "inputs", 0xF031: "outputs", 0x4021: "memory"}
 SIZE_OF = {0xF025: "inputs", 0xF035: "outputs", 0x4025: "memory", 0x4045: "data"}
 GROUP_OF = {area: group for group, area in BYTES_OF.items()}
 SUMS = (0xF080, 0xF081, 0xF082)
-# The further sums of the wide server: reads that tell their lengths. And, of no server yet, additions and deletions of notifications.
+# The further sums of the wide server: reads that tell their lengths, and additions and deletions of notifications.
 TOLD_SUMS, NOTE_SUMS = (0xF083, 0xF084), (0xF085, 0xF086)
+MORE_SUMS = TOLD_SUMS + NOTE_SUMS
 RIGHTS = {"read": 1, "write": 2, "control": 3}
 LIVE, WATCHES, QUEUED, RECORDS, MOST = 4096, 512, 4194304, 4096, 2000000
 # The greatest number of elements, and of bytes, of an array.
@@ -364,7 +365,7 @@ class Server:
     """A device with its clients. `signals` are the waves of the signals; `wide` is the profile: the strict server takes requests as they are written, the wide one for
     what TwinCAT's clients mean by them, and has `more` sums. `others` is the right of each NetId that no route names: none where it is None."""
 
-    def __init__(self, d, signals, wide=False, others=None, more=TOLD_SUMS):
+    def __init__(self, d, signals, wide=False, others=None, more=MORE_SUMS):
         self.wide, self.others, self.sums = wide, RIGHTS.get(others), SUMS + tuple(more if wide else ())
         self.waves, self.places = signals, [0] * len(signals)
         self.moment, self.accepted, self.refused = 0, 0, 0
@@ -885,7 +886,7 @@ class Relay:
         return f"connections {self.opened} frames {self.frames} passed {self.passed} unknown {self.unknown}"
 
 
-def play(d, signals, events, wide=False, others=None, more=TOLD_SUMS):
+def play(d, signals, events, wide=False, others=None, more=MORE_SUMS):
     """What `replay` prints of these events, with its summary; with `wide`, what it would print of the wide server with `more` sums."""
     return played(Server(d, signals, wide, others, more), events)
 

@@ -107,6 +107,40 @@ def sums():
               (ask(3, 0xF084, 2, 22, u32(0x4040) + u32(0) + u32(4) + u32(0x4040) + u32(0) + u32(2)), given(3, u32(0) + u32(4) + u32(0) + u32(2) + u32(42) + u32(42)[:2], 9)))
 
 
+def notes():
+    """Sums of additions and deletions of notifications."""
+    def addition(offset, length, mode, group=0x4040):
+        return u32(group) + u32(offset) + u32(length) + u32(mode) + u32(0) + u32(0)
+
+    def deletions(number, *handles):
+        return ask(number, 0xF086, len(handles), 4 * len(handles), b"".join(map(u32, handles)))
+
+    one = addition(0, 4, 4)
+    yield row("A sum of additions without the reserved bytes of the command: each result with its handle, a refused part with 0, and those behind it are tried.",
+              (ask(1, 0xF085, 4, 32, one + addition(0, 4, 2) + addition(0, 2, 6) + addition(1000, 8, 3)), given(1, u32(0) + u32(1) + u32(0x713) + u32(0) + u32(0) + u32(2) + u32(0x703) + u32(0), 9)),
+              (("tick", 1000), stamp(1000, (1, u32(42)), (2, u32(42)[:2]))), (add(2, 0x4040, 0, 4, 3), added(2, 3)))
+    yield row("The same with the reserved bytes, which may hold anything.",
+              (ask(1, 0xF085, 2, 16, one + bytes(range(16)) + addition(0, 2, 3) + b"\xff" * 16), given(1, u32(0) + u32(1) + u32(0) + u32(2), 9)),
+              (("tick", 1000), stamp(1000, (1, u32(42)), (2, u32(42)[:2]))))
+    yield row("A value by its handle is watched, and a name's handle that is not live has its code.", (by_name(1, b"Main.title"), handled(1, 1)),
+              (ask(2, 0xF085, 2, 16, addition(1, 8, 4, 0xF005) + addition(9, 8, 4, 0xF005)), given(2, u32(0) + u32(1) + u32(0x710) + u32(0), 9)),
+              (("tick", 1000), stamp(1000, (1, TITLE))))
+    yield row("A sum of deletions: a notification is deleted once, and the others go on.",
+              (ask(1, 0xF085, 2, 16, one + addition(0, 2, 3)), given(1, u32(0) + u32(1) + u32(0) + u32(2), 9)),
+              (deletions(2, 1, 1, 3), given(2, u32(0) + u32(0x714) * 2, 9)), (("tick", 1000), stamp(1000, (2, u32(42)[:2]))), (deletions(3, 2), given(3, u32(0), 9)), (("tick", 2000),))
+    yield row("Room for one byte less refuses the whole sum; so does data that is not as long as its heads, and more than 500 parts; no part is run.",
+              (ask(1, 0xF085, 1, 7, one), refused(1, 0x705, 9)), (ask(2, 0xF085, 1, 1000, one + bytes(15)), refused(2, 0x705, 9)), (ask(3, 0xF085, 2, 1000, one + one + bytes(16)), refused(3, 0x705, 9)),
+              (ask(4, 0xF085, 501, 0xFFFFFFFF, one), refused(4, 0x706, 9)), (ask(5, 0xF086, 1, 3, u32(1)), refused(5, 0x705, 9)), (ask(6, 0xF086, 2, 8, u32(1) + b"\1\0\0"), refused(6, 0x705, 9)),
+              (add(7, 0x4040, 0, 4), added(7, 1)))
+    yield row("No part; and as a part of another sum neither is a group.", (ask(1, 0xF085, 0, 0, b""), given(1, b"", 9)), (ask(2, 0xF086, 0, 0, b""), given(2, b"", 9)),
+              (ask(3, 0xF082, 2, 24, u32(0xF085) + u32(0) + u32(4) + u32(0) + u32(0xF086) + u32(0) + u32(4) + u32(0)), given(3, (u32(0x702) + u32(0)) * 2, 9)),
+              (read(4, 0xF085, 0, 4), refused(4, 0x702)), (write(5, 0xF086, 0, u32(1)), refused(5, 0x702, 3)))
+    yield row("A part beyond the 512th notification is refused, and those before it stay.",
+              (ask(1, 0xF085, 500, 4000, one * 500), given(1, b"".join(u32(0) + u32(k) for k in range(1, 501)), 9)),
+              (ask(2, 0xF085, 13, 104, one * 13), given(2, b"".join(u32(0) + u32(k) for k in range(501, 513)) + u32(0x716) + u32(0), 9)),
+              (deletions(3, 1, 512), given(3, u32(0) * 2, 9)), (add(4, 0x4040, 0, 4), added(4, 513)))
+
+
 def alike():
     first = (by_name(1, b"Main.title"), handled(1, 1))
     yield row("A handle that was never given, or is released, is not found, however much is asked.", first,
@@ -229,5 +263,5 @@ def others():
     yield row("A reload leaves others their right.", (("reload", PLANT2), "reload ok 2"), (frame(4, 1, b"", source=STRANGER), reply(4, 1, u32(0) + u16(5) + u16(0), to=STRANGER)), (writes, barred), others="read")
 
 
-SUBJECTS = {"wide_longer": longer, "wide_sums": sums, "wide_alike": alike, "wide_reloads": reloads, "wide_names": names, "wide_modes": modes, "wide_own": own, "wide_others": others,
+SUBJECTS = {"wide_longer": longer, "wide_sums": sums, "wide_notes": notes, "wide_alike": alike, "wide_reloads": reloads, "wide_names": names, "wide_modes": modes, "wide_own": own, "wide_others": others,
             "wide_types": types}

@@ -16,7 +16,7 @@ import random_runs
 from model import u16, u32
 
 NAMES = (0xF003, 0xF004, 0xF007, 0xF009)
-MORE = (*model.TOLD_SUMS, *model.NOTE_SUMS)
+MORE = model.MORE_SUMS
 NET, ME = "5.1.2.3.1.1", "192.168.0.9.1.1"
 SMALL = {"schema": 1, "net": NET, "route": [{"net": ME, "rights": "control"}],
          "port": [{"port": 851, "name": "App", "major": 1, "minor": 1, "build": 1, "data": 8, "symbol": []}]}

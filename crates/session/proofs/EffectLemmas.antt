@@ -23,7 +23,12 @@ use Rattle.spec_machine.specs.Writes.{Asker, may_write, is_releasable, release_a
 use Rattle.spec_machine.specs.Access.{Addressed}
 use Rattle.port_device.specs.Groups.{without_handles}
 use Rattle.session.specs.Asking.{Asking, act_asked}
+use Rattle.spec_machine.specs.HandleLaws.{AgreeingWatches}
+use Rattle.spec_machine.specs.WatchedRanges.{is_same_watched}
+use Rattle.spec_machine.specs.Watches.{Watch}
+use Rattle.notify_table.specs.Table.{WatchTable}
 use Rattle.session.specs.Single.{SameNotes}
+use Rattle.session.specs.Watching.{NotesFor}
 use Rattle.session.proofs.GrantLemmas.{IsIdle, port-idle, type_act-idle}
 use Rattle.session.proofs.SingleLemmas.{read-act-idle}
 use Rattle.session.proofs.WriteLemmas.{permitted-quiet}
@@ -44,8 +49,11 @@ same-notes c (Releases handle) h = record { additions = refl; watches = refl }
 same-notes c (Adds w) h = absurd h
 same-notes c (Deletes handle) h = absurd h
 
-pub same-then : (first c next : Client) → SameNotes first c → SameNotes c next → SameNotes first next
-same-then first c next one two = record { additions = two.additions ∙ one.additions; watches = two.watches ∙ one.watches }
+-- what is kept of notifications stands for those of a client who has the same
+pub notes-kept : (ports : List PlantPort) (c next : Client) (t : WatchTable) → NotesFor ports c t → SameNotes c next → NotesFor ports next t
+notes-kept ports c next t notes same =
+    let V : List (Watch (List Addressed)) → Type 0 = λ ws. AgreeingWatches (is_same_watched ports) ws t.watches in
+    record { additions = notes.additions ∙ sym same.additions; watches = subst V (sym same.watches) notes.watches }
 
 idle-effect : (act : Act) → IsIdle act → IsOfHandles (effect_of act)
 idle-effect (Refusal code) idle = tt

@@ -29,3 +29,4 @@ pub mod OtherPorts
 pub mod ActPuts
 pub mod TakeLemmas
 pub mod NumberTests
+pub mod NoteParts

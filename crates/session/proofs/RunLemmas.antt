@@ -21,7 +21,10 @@ use Rattle.spec_machine.specs.World.{Setup, setup_of, state_names, state_bytes, 
 use Rattle.spec_machine.specs.Access.{Addressed, WholeByte, Put, puts_of, values_at, memory_after_puts}
 use Rattle.spec_machine.specs.Acts.{Act, Outcome, Refusal, Allowed, writing, effect_of, outcomes_of, memory_after, memory_after_acts, client_after_acts}
 use Rattle.spec_machine.specs.Answers.{if_answered, answered_group, READ_WRITE}
+use Rattle.spec_machine.specs.Client as client
 use Rattle.spec_machine.specs.Client.{Client, Effect, NoEffect, client_after}
+use Rattle.spec_machine.specs.Handles.{Handle}
+use Rattle.sym_handles.specs.Kept.{Kept}
 use Rattle.spec_machine.specs.Watches.{Watch}
 use Rattle.notify_table.specs.Table.{WatchTable}
 use Rattle.spec_machine.specs.Decisions.{Decision, Perform, Single, acts_in}
@@ -44,8 +47,8 @@ use Rattle.session.specs.HandleGroups.{is_sum}
 use Rattle.session.specs.Runs.{AsksSession, Runs, decision_of, ending_of, after_acts}
 use Rattle.session.specs.SessionState.{SessionState}
 use Rattle.session.specs.Single.{SameNotes}
-use Rattle.session.specs.StandsFor.{StandsFor}
-use Rattle.session.specs.Watching.{AddsAs, DeletesAs, AnswersNothing}
+use Rattle.session.specs.StandsFor.{StandsFor, KeptFor}
+use Rattle.session.specs.Watching.{NotesFor, ChangesNotes, AddsAs, DeletesAs, AnswersNothing}
 use Rattle.session.proofs.GrantLemmas.{IsIdle}
 use Rattle.session.proofs.SumGroups.{IsNoSum}
 use Rattle.session.proofs.SingleLemmas.{code-ends, not-zero, read-leaves}
@@ -54,6 +57,9 @@ use Rattle.session.proofs.EffectLemmas.{IsOfHandles, same-notes, read-effect, wr
 
 pub asks-of : (a : Asking) (m : PortMemory) (s : SessionState) → AsksSession a m s → Asks a m s.handles
 asks-of a m s h = record { held = h.held; handles = h.stands.handles }
+
+pub notes-of : (a : Asking) (m : PortMemory) (s : SessionState) → AsksSession a m s → NotesFor a.world.plant.ports a.client s.watches
+notes-of a m s h = record { additions = h.stands.additions; watches = h.stands.watches }
 
 -- a session whose handles stand for the client of another asking, which has the same notifications
 pub rejoin : (a b : Asking) (m m' : PortMemory) (s s' : SessionState) → AsksSession a m s → Asks b m' s'.handles → SameNotes a.client b.client
@@ -213,45 +219,56 @@ unadded-payload : (o : Outcome) (code : Code) → o ≡ record { code = number_o
 unfolding reply_in_forms
 unadded-payload o code is = ap (λ x. reply_payload 6 x) is ∙ zero-number code
 
--- the world after an act that changes no byte is the world
-changed-session : (a : Asking) (act : Act) (m : PortMemory) (s : SessionState) → HoldsPort a.world a.asker.port m
-    → memory_after a.world.memory act ≡ a.world.memory → StandsFor a.world.plant (client_after a.client (effect_of act)) s
-    → AsksSession (after_act a act) m s
-changed-session a act m s held same stands =
+-- the world after an act that changes no byte is the world, and its handles are those of before
+pub changed-asks : (a : Asking) (act : Act) (m : PortMemory) (kept : Kept) (t : WatchTable) → Asks a m kept → ChangesNotes a act t
+    → Asks (after_act a act) m kept
+changed-asks a act m kept t asks changes =
     let H : List Block → Type 0 = λ memory. HoldsPort (let w = a.world in record w { memory = memory }) a.asker.port m in
-    record { held = subst H (sym same) held; stands = stands }
+    let K : List (Handle client.Place) → Type 0 = λ handles. KeptFor a.world.plant.ports handles kept in
+    record { held = subst H (sym changes.memory) asks.held; handles = subst K (sym changes.handles) asks.handles }
 
-pub added-runs : (a : Asking) (group offset len mode delay cycle n : ℕ) (m : PortMemory) (s : SessionState) (old new : List ℕ)
-    → HoldsPort a.world a.asker.port m → n < 2 ^ 32
-    → AddsAs a (act_asked a (AddDeviceNotification group offset len mode delay cycle)) (Ok n) s
-    → new ≡ old ++ written_bytes (reply.AddDeviceNotification 0 n) → Runs a (AddDeviceNotification group offset len mode delay cycle) old new m s
-added-runs a group offset len mode delay cycle n m s old new held fits adds put =
+changed-session : (a : Asking) (act : Act) (m : PortMemory) (s : SessionState) (t : WatchTable) → AsksSession a m s → ChangesNotes a act t
+    → AsksSession (after_act a act) m (record s { watches = t })
+changed-session a act m s t h changes =
+    let asks = changed-asks a act m s.handles t (asks-of a m s h) changes in
+    record {
+      held = asks.held;
+      stands = record { handles = asks.handles; additions = changes.notes.additions; watches = changes.notes.watches };
+    }
+
+pub added-runs : (a : Asking) (group offset len mode delay cycle n : ℕ) (m : PortMemory) (s : SessionState) (t : WatchTable) (old new : List ℕ)
+    → AsksSession a m s → n < 2 ^ 32
+    → AddsAs a (act_asked a (AddDeviceNotification group offset len mode delay cycle)) (Ok n) t
+    → new ≡ old ++ written_bytes (reply.AddDeviceNotification 0 n)
+    → Runs a (AddDeviceNotification group offset len mode delay cycle) old new m (record s { watches = t })
+added-runs a group offset len mode delay cycle n m s t old new h fits adds put =
     let r = AddDeviceNotification group offset len mode delay cycle in
-    runs-single a r old new m s tt (put ∙ ap (λ x. old ++ x) (sym (added-payload (outcome_asked a r) n fits adds.ends)))
-    (changed-session a (act_asked a r) m s held adds.changes.memory adds.changes.stands)
+    runs-single a r old new m (record s { watches = t }) tt (put ∙ ap (λ x. old ++ x) (sym (added-payload (outcome_asked a r) n fits adds.ends)))
+    (changed-session a (act_asked a r) m s t h adds.changes)
 
-pub unadded-runs : (a : Asking) (group offset len mode delay cycle : ℕ) (code : Code) (m : PortMemory) (s : SessionState) (old new : List ℕ)
-    → HoldsPort a.world a.asker.port m
-    → AddsAs a (act_asked a (AddDeviceNotification group offset len mode delay cycle)) (Err code) s
-    → new ≡ old ++ written_bytes (reply.AddDeviceNotification (number_of code) 0) → Runs a (AddDeviceNotification group offset len mode delay cycle) old new m s
-unadded-runs a group offset len mode delay cycle code m s old new held adds put =
+pub unadded-runs : (a : Asking) (group offset len mode delay cycle : ℕ) (code : Code) (m : PortMemory) (s : SessionState) (t : WatchTable) (old new : List ℕ)
+    → AsksSession a m s
+    → AddsAs a (act_asked a (AddDeviceNotification group offset len mode delay cycle)) (Err code) t
+    → new ≡ old ++ written_bytes (reply.AddDeviceNotification (number_of code) 0)
+    → Runs a (AddDeviceNotification group offset len mode delay cycle) old new m (record s { watches = t })
+unadded-runs a group offset len mode delay cycle code m s t old new h adds put =
     let r = AddDeviceNotification group offset len mode delay cycle in
-    runs-single a r old new m s tt (put ∙ ap (λ x. old ++ x) (sym (unadded-payload (outcome_asked a r) code adds.ends)))
-    (changed-session a (act_asked a r) m s held adds.changes.memory adds.changes.stands)
+    runs-single a r old new m (record s { watches = t }) tt (put ∙ ap (λ x. old ++ x) (sym (unadded-payload (outcome_asked a r) code adds.ends)))
+    (changed-session a (act_asked a r) m s t h adds.changes)
 
-nothing-code : (o : Outcome) (answer : Result (Unit {0}) Code) → AnswersNothing o answer → code_in answer ≡ o.code
+pub nothing-code : (o : Outcome) (answer : Result (Unit {0}) Code) → AnswersNothing o answer → code_in answer ≡ o.code
 nothing-code o (Ok done) h = sym (ap (λ (x : Outcome). x.code) h)
 nothing-code o (Err code) h = sym (ap (λ (x : Outcome). x.code) h)
 
-pub deleted-runs : (a : Asking) (handle n : ℕ) (answer : Result (Unit {0}) Code) (m : PortMemory) (s : SessionState) (old new : List ℕ)
-    → HoldsPort a.world a.asker.port m → DeletesAs a (act_asked a (DeleteDeviceNotification handle)) answer s → n ≡ code_in answer
-    → new ≡ old ++ written_bytes (reply.DeleteDeviceNotification n) → Runs a (DeleteDeviceNotification handle) old new m s
-deleted-runs a handle n answer m s old new held deletes is put =
+pub deleted-runs : (a : Asking) (handle n : ℕ) (answer : Result (Unit {0}) Code) (m : PortMemory) (s : SessionState) (t : WatchTable) (old new : List ℕ)
+    → AsksSession a m s → DeletesAs a (act_asked a (DeleteDeviceNotification handle)) answer t → n ≡ code_in answer
+    → new ≡ old ++ written_bytes (reply.DeleteDeviceNotification n) → Runs a (DeleteDeviceNotification handle) old new m (record s { watches = t })
+deleted-runs a handle n answer m s t old new h deletes is put =
     let r = DeleteDeviceNotification handle in
-    runs-single a r old new m s tt
+    runs-single a r old new m (record s { watches = t }) tt
     (code-reply a r old new reply.DeleteDeviceNotification n put
     (is ∙ nothing-code (outcome_asked a r) answer deletes.ends) (delete-payload (outcome_asked a r)))
-    (changed-session a (act_asked a r) m s held deletes.changes.memory deletes.changes.stands)
+    (changed-session a (act_asked a r) m s t h deletes.changes)
 
 -- what holds where a call is well, follows from what it says then
 pub ok-then : {T E : Type 0} (r : Result T E) (P Q : Type 0) → (P → Q) → OnOk r P → OnOk r Q

@@ -1,4 +1,4 @@
--- The groups of sums are three numbers, and two that a wide port knows.
+-- The groups of sums are three numbers, and four that a wide port knows.
 use Rattle.std.proofs.Common.{◌≡◌, ℕ, List, [], ◌∷◌, Bool, true, false, cond, refl, sym, ap, ◌∙◌, inl, inr, subst, arith}
 use Rattle.std.specs.Prelude.{Option, Some, None, is_some, ◌==◌, ◌||◌, not}
 use Rattle.std.specs.List.{list_all}
@@ -7,7 +7,7 @@ use Rattle.spec_formats.specs.Groups.{GroupRow, group_table, group_in, group_of,
 use Rattle.spec_machine.specs.Manner.{Manner, Strict, Wide}
 use Rattle.spec_machine.specs.Profile.{Profile}
 use Rattle.spec_machine.specs.Sums.{SumRequest}
-use Rattle.spec_machine.specs.MoreSums.{sum_told_read, sum_short_read, wide_sums, sums_in_manner}
+use Rattle.spec_machine.specs.MoreSums.{wide_sums, sums_in_manner}
 use Rattle.spec_machine.proofs.MoreSums.{EachSum, more_sums-cases}
 use Rattle.port_device.specs.Manners.{is_wide}
 use Rattle.session.specs.HandleGroups.{is_sum, takes_parts}
@@ -60,6 +60,8 @@ more-sum x n =
       no_more = λ t. absurd (false≢true t);
       told_reads = λ e t. record { from = omega (arith, e); to = omega (arith, e); own = rw e refl };
       short_reads = λ e t. record { from = omega (arith, e); to = omega (arith, e); own = rw e refl };
+      additions = λ e t. record { from = omega (arith, e); to = omega (arith, e); own = rw e refl };
+      deletions = λ e t. record { from = omega (arith, e); to = omega (arith, e); own = rw e refl };
     } in
     let profile : Profile = record { manner = x; others = None } in
     more_sums-cases profile n P each

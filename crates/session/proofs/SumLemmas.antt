@@ -15,17 +15,19 @@ use Rattle.spec_machine.specs.Decisions.{Decision, Perform, Sum, acts_in, refuse
 use Rattle.spec_machine.specs.Replies.{reply_payload, outcome_in_all}
 use Rattle.spec_machine.specs.Sums.{SumRequest, given_in_turn, left_in_turn, packed}
 use Rattle.spec_machine.specs.Manner.{Manner}
-use Rattle.spec_machine.specs.MoreSums.{sum_short_read, more_sums}
+use Rattle.spec_machine.specs.MoreSums.{sum_delete, more_sums}
 use Rattle.spec_machine.proofs.MoreSums.{more_sums-none}
 use Rattle.spec_machine.specs.SumPackets.{acts_of, decide_parts, decide_more, decide_request}
 use Rattle.sum_commands.specs.Parts.{code_in}
 use Rattle.sum_commands.specs.Stops.{StopsAmong, Stops, Wants, Done}
 use Rattle.sum_commands.specs.SumCommand.{sum_of, refusal_in, refused_by, sum_reply, left_by_sum}
 use Rattle.std.proofs.lemmas.List.{append-nil}
-use Rattle.sym_handles.specs.Kept.{Kept}
 use Rattle.port_device.specs.PortMemory.{PortMemory}
 use Rattle.session.specs.Asking.{Asking}
-use Rattle.session.specs.Asks.{Asks, SomeAsks}
+use Rattle.session.specs.Asks.{Asks}
+use Rattle.session.specs.Watching.{NotesFor}
+use Rattle.ams_tcp.specs.Held.{Held}
+use Rattle.ams_header.specs.Header.{address_of}
 use Rattle.session.specs.Runs.{AsksSession, Runs, IsSumGroup, IsSumOf, decision_of, ending_of, after_acts}
 use Rattle.session.specs.SessionState.{SessionState}
 use Rattle.session.specs.declared.single.Single as declared
@@ -34,7 +36,6 @@ use Rattle.sum_commands.specs.Served.{StandsForSome}
 use Rattle.type_layout.specs.Descriptions.{rights_of}
 use Rattle.ads_base.specs.declared.no_memory.NoMemory.{NoMemory}
 use Rattle.session.proofs.ReplyLemmas.{data_payload, data-filled, read_write-payload}
-use Rattle.session.proofs.RunLemmas.{rejoin}
 
 -- the acts of parts, each on what those before it left
 abbrev pub acts_asked : Asking → List Request → List Act
@@ -46,7 +47,7 @@ turn-outcomes x [] = refl
 turn-outcomes x (r ∷ rs) = ap (λ os. part_outcome x r ∷ os) (turn-outcomes (state_after x r) rs)
 
 turn-state : (x : SumState) (rs : List Request)
-    → ◌≡◌ {A = SumState} (left_in_turn state_after x rs) (record { asking = after_acts x.asking (acts_asked x.asking rs); begun = x.begun; first = x.first })
+    → ◌≡◌ {A = SumState} (left_in_turn state_after x rs) (record { asking = after_acts x.asking (acts_asked x.asking rs); begun = x.begun })
 unfolding given_in_turn left_in_turn acts_of memory_after_acts client_after_acts
 turn-state x [] = refl
 turn-state x (r ∷ rs) = turn-state (state_after x r) rs
@@ -129,19 +130,23 @@ packed-payload bytes =
     ap (λ b. reply_payload 9 (record { code = no_error; bytes = b })) (sym (append-nil bytes)) ∙ read_write-payload [] (fixed_data bytes)
     ∙ ap (λ b. data_payload no_error b) (append-nil bytes)
 
-pub ran-runs : (a : Asking) (group n len : ℕ) (bytes : List ℕ) (m m' : PortMemory)
-    (s s' : SessionState) (before single : declared.Single) (old mid whole new : List ℕ) (start : ℕ)
-    → IsSumOf a.world.profile.manner group → AsksSession a m s → single.port.now ≡ m' → s'.handles ≡ single.handles.now → s'.watches ≡ s.watches
+-- a session of what is lent, behind a stream
+abbrev pub session_of : Held → declared.Single → SessionState
+session_of stream single = record { stream = stream; handles = single.handles.now; watches = single.watches.now }
+
+pub ran-runs : (a : Asking) (group n len : ℕ) (bytes : List ℕ) (stream : Held) (m' : PortMemory)
+    (s' : SessionState) (before single : declared.Single) (old mid whole new : List ℕ) (start : ℕ)
+    → IsSumOf a.world.profile.manner group → single.port.now ≡ m' → s' ≡ session_of stream single
     → refused_by {X = Unit {0}} (Ok tt) ≡ refusal_in (sum_of group n bytes) n (length bytes) len
-    → whole ≡ mid ++ sum_reply part_outcome state_after (record { asking = a; begun = before; first = a.client }) (sum_of group n bytes)
-    → IsSingle single (left_by_sum state_after (record { asking = a; begun = before; first = a.client }) (sum_of group n bytes))
+    → whole ≡ mid ++ sum_reply part_outcome state_after (record { asking = a; begun = before }) (sum_of group n bytes)
+    → IsSingle single (left_by_sum state_after (record { asking = a; begun = before }) (sum_of group n bytes))
     → start ≡ length old → length mid ≡ length old + 8 → take (length old) mid ≡ old
     → new ≡ take start whole ++ (to_le_bytes w32 0 ++ (to_le_bytes w32 (length whole - (start + 8)) ++ drop (start + 8) whole))
     → Runs a (ReadWrite group n len bytes) old new m' s'
 unfolding outcome_in_all
-ran-runs a group n len bytes m m' s s' before single old mid whole new start is h
-    same_m same_handles same_watches said is_data stands is_start long begins filled =
-    let x : SumState = record { asking = a; begun = before; first = a.client } in
+ran-runs a group n len bytes stream m' s' before single old mid whole new start is
+    same_m s_is said is_data stands is_start long begins filled =
+    let x : SumState = record { asking = a; begun = before } in
     let parts = (sum_of group n bytes).parts in
     let form = (sum_of group n bytes).form in
     let d : decision_of a (ReadWrite group n len bytes) ≡ Perform (acts_asked a parts) (Sum form) = ran-decision a group n len bytes is said in
@@ -150,10 +155,14 @@ ran-runs a group n len bytes m m' s s' before single old mid whole new start is 
     let payload : new ≡ old ++ data_payload no_error all = data-filled old mid whole new all start 0 no_error turned refl is_start long begins filled in
     let I : SumState → Type 0 = λ y. IsSingle single y in
     let now = subst I (turn-state x parts) stands in
-    let P : PortMemory → Type 0 = λ k. Asks (after_acts a (acts_asked a parts)) k single.handles.now in
-    let K : Kept → Type 0 = λ k. Asks (after_acts a (acts_asked a parts)) m' k in
-    let asks : Asks (after_acts a (acts_asked a parts)) m' s'.handles = subst K (sym same_handles) (subst P same_m now.asks) in
-    let after = rejoin a (after_acts a (acts_asked a parts)) m m' s s' h asks now.notes refl same_watches in
+    let b = after_acts a (acts_asked a parts) in
+    let own : AsksSession b single.port.now (session_of stream single) = record {
+      held = now.asks.held;
+      stands = record { handles = now.asks.handles; additions = now.notes.additions; watches = now.notes.watches };
+    } in
+    let P : PortMemory → Type 0 = λ k. AsksSession b k (session_of stream single) in
+    let S : SessionState → Type 0 = λ k. AsksSession b m' k in
+    let after = subst S (sym s_is) (subst P same_m own) in
     let R : Decision → Type 0 = λ y. new ≡ old ++ reply_payload 9 (ending_of y a.world.memory) in
     let A : Decision → Type 0 = λ y. AsksSession (after_acts a (acts_in y)) m' s' in
     record {
@@ -175,48 +184,58 @@ pub sum-runs : (a : Asking) (group n len : ℕ) (bytes : List ℕ) (m m' : PortM
     → OnErr answer ((after ≡ before) × (whole ≡ mid))
     → OnOk answer ((x : SumState) → IsSingle before x → whole ≡ mid ++ sum_reply part_outcome state_after x (sum_of group n bytes))
     → OnOk answer ((x : SumState) → IsSingle before x → IsSingle after (left_by_sum state_after x (sum_of group n bytes)))
-    → IsSumOf a.world.profile.manner group → AsksSession a m s → IsSingle before (record { asking = a; begun = before; first = a.client })
-    → before.port.now ≡ m → before.handles.now ≡ s.handles → after.port.now ≡ m'
-    → ◌≡◌ {A = SessionState} s' (record { stream = s.stream; handles = after.handles.now; watches = s.watches })
+    → IsSumOf a.world.profile.manner group → AsksSession a m s → IsSingle before (record { asking = a; begun = before })
+    → before.port.now ≡ m → session_of s.stream before ≡ s → after.port.now ≡ m' → s' ≡ session_of s.stream after
     → number ≡ code_in answer → start ≡ length old → length mid ≡ length old + 8 → take (length old) mid ≡ old
     → new ≡ take start whole ++ (to_le_bytes w32 number ++ (to_le_bytes w32 (length whole - (start + 8)) ++ drop (start + 8) whole))
     → Runs a (ReadWrite group n len bytes) old new m' s'
 sum-runs a group n len bytes m m' s s' before after old mid whole new start number
-    (Err code) said err reply leaves is h single port_is handles_is port_after s_is is_number is_start long begins filled =
+    (Err code) said err reply leaves is h single port_is session_is port_after s_is is_number is_start long begins filled =
     let same_m : m' ≡ m = sym port_after ∙ ap (λ (x : declared.Single). x.port.now) err.0 ∙ port_is in
-    let same_s : s' ≡ s = s_is ∙ ap (λ (k : Kept). record s { handles = k }) (ap (λ (x : declared.Single). x.handles.now) err.0 ∙ handles_is) in
+    let same_s : s' ≡ s = s_is ∙ ap (session_of s.stream) err.0 ∙ session_is in
     refused-runs a group n len bytes code m m' s s' old mid whole new start number is h same_m same_s said err.1 is_number is_start long begins filled
 sum-runs a group n len bytes m m' s s' before after old mid whole new start number
-    (Ok done) said err reply leaves is h single port_is handles_is port_after s_is is_number is_start long begins filled =
-    let x : SumState = record { asking = a; begun = before; first = a.client } in
-    ran-runs a group n len bytes m m' s s' before after old mid whole new start is h port_after
-    (ap (λ (k : SessionState). k.handles) s_is) (ap (λ (k : SessionState). k.watches) s_is)
+    (Ok done) said err reply leaves is h single port_is session_is port_after s_is is_number is_start long begins filled =
+    let x : SumState = record { asking = a; begun = before } in
+    ran-runs a group n len bytes s.stream m' s' before after old mid whole new start is port_after s_is
     said (reply x single) (leaves x single) is_start long begins
     (filled ∙ ap (λ k. take start whole ++ (to_le_bytes w32 k ++ (to_le_bytes w32 (length whole - (start + 8)) ++ drop (start + 8) whole))) is_number)
 
--- some client asks with these rights and this NetId
-abbrev pub some-state : (s : declared.Single) → SomeAsks s.port.now s.handles.now → SumState
-some-state s some = let a = some.asking in record {
-  asking = record {
-    world = a.world;
-    client = a.client;
-    asker = record { port = a.asker.port; address = record { net = s.asker.source.net.bytes; port = 0 }; rights = rights_of s.asker.rights };
+-- what is lent stands for one who asks with these rights and from this address
+pub stands-for-some : (s : declared.Single) (a : Asking) → Asks a s.port.now s.handles.now → NotesFor a.world.plant.ports a.client s.watches.now
+    → s.asker.ams_port ≡ s.port.now.number → StandsForSome IsSingle s
+stands-for-some s a asks notes number = record {
+  state = record {
+    asking = record {
+      world = a.world;
+      client = a.client;
+      asker = record { port = a.asker.port; address = address_of s.asker.source; rights = rights_of s.asker.rights };
+    };
+    begun = s;
   };
-  begun = s;
-  first = a.client;
+  stands = record {
+    asks = record { held = asks.held; handles = asks.handles };
+    asker = record { net_is = refl; rights_are = refl };
+    address = refl;
+    number = number;
+    lent = record { handles = refl; watches = refl; port = refl; keeps = refl };
+    notes = notes;
+  };
 }
 
-pub stands-some : (s : declared.Single) (some : SomeAsks s.port.now s.handles.now) → s.asker.ams_port ≡ s.port.now.number → IsSingle s (some-state s some)
-stands-some s some number = record {
-  asks = record { held = some.asks.held; handles = some.asks.handles };
-  asker = record { net_is = refl; rights_are = refl };
-  number = number;
-  lent = record { handles = refl; port = refl; keeps = refl };
-  notes = record { additions = refl; watches = refl };
-}
+-- the sum begins now
+abbrev pub begun_now : declared.Single → SumState → SumState
+begun_now s x = record { asking = x.asking; begun = s }
 
-pub stands-for-some : (s : declared.Single) (some : SomeAsks s.port.now s.handles.now) → s.asker.ams_port ≡ s.port.now.number → StandsForSome IsSingle s
-stands-for-some s some number = record { state = some-state s some; stands = stands-some s some number }
+pub begins-now : (s : declared.Single) (x : SumState) → IsSingle s x → IsSingle s (begun_now s x)
+begins-now s x h = record {
+  asks = h.asks;
+  asker = h.asker;
+  address = h.address;
+  number = h.number;
+  lent = record { handles = refl; watches = refl; port = refl; keeps = refl };
+  notes = h.notes;
+}
 
 -- what stands behind a sum is no shorter than what stood there
 sum-grows : (before after : declared.Single) (x : SumState) (s : SumRequest) (old new : List ℕ) (answer : Result (Unit {0}) Code) → IsSingle before x
@@ -249,11 +268,11 @@ sum-lent before after x s out out' (Ok (Err code)) single err leaves wants =
     let K : declared.Single → Type 0 = λ v. StillLent x.begun v in subst K (sym err.0) single.lent
 sum-lent before after x s out out' (Err no_memory) single err leaves wants = stopped-lent s.parts x after (wants x single)
 
-group-range : (group : ℕ) → IsSumGroup group → (sum_read ≤ group) × (group ≤ sum_short_read)
+group-range : (group : ℕ) → IsSumGroup group → (sum_read ≤ group) × (group ≤ sum_delete)
 group-range group (inl e) = (omega (arith, e), omega (arith, e))
 group-range group (inr (inl e)) = (omega (arith, e), omega (arith, e))
 group-range group (inr (inr e)) = (omega (arith, e), omega (arith, e))
 
-pub in-range : (x : Manner) (group : ℕ) → IsSumOf x group → (sum_read ≤ group) × (group ≤ sum_short_read)
+pub in-range : (x : Manner) (group : ℕ) → IsSumOf x group → (sum_read ≤ group) × (group ≤ sum_delete)
 in-range x group (inl is) = group-range group is
 in-range x group (inr more) = (omega (arith, more.from), more.to)

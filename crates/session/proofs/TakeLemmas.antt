@@ -46,7 +46,7 @@ use Rattle.session.specs.Answered.{AnswersAsked, IsErrorFrame, IsRefusedFrame}
 use Rattle.session.specs.Asking.{Asking}
 use Rattle.session.specs.Asks.{SomeAsks}
 use Rattle.session.specs.PacketChecks.{IsAsked, Examines}
-use Rattle.session.specs.Runs.{AsksSession, IsFrom, Runs, decision_of, ending_of}
+use Rattle.session.specs.Runs.{AsksSession, IsFrom, Runs, decision_of, ending_of, SomeSession}
 use Rattle.session.specs.Served.{IsServed}
 use Rattle.session.specs.SessionState.{SessionState}
 use Rattle.session.specs.StandsFor.{StandsFor}
@@ -111,6 +111,12 @@ some-asks ports s number m served found =
       };
       asks = record { held = own.held; handles = served.stands.handles };
     }
+
+pub some-session : (ports : PortsMemory) (s : SessionState) (number : ℕ) (m : PortMemory) → IsServed ports s → memory_numbered number ports.ports ≡ Some m
+    → SomeSession m s
+some-session ports s number m served found =
+    let some = some-asks ports s number m served found in
+    record { asking = some.asking; asks = record { held = some.asks.held; stands = served.stands } }
 
 -- the answer to the request of a packet
 

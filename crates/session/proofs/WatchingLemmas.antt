@@ -28,9 +28,7 @@ use Rattle.notify_table.specs.declared.spec.WatchFull.{WatchFull}
 use Rattle.notify_table.specs.Specs.{address_of, mode_meant, new_watch}
 use Rattle.notify_table.specs.Table.{WatchTable, is_full, is_live, table_after, Added, Deleted}
 use Rattle.session.specs.Asking.{Asking, act_asked}
-use Rattle.session.specs.SessionState.{SessionState}
-use Rattle.session.specs.StandsFor.{StandsFor}
-use Rattle.session.specs.Watching.{addition_reach, IsWatched, AsksFor, IsSpecAsked, AddsAs, DeletesAs, ChangesClient}
+use Rattle.session.specs.Watching.{addition_reach, IsWatched, AsksFor, IsSpecAsked, NotesFor, AddsAs, DeletesAs, ChangesNotes}
 
 -- ---- what is asked for
 
@@ -136,32 +134,32 @@ agreeing-more test (x ∷ xs) (y ∷ ys) u v h one = (h.0, agreeing-more test xs
 agreeing-more test [] (y ∷ ys) u v h one = absurd h
 agreeing-more test (x ∷ xs) [] u v h one = absurd h
 
-refused : (a : Asking) (s : SessionState) (act : Act) (code : ℕ) → StandsFor a.world.plant a.client s → act ≡ Refusal code → ChangesClient a act s
+refused : (a : Asking) (t : WatchTable) (act : Act) (code : ℕ) → NotesFor a.world.plant.ports a.client t → act ≡ Refusal code → ChangesNotes a act t
 unfolding client_after
-refused a s act code stands is = rw is (record { stands = stands; memory = refl })
+refused a t act code stands is = rw is (record { notes = stands; handles = refl; memory = refl })
 
-full-same : (a : Asking) (s : SessionState) → StandsFor a.world.plant a.client s
-    → is_full s.watches ≡ (nat_le 512 (length a.client.watches) || nat_le 4294967295 a.client.additions)
-full-same a s stands =
-    ap (λ n. nat_le 512 n || nat_le 4294967295 s.watches.additions)
-    (agreeing-length (is_same_watched a.world.plant.ports) a.client.watches s.watches.watches stands.watches)
+full-same : (a : Asking) (t : WatchTable) → NotesFor a.world.plant.ports a.client t
+    → is_full t ≡ (nat_le 512 (length a.client.watches) || nat_le 4294967295 a.client.additions)
+full-same a t stands =
+    ap (λ n. nat_le 512 n || nat_le 4294967295 t.additions)
+    (agreeing-length (is_same_watched a.world.plant.ports) a.client.watches t.watches stands.watches)
     ∙ ap (λ n. nat_le 512 (length a.client.watches) || nat_le 4294967295 n) stands.additions
 
 -- no further one
-pub add_full : (a : Asking) (act : Act) (s : SessionState) (spec : Spec) → StandsFor a.world.plant a.client s → AsksFor a act spec
-    → IsTrue (is_full s.watches) → AddsAs a act (Err C716) s
-add_full a act s spec stands asks full =
-    let test = sym (full-same a s stands) ∙ full in
+pub add_full : (a : Asking) (act : Act) (t : WatchTable) (spec : Spec) → NotesFor a.world.plant.ports a.client t → AsksFor a act spec
+    → IsTrue (is_full t) → AddsAs a act (Err C716) t
+add_full a act t spec stands asks full =
+    let test = sym (full-same a t stands) ∙ full in
     let is : act ≡ Refusal (number_of C716) = asks.act_is ∙ rw test refl in
-    record { ends = rw is refl; changes = refused a s act (number_of C716) stands is }
+    record { ends = rw is refl; changes = refused a t act (number_of C716) stands is }
 
 -- one more
-pub add_done : (a : Asking) (act : Act) (s : SessionState) (spec : Spec) (handle : ℕ) (watches : WatchTable)
-    → StandsFor a.world.plant a.client s → AsksFor a act spec → is_full s.watches ≡ false → handle ≡ s.watches.additions + 1
-    → watches ≡ table_after s.watches (Added (new_watch handle spec)) → AddsAs a act (Ok handle) (record s { watches = watches })
+pub add_done : (a : Asking) (act : Act) (t : WatchTable) (spec : Spec) (handle : ℕ) (watches : WatchTable)
+    → NotesFor a.world.plant.ports a.client t → AsksFor a act spec → is_full t ≡ false → handle ≡ t.additions + 1
+    → watches ≡ table_after t (Added (new_watch handle spec)) → AddsAs a act (Ok handle) watches
 unfolding client_after memory_after_puts
-add_done a act s spec handle watches stands asks room handle_is left =
-    let test = sym (full-same a s stands) ∙ room in
+add_done a act t spec handle watches stands asks room handle_is left =
+    let test = sym (full-same a t stands) ∙ room in
     let is : act ≡ changing (to_le_bytes w32 asks.watch.handle) (Adds asks.watch) = asks.act_is ∙ rw test refl in
     let number : handle ≡ a.client.additions + 1 = handle_is ∙ ap (λ n. n + 1) stands.additions in
     let same : asks.watch.handle ≡ handle = sym asks.agrees.handle ∙ sym number in
@@ -171,42 +169,42 @@ add_done a act s spec handle watches stands asks room handle_is left =
       ends = ap (λ b. let o : Outcome = record { code = 0; bytes = b } in o) (append-nil (to_le_bytes w32 asks.watch.handle)
           ∙ ap (to_le_bytes w32) same);
       changes = record {
-        stands = record {
-          handles = stands.handles;
+        notes = record {
           additions = ap (λ n. n + 1) stands.additions;
-          watches = agreeing-more (is_same_watched a.world.plant.ports) a.client.watches s.watches.watches asks.watch (new_watch handle spec)
+          watches = agreeing-more (is_same_watched a.world.plant.ports) a.client.watches t.watches asks.watch (new_watch handle spec)
               stands.watches agrees;
         };
+        handles = refl;
         memory = refl;
       };
     })
 
 -- what the table told
-pub add_ok : (a : Asking) (act : Act) (s : SessionState) (spec : Spec) (handle : ℕ) (watches : WatchTable) (r : Result ℕ WatchFull) → r ≡ Ok handle
-    → StandsFor a.world.plant a.client s → AsksFor a act spec → (IsErr r ↔ IsTrue (is_full s.watches))
-    → IfOk r (λ h. h ≡ s.watches.additions + 1) → IfOk r (λ h. watches ≡ table_after s.watches (Added (new_watch h spec)))
-    → AddsAs a act (Ok handle) (record s { watches = watches })
-add_ok a act s spec handle watches (Ok h) is stands asks full number left =
+pub add_ok : (a : Asking) (act : Act) (t : WatchTable) (spec : Spec) (handle : ℕ) (watches : WatchTable) (r : Result ℕ WatchFull) → r ≡ Ok handle
+    → NotesFor a.world.plant.ports a.client t → AsksFor a act spec → (IsErr r ↔ IsTrue (is_full t))
+    → IfOk r (λ h. h ≡ t.additions + 1) → IfOk r (λ h. watches ≡ table_after t (Added (new_watch h spec)))
+    → AddsAs a act (Ok handle) watches
+add_ok a act t spec handle watches (Ok h) is stands asks full number left =
     let same : h ≡ handle = cc in
-    let room : is_full s.watches ≡ false = elim (cases_Bool (is_full s.watches)) [
+    let room : is_full t ≡ false = elim (cases_Bool (is_full t)) [
       | inl some ↦ absurd (false≢true (full.1 some))
       | inr none ↦ none
     ] in
-    subst (λ n. AddsAs a act (Ok n) (record s { watches = watches })) same
-    (add_done a act s spec h watches stands asks room number left)
-add_ok a act s spec handle watches (Err e) is stands asks full number left = absurd cc
+    subst (λ n. AddsAs a act (Ok n) watches) same
+    (add_done a act t spec h watches stands asks room number left)
+add_ok a act t spec handle watches (Err e) is stands asks full number left = absurd cc
 
-pub add_err : (a : Asking) (act : Act) (s : SessionState) (spec : Spec) (watches : WatchTable) (r : Result ℕ WatchFull) → IsErr r
-    → StandsFor a.world.plant a.client s → AsksFor a act spec → (IsErr r ↔ IsTrue (is_full s.watches))
-    → OnErr r (watches ≡ s.watches) → AddsAs a act (Err C716) (record s { watches = watches })
-add_err a act s spec watches (Ok h) is stands asks full left = absurd (false≢true is)
-add_err a act s spec watches (Err e) is stands asks full left =
-    rw left (add_full a act s spec stands asks (full.0 is))
+pub add_err : (a : Asking) (act : Act) (t : WatchTable) (spec : Spec) (watches : WatchTable) (r : Result ℕ WatchFull) → IsErr r
+    → NotesFor a.world.plant.ports a.client t → AsksFor a act spec → (IsErr r ↔ IsTrue (is_full t))
+    → OnErr r (watches ≡ t) → AddsAs a act (Err C716) watches
+add_err a act t spec watches (Ok h) is stands asks full left = absurd (false≢true is)
+add_err a act t spec watches (Err e) is stands asks full left =
+    rw left (add_full a act t spec stands asks (full.0 is))
 
 -- one that is refused before
-pub add_refused : (a : Asking) (s : SessionState) (act : Act) (code : Code) → StandsFor a.world.plant a.client s → IsSpecAsked a act (Err code)
-    → AddsAs a act (Err code) s
-add_refused a s act code stands is = record { ends = rw is refl; changes = refused a s act (number_of code) stands is }
+pub add_refused : (a : Asking) (t : WatchTable) (act : Act) (code : Code) → NotesFor a.world.plant.ports a.client t → IsSpecAsked a act (Err code)
+    → AddsAs a act (Err code) t
+add_refused a t act code stands is = record { ends = rw is refl; changes = refused a t act (number_of code) stands is }
 
 -- ---- a deletion
 
@@ -244,48 +242,48 @@ unfolding act_of plain_act
 deleted-is a handle = refl
 
 -- no live one of this port
-pub delete_none : (a : Asking) (s : SessionState) (number handle : ℕ) → StandsFor a.world.plant a.client s → number ≡ a.asker.port.number
-    → is_live number handle s.watches ≡ false → DeletesAs a (act_asked a (DeleteDeviceNotification handle)) (Err C714) s
-delete_none a s number handle stands port none =
-    let same = live-same (is_same_watched a.world.plant.ports) number handle a.client.watches s.watches.watches stands.watches in
+pub delete_none : (a : Asking) (t : WatchTable) (number handle : ℕ) → NotesFor a.world.plant.ports a.client t → number ≡ a.asker.port.number
+    → is_live number handle t ≡ false → DeletesAs a (act_asked a (DeleteDeviceNotification handle)) (Err C714) t
+delete_none a t number handle stands port none =
+    let same = live-same (is_same_watched a.world.plant.ports) number handle a.client.watches t.watches stands.watches in
     let test : list_any (is_watch_of a.asker.port.number handle) a.client.watches ≡ false =
     subst (λ n. list_any (is_watch_of n handle) a.client.watches ≡ false) port (sym same ∙ none) in
     let is : act_asked a (DeleteDeviceNotification handle) ≡ Refusal (number_of C714) = deleted-is a handle ∙ rw test refl in
-    record { ends = rw is refl; changes = refused a s (act_asked a (DeleteDeviceNotification handle)) (number_of C714) stands is }
+    record { ends = rw is refl; changes = refused a t (act_asked a (DeleteDeviceNotification handle)) (number_of C714) stands is }
 
 -- the one with the handle
-pub delete_done : (a : Asking) (s : SessionState) (number handle : ℕ) (watches : WatchTable) → StandsFor a.world.plant a.client s
-    → number ≡ a.asker.port.number → is_live number handle s.watches ≡ true → watches ≡ table_after s.watches (Deleted handle)
-    → DeletesAs a (act_asked a (DeleteDeviceNotification handle)) (Ok tt) (record s { watches = watches })
+pub delete_done : (a : Asking) (t : WatchTable) (number handle : ℕ) (watches : WatchTable) → NotesFor a.world.plant.ports a.client t
+    → number ≡ a.asker.port.number → is_live number handle t ≡ true → watches ≡ table_after t (Deleted handle)
+    → DeletesAs a (act_asked a (DeleteDeviceNotification handle)) (Ok tt) watches
 unfolding client_after memory_after_puts
-delete_done a s number handle watches stands port live left =
-    let same = live-same (is_same_watched a.world.plant.ports) number handle a.client.watches s.watches.watches stands.watches in
+delete_done a t number handle watches stands port live left =
+    let same = live-same (is_same_watched a.world.plant.ports) number handle a.client.watches t.watches stands.watches in
     let test : list_any (is_watch_of a.asker.port.number handle) a.client.watches ≡ true =
     subst (λ n. list_any (is_watch_of n handle) a.client.watches ≡ true) port (sym same ∙ live) in
     let is : act_asked a (DeleteDeviceNotification handle) ≡ changing [] (Deletes handle) = deleted-is a handle ∙ rw test refl in
     rw (is, left) (record {
       ends = refl;
       changes = record {
-        stands = record {
-          handles = stands.handles;
+        notes = record {
           additions = stands.additions;
-          watches = left-same (is_same_watched a.world.plant.ports) handle a.client.watches s.watches.watches stands.watches;
+          watches = left-same (is_same_watched a.world.plant.ports) handle a.client.watches t.watches stands.watches;
         };
+        handles = refl;
         memory = refl;
       };
     })
 
 -- what the table told
-pub delete_told : (a : Asking) (s : SessionState) (number handle : ℕ) (watches : WatchTable) (r : Result (Unit {0}) Code)
-    → StandsFor a.world.plant a.client s → number ≡ a.asker.port.number
-    → (IsOk r ↔ IsTrue (is_live number handle s.watches)) → OnOk r (watches ≡ table_after s.watches (Deleted handle))
-    → IfErr r (λ code. code ≡ C714) → OnErr r (watches ≡ s.watches)
-    → DeletesAs a (act_asked a (DeleteDeviceNotification handle)) r (record s { watches = watches })
-delete_told a s number handle watches (Ok done) stands port live left code kept =
-    delete_done a s number handle watches stands port (live.0 refl) left
-delete_told a s number handle watches (Err e) stands port live left code kept =
-    let none : is_live number handle s.watches ≡ false = elim (cases_Bool (is_live number handle s.watches)) [
+pub delete_told : (a : Asking) (t : WatchTable) (number handle : ℕ) (watches : WatchTable) (r : Result (Unit {0}) Code)
+    → NotesFor a.world.plant.ports a.client t → number ≡ a.asker.port.number
+    → (IsOk r ↔ IsTrue (is_live number handle t)) → OnOk r (watches ≡ table_after t (Deleted handle))
+    → IfErr r (λ code. code ≡ C714) → OnErr r (watches ≡ t)
+    → DeletesAs a (act_asked a (DeleteDeviceNotification handle)) r watches
+delete_told a t number handle watches (Ok done) stands port live left code kept =
+    delete_done a t number handle watches stands port (live.0 refl) left
+delete_told a t number handle watches (Err e) stands port live left code kept =
+    let none : is_live number handle t ≡ false = elim (cases_Bool (is_live number handle t)) [
       | inl some ↦ absurd (false≢true (live.1 some))
       | inr gone ↦ gone
     ] in
-    rw (code, kept) (delete_none a s number handle stands port none)
+    rw (code, kept) (delete_none a t number handle stands port none)

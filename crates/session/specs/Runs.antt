@@ -9,7 +9,7 @@ use Rattle.spec_machine.specs.Decisions.{Decision, NoAnswer, EndConnection, AmsE
 use Rattle.spec_machine.specs.Replies.{outcome_in_all, reply_payload}
 use Rattle.spec_machine.specs.Manner.{Manner}
 use Rattle.spec_machine.specs.Sums.{SumRequest}
-use Rattle.spec_machine.specs.MoreSums.{sum_told_read, sum_short_read, sums_in_manner}
+use Rattle.spec_machine.specs.MoreSums.{sum_told_read, sum_delete, sums_in_manner}
 use Rattle.spec_machine.specs.SumPackets.{decide_request}
 use Rattle.sum_commands.specs.SumCommand.{sum_of}
 use Rattle.ads_base.specs.declared.ams_addr.AmsAddr.{AmsAddr}
@@ -26,6 +26,11 @@ use Rattle.session.specs.StandsFor.{StandsFor}
 pub record AsksSession (a : Asking) (port : PortMemory) (s : SessionState) : Type 0 where
   pub held : HoldsPort a.world a.asker.port port
   pub stands : StandsFor a.world.plant a.client s
+
+-- some client asks, for whom they stand
+pub record SomeSession (port : PortMemory) (s : SessionState) : Type 0 where
+  pub asking : Asking
+  pub asks : AsksSession asking port s
 
 -- the address and the rights of one who asks
 pub record IsFrom (a : Asking) (source : AmsAddr) (rights : Rights) : Type 0 where
@@ -65,10 +70,10 @@ pub record Runs (a : Asking) (r : Request) (old new : List ℕ) (port : PortMemo
 abbrev pub IsSumGroup : ℕ → Type 0
 IsSumGroup group = (group ≡ sum_read) ⊎ ((group ≡ sum_write) ⊎ (group ≡ sum_read_write))
 
--- 0xF083 or 0xF084, where it is known to be that sum
+-- 0xF083 to 0xF086, where it is known to be that sum
 pub record IsKnownSum (known : Option (ℕ → List ℕ → SumRequest)) (group : ℕ) : Type 0 where
   pub from : sum_told_read ≤ group
-  pub to : group ≤ sum_short_read
+  pub to : group ≤ sum_delete
   pub own : known ≡ Some (sum_of group)
 
 -- a group of sums to a server of this manner

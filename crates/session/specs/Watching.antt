@@ -9,9 +9,8 @@ use Rattle.spec_formats.specs.Groups.{Group, AreaBytes, AreaBit}
 use Rattle.spec_machine.specs.Access.{Addressed}
 use Rattle.spec_machine.specs.Acts.{Act, Refusal, Outcome, outcome_of, memory_after, effect_of}
 use Rattle.spec_machine.specs.Answers.{answered_group, ADD_DEVICE_NOTIFICATION}
-use Rattle.spec_machine.specs.Client as client
-use Rattle.spec_machine.specs.Client.{client_after}
-use Rattle.spec_machine.specs.HandleLaws.{AgreeingWatch}
+use Rattle.spec_machine.specs.Client.{Client, client_after}
+use Rattle.spec_machine.specs.HandleLaws.{AgreeingWatch, AgreeingWatches}
 use Rattle.spec_machine.specs.Manner.{Manner, Strict, Wide}
 use Rattle.spec_machine.specs.MoreActs.{own_reach}
 use Rattle.spec_machine.specs.Reach.{reach_of}
@@ -21,9 +20,8 @@ use Rattle.spec_machine.specs.WatchedRanges.{is_same_watched}
 use Rattle.notify_table.specs.declared.spec.Watched.{Watched}
 use Rattle.notify_table.specs.declared.spec.Spec.{Spec}
 use Rattle.notify_table.specs.Specs.{new_watch, watched_meant}
+use Rattle.notify_table.specs.Table.{WatchTable}
 use Rattle.session.specs.Asking.{Asking}
-use Rattle.session.specs.SessionState.{SessionState}
-use Rattle.session.specs.StandsFor.{StandsFor}
 
 -- the groups of bytes and bits of an area
 abbrev pub is_byte_or_bit : Option Group → Bool
@@ -32,7 +30,7 @@ is_byte_or_bit (Some (AreaBit area)) = true
 is_byte_or_bit group = false
 
 -- what an addition reaches of a server of this manner, or the code that refuses it
-abbrev pub addition_reach : Manner → client.Client → PlantPort → ℕ → ℕ → ℕ → Result (List Addressed) ℕ
+abbrev pub addition_reach : Manner → Client → PlantPort → ℕ → ℕ → ℕ → Result (List Addressed) ℕ
 addition_reach Strict c p group offset len = reach_of c p (answered_group ADD_DEVICE_NOTIFICATION group) offset len
 addition_reach Wide c p group offset len =
     unwrap_or (own_reach p.number group offset len) (reach_of c p (answered_group ADD_DEVICE_NOTIFICATION group) offset len)
@@ -54,18 +52,24 @@ abbrev pub AnswersNothing : Outcome → Result (Unit {0}) Code → Type 0
 AnswersNothing o (Ok done) = o ≡ record { code = no_error; bytes = [] }
 AnswersNothing o (Err code) = o ≡ record { code = number_of code; bytes = [] }
 
--- the session stands for the client after an act that leaves all bytes as they are
-pub record ChangesClient (a : Asking) (act : Act) (new : SessionState) : Type 0 where
-  pub stands : StandsFor a.world.plant (client_after a.client (effect_of act)) new
+-- what is kept of notifications stands for those of a client
+pub record NotesFor (ports : List PlantPort) (c : Client) (kept : WatchTable) : Type 0 where
+  pub additions : kept.additions ≡ c.additions
+  pub watches : AgreeingWatches (is_same_watched ports) c.watches kept.watches
+
+-- it stands for those of the client after an act, which leaves all handles and all bytes as they are
+pub record ChangesNotes (a : Asking) (act : Act) (new : WatchTable) : Type 0 where
+  pub notes : NotesFor a.world.plant.ports (client_after a.client (effect_of act)) new
+  pub handles : (client_after a.client (effect_of act)).handles ≡ a.client.handles
   pub memory : memory_after a.world.memory act ≡ a.world.memory
 
-pub record AddsAs (a : Asking) (act : Act) (answer : Result ℕ Code) (new : SessionState) : Type 0 where
+pub record AddsAs (a : Asking) (act : Act) (answer : Result ℕ Code) (new : WatchTable) : Type 0 where
   pub ends : AnswersNumber (outcome_of a.world.memory act) answer
-  pub changes : ChangesClient a act new
+  pub changes : ChangesNotes a act new
 
-pub record DeletesAs (a : Asking) (act : Act) (answer : Result (Unit {0}) Code) (new : SessionState) : Type 0 where
+pub record DeletesAs (a : Asking) (act : Act) (answer : Result (Unit {0}) Code) (new : WatchTable) : Type 0 where
   pub ends : AnswersNothing (outcome_of a.world.memory act) answer
-  pub changes : ChangesClient a act new
+  pub changes : ChangesNotes a act new
 
 -- a notification that is asked for: the machine adds one that watches the same
 pub record AsksFor (a : Asking) (act : Act) (spec : Spec) : Type 0 where

@@ -17,7 +17,7 @@ use port_device::Port;
 use std::alloc::Global;
 
 impl Session {
-    ghost use Rattle.session.specs.Runs.{AsksSession, IsFrom, Runs};
+    ghost use Rattle.session.specs.Runs.{AsksSession, SomeSession, IsFrom, Runs};
 
     /// Appends the payload of the reply to a Read.
     pub(crate) fn read(
@@ -68,6 +68,7 @@ impl Session {
         out: &mut Octets,
     ) -> Result<(), NoMemory>
         requires some { SomeAsks port.old self.old.handles }
+        requires served { SomeSession port.old self.old }
         requires number { asker.ams_port ≡ port.old.number }
         ensures runs { OnOk result ((a : Asking) → AsksSession a port.old self.old → IsFrom a asker.source asker.rights
             → Runs a (format.ReadWrite asked.now.group asked.now.offset asked.now.len asked.now.bytes.now) out.old out.new port.new self.new) }

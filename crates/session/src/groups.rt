@@ -7,7 +7,7 @@ ghost use Rattle.session.specs.HandleGroups as groups;
 
 use index_groups::{HANDLE_BY_NAME, RELEASE_HANDLE, VALUE_BY_HANDLE, VALUE_BY_NAME};
 use port_device::{Group, Port, group_named};
-use sum_commands::{SUM_SHORT_READ, SUM_TOLD_READ};
+use sum_commands::{SUM_ADD, SUM_DELETE, SUM_SHORT_READ, SUM_TOLD_READ};
 
 /// The group of a port's state words, which the wide server alone knows (ADSIGRP_DEVICE_DATA).
 pub(crate) const DEVICE_DATA: u32 = 0xF100;
@@ -94,5 +94,5 @@ fn is_more_sum(port: &Port, number: u32) -> bool
 fn is_wide_sum(number: u32) -> bool
     ensures { result ≡ is_some (wide_sums number) }
 {
-    number == SUM_TOLD_READ || number == SUM_SHORT_READ
+    number == SUM_TOLD_READ || number == SUM_SHORT_READ || number == SUM_ADD || number == SUM_DELETE
 }

@@ -11,10 +11,10 @@ ghost use Rattle.port_device.specs.PortMemory.{PortMemory};
 ghost use Rattle.session.specs.Asking.{Asking};
 ghost use Rattle.session.specs.Asks.{SomeAsks};
 
-use crate::Session;
 use crate::asker::Asker;
 use crate::replies::number_in;
 use crate::requests::{NoteRequest, ReadRequest, ReadWriteRequest, WriteRequest};
+use crate::{Session, watching};
 use ads_base::{NoMemory, Octets, put16, put32};
 use ads_commands::{Reply, Request, put_reply};
 use port_device::Port;
@@ -22,7 +22,7 @@ use std::alloc::Global;
 use type_layout::Rights;
 
 impl Session {
-    ghost use Rattle.session.specs.Runs.{AsksSession, IsFrom, Runs};
+    ghost use Rattle.session.specs.Runs.{AsksSession, SomeSession, IsFrom, Runs};
 
     /// Runs a request, and appends the payload of its reply. Beckhoff Information System, "ADS Commands".
     pub(crate) fn run(
@@ -34,6 +34,7 @@ impl Session {
         out: &mut Octets,
     ) -> Result<(), NoMemory>
         requires some { SomeAsks port.old self.old.handles }
+        requires served { SomeSession port.old self.old }
         requires number { asker.ams_port ≡ port.old.number }
         ensures runs { OnOk result ((a : Asking) → AsksSession a port.old self.old → IsFrom a asker.source asker.rights
             → Runs a (request_meant request.entry) out.old out.new port.new self.new) }
@@ -143,7 +144,7 @@ impl Session {
         ensures stream { self.new.stream ≡ self.old.stream }
         ensures no_memory { OnErr result (Extends out.old out.new) }
     {
-        match self.add_note(alloc, port, asker, asked)? {
+        match watching::add(alloc, &self.handles, &mut self.watches, port, asker, asked)? {
             Ok(handle) => put_reply(alloc, &Reply::Add(0, handle), out),
             Err(code) => put_reply(alloc, &Reply::Add(code.number(), 0), out),
         }
@@ -161,7 +162,7 @@ impl Session {
         ensures stream { self.new.stream ≡ self.old.stream }
         ensures no_memory { OnErr result (Extends out.old out.new) }
     {
-        let answer = self.delete_note(ams_port, handle);
+        let answer = watching::delete(&mut self.watches, ams_port, handle);
         put_reply(alloc, &Reply::Delete(number_in(answer)), out)
     }
 

@@ -1,9 +1,10 @@
 //! The single requests that the parts of a sum are.
 
 use crate::asker::Asker;
-use crate::requests::{ReadRequest, ReadWriteRequest, WriteRequest};
-use crate::{granting, reading, writing};
+use crate::requests::{NoteRequest, ReadRequest, ReadWriteRequest, WriteRequest};
+use crate::{granting, reading, watching, writing};
 use ads_base::{NoMemory, Octets};
+use notify_table::Watches;
 use port_device::Port;
 use return_codes::Code;
 use std::alloc::Global;
@@ -14,6 +15,7 @@ use sym_handles::Handles;
 #[derive(Drop)]
 pub(crate) struct Single<'a> {
     pub(crate) handles: &'a mut Handles,
+    pub(crate) watches: &'a mut Watches,
     pub(crate) port: &'a mut Port,
     pub(crate) asker: Asker,
 }
@@ -31,6 +33,7 @@ impl PartService for Single<'_> {
 
     ghost may_leave = { MayLeave };
 
+    #[inline(always)]
     fn read(
         &mut self,
         alloc: Global,
@@ -77,5 +80,36 @@ impl PartService for Single<'_> {
             &asked,
             out,
         )
+    }
+
+    fn add(
+        &mut self,
+        alloc: Global,
+        group: u32,
+        offset: u32,
+        len: u32,
+        mode: u32,
+        _delay: u32,
+        cycle: u32,
+    ) -> Result<Result<u32, Code>, NoMemory> {
+        let asked = NoteRequest {
+            group,
+            offset,
+            len,
+            mode,
+            cycle,
+        };
+        watching::add(
+            alloc,
+            &*self.handles,
+            &mut *self.watches,
+            &*self.port,
+            self.asker,
+            &asked,
+        )
+    }
+
+    fn delete(&mut self, handle: u32) -> Result<(), Code> {
+        watching::delete(&mut *self.watches, self.asker.ams_port, handle)
     }
 }

@@ -4,10 +4,10 @@ ghost use Rattle.std.specs.Prelude.{◌≡◌, ◌≤◌, ◌+◌, ◌++◌, len
 ghost use Rattle.ads_base.specs.Octets.{Extends};
 ghost use Rattle.spec_formats.specs.Ranges.{greatest_len};
 ghost use Rattle.spec_formats.specs.Request as format;
+ghost use Rattle.sum_commands.specs.Served.{StandsForSome};
 ghost use Rattle.sum_commands.specs.SumCommand.{sum_of, refusal_in, refused_by, sum_reply, left_by_sum};
 ghost use Rattle.port_device.specs.Endings.{KeepsDescription};
 ghost use Rattle.session.specs.Asking.{Asking};
-ghost use Rattle.session.specs.Asks.{SomeAsks};
 ghost use Rattle.session.specs.Runs.{IsSumOf};
 ghost use Rattle.session.specs.Single.{SumState, IsSingle, part_outcome, state_after};
 
@@ -24,7 +24,7 @@ use std::alloc::Global;
 use sum_commands::run_sum;
 
 impl Session {
-    ghost use Rattle.session.specs.Runs.{AsksSession, IsFrom, Runs};
+    ghost use Rattle.session.specs.Runs.{AsksSession, SomeSession, IsFrom, Runs};
 
     /// Runs the parts of a sum one after another, and appends the payload of its reply.
     pub(crate) fn sum(
@@ -35,7 +35,7 @@ impl Session {
         asked: &ReadWriteRequest<'_>,
         out: &mut Octets,
     ) -> Result<(), NoMemory>
-        requires some { SomeAsks port.old self.old.handles }
+        requires some { SomeSession port.old self.old }
         requires number { asker.ams_port ≡ port.old.number }
         requires sum { IsSumOf port.old.manner asked.now.group }
         ensures runs { OnOk result ((a : Asking) → AsksSession a port.old self.old → IsFrom a asker.source asker.rights
@@ -48,6 +48,7 @@ impl Session {
         put_room(alloc, out, FRONT)?;
         let mut single = Single {
             handles: &mut self.handles,
+            watches: &mut self.watches,
             port: &mut *port,
             asker,
         };
@@ -57,17 +58,17 @@ impl Session {
     }
 }
 
-// The parts of a sum, at the handles and the port that were lent for it.
+// The parts of a sum, at the handles, the notifications and the port that were lent for it.
 fn run_parts(
     alloc: Global,
     single: &mut Single<'_>,
     asked: &ReadWriteRequest<'_>,
     out: &mut Octets,
 ) -> Result<Result<(), Code>, NoMemory>
-    requires some { SomeAsks single.old.port.now single.old.handles.now }
-    requires number { single.old.asker.ams_port ≡ single.old.port.now.number }
+    requires some { StandsForSome IsSingle single.old }
     requires sum { IsSumOf single.old.port.now.manner asked.now.group }
     ensures handles { single.new.handles.ghost_name ≡ single.old.handles.ghost_name }
+    ensures watches { single.new.watches.ghost_name ≡ single.old.watches.ghost_name }
     ensures port { single.new.port.ghost_name ≡ single.old.port.ghost_name }
     ensures keeps { KeepsDescription single.old.port.now single.new.port.now }
     ensures code { IfOk result (λ answer. refused_by answer

@@ -1,4 +1,4 @@
-//! Notifications are added and deleted. Beckhoff Information System, "ADS Add Device Notification", "ADS Delete Device
+//! A notification is added or deleted: by one request of a packet, or by a part of a sum. Beckhoff Information System, "ADS Add Device Notification", "ADS Delete Device
 //! Notification".
 
 ghost use Rattle.std.specs.Prelude.{◌≡◌, ◌≤◌, ℕ, List, Some, option_map, IfOk, OnErr};
@@ -16,14 +16,11 @@ ghost use Rattle.spec_plant.specs.Named.{port_numbered};
 ghost use Rattle.spec_machine.specs.Requests.{mode_of};
 ghost use Rattle.notify_table.specs.Specs.{address_of, mode_meant, watched_meant};
 ghost use Rattle.notify_table.specs.Table.{watched_len, CanBeWatched};
-ghost use Rattle.port_device.specs.Holds.{HoldsPort};
 ghost use Rattle.port_device.specs.PortMemory.{PortMemory};
 ghost use Rattle.session.specs.Asking.{Asking, act_asked};
 ghost use Rattle.session.specs.Asks.{Asks, SomeAsks};
-ghost use Rattle.session.specs.StandsFor.{StandsFor};
-ghost use Rattle.session.specs.Watching.{is_byte_or_bit, addition_reach, IsWatched, IsSpecAsked, AsksFor, AddsAs, DeletesAs};
+ghost use Rattle.session.specs.Watching.{is_byte_or_bit, addition_reach, IsWatched, IsSpecAsked, AsksFor, NotesFor, AddsAs, DeletesAs};
 
-use crate::Session;
 use crate::asker::Asker;
 use crate::groups::{DEVICE_DATA, is_value_by_handle};
 use crate::looking::look;
@@ -31,7 +28,7 @@ use crate::meaning::meant_mode;
 use crate::requests::NoteRequest;
 use ads_base::NoMemory;
 use index_groups::{Reach, SYMBOL_VERSION, reach};
-use notify_table::{Mode, Spec, WatchFull, Watched};
+use notify_table::{Mode, Spec, WatchFull, Watched, Watches};
 use port_device::{Group, Port, group_named, states_range};
 use return_codes::Code;
 use std::alloc::Global;
@@ -40,110 +37,115 @@ use sym_handles::Handles;
 // The most bytes that a notification watches.
 const MOST_BYTES: u32 = 2048;
 
-impl Session {
-    /// Adds a notification of a port for an address, and gives its handle.
-    ///
-    /// | refused by | where |
-    /// |---|---|
-    /// | 0x713 | the mode is neither 3 nor 4; at a wide port, nor 5 nor 6, which are taken for them |
-    /// | 0x717 | more than 2,048 bytes are to be watched |
-    /// | 0x702 | the group names neither bytes, a bit nor a value by handle; at a wide port, nor its state words nor its version |
-    /// | 0x703, or the code of the handle | the offset lies outside, or the handle is not live |
-    /// | 0x705 | the length is 0, or what is to be watched ends outside |
-    /// | 0x716 | no further notification can be added |
-    pub(crate) fn add_note(
-        &mut self,
-        alloc: Global,
-        port: &Port,
-        asker: Asker,
-        asked: &NoteRequest,
-    ) -> Result<Result<u32, Code>, NoMemory>
-        requires some { SomeAsks port.now self.old.handles }
-        requires number { asker.ams_port ≡ port.now.number }
-        ensures adds { IfOk result (λ answer. (a : Asking) (delay : ℕ) → HoldsPort a.world a.asker.port port.now
-            → StandsFor a.world.plant a.client self.old → a.asker.address ≡ address_of asker.source
-            → AddsAs a (act_asked a (AddDeviceNotification asked.now.group asked.now.offset asked.now.len asked.now.mode delay asked.now.cycle))
-            answer self.new) }
-        ensures keeps { self.new ≡ record self.old { watches = self.new.watches } }
-        ensures no_memory { OnErr result (self.new ≡ self.old) }
-    {
-        match self.spec_asked(port, asker, asked) {
-            Ok(spec) => self.add_spec(alloc, spec),
-            Err(code) => Ok(Err(code)),
-        }
+/// Adds a notification of a port for an address, and gives its handle.
+///
+/// | refused by | where |
+/// |---|---|
+/// | 0x713 | the mode is neither 3 nor 4; at a wide port, nor 5 nor 6, which are taken for them |
+/// | 0x717 | more than 2,048 bytes are to be watched |
+/// | 0x702 | the group names neither bytes, a bit nor a value by handle; at a wide port, nor its state words nor its version |
+/// | 0x703, or the code of the handle | the offset lies outside, or the handle is not live |
+/// | 0x705 | the length is 0, or what is to be watched ends outside |
+/// | 0x716 | no further notification can be added |
+pub(crate) fn add(
+    alloc: Global,
+    handles: &Handles,
+    watches: &mut Watches,
+    port: &Port,
+    asker: Asker,
+    asked: &NoteRequest,
+) -> Result<Result<u32, Code>, NoMemory>
+    requires some { SomeAsks port.now handles.now }
+    requires number { asker.ams_port ≡ port.now.number }
+    ensures adds { IfOk result (λ answer. (a : Asking) (delay : ℕ) → Asks a port.now handles.now
+        → NotesFor a.world.plant.ports a.client watches.old → a.asker.address ≡ address_of asker.source
+        → AddsAs a (act_asked a (AddDeviceNotification asked.now.group asked.now.offset asked.now.len asked.now.mode delay asked.now.cycle))
+        answer watches.new) }
+    ensures no_memory { OnErr result (watches.new ≡ watches.old) }
+{
+    match spec_asked(handles, port, asker, asked) {
+        Ok(spec) => add_spec(alloc, watches, spec),
+        Err(code) => Ok(Err(code)),
     }
+}
 
-    /// Deletes a notification of a port. 0x714 where no live one of this port has the handle.
-    pub(crate) fn delete_note(&mut self, ams_port: u16, handle: u32) -> Result<(), Code>
-        ensures deletes { (a : Asking) → StandsFor a.world.plant a.client self.old → ams_port ≡ a.asker.port.number
-            → DeletesAs a (act_asked a (DeleteDeviceNotification handle)) result self.new }
-        ensures keeps { self.new ≡ record self.old { watches = self.new.watches } }
-    {
-        self.watches.delete(handle, ams_port)
+/// Deletes a notification of a port. 0x714 where no live one of this port has the handle.
+pub(crate) fn delete(watches: &mut Watches, ams_port: u16, handle: u32) -> Result<(), Code>
+    ensures { (a : Asking) → NotesFor a.world.plant.ports a.client watches.old → ams_port ≡ a.asker.port.number
+        → DeletesAs a (act_asked a (DeleteDeviceNotification handle)) result watches.new }
+{
+    watches.delete(handle, ams_port)
+}
+
+// The notification that is asked for, or the code that refuses it before the limits are looked at.
+fn spec_asked(
+    handles: &Handles,
+    port: &Port,
+    asker: Asker,
+    asked: &NoteRequest,
+) -> Result<Spec, Code>
+    requires some { SomeAsks port.now handles.now }
+    requires number { asker.ams_port ≡ port.now.number }
+    ensures asked { (a : Asking) (delay : ℕ) → Asks a port.now handles.now → a.asker.address ≡ address_of asker.source
+        → IsSpecAsked a (act_asked a (AddDeviceNotification asked.now.group asked.now.offset asked.now.len asked.now.mode delay asked.now.cycle))
+        result }
+    ensures watchable { IfOk result (λ spec. CanBeWatched (watched_meant spec.watched)) }
+{
+    match mode_named(meant_mode(port, asked.mode)) {
+        Some(mode) => spec_with_mode(handles, port, asker, asked, mode),
+        None => Err(Code::C713),
     }
+}
 
-    // The notification that is asked for, or the code that refuses it before the limits are looked at.
-    fn spec_asked(&self, port: &Port, asker: Asker, asked: &NoteRequest) -> Result<Spec, Code>
-        requires some { SomeAsks port.now self.now.handles }
-        requires number { asker.ams_port ≡ port.now.number }
-        ensures asked { (a : Asking) (delay : ℕ) → Asks a port.now self.now.handles → a.asker.address ≡ address_of asker.source
-            → IsSpecAsked a (act_asked a (AddDeviceNotification asked.now.group asked.now.offset asked.now.len asked.now.mode delay asked.now.cycle))
-            result }
-        ensures watchable { IfOk result (λ spec. CanBeWatched (watched_meant spec.watched)) }
-    {
-        match mode_named(meant_mode(port, asked.mode)) {
-            Some(mode) => self.spec_with_mode(port, asker, asked, mode),
-            None => Err(Code::C713),
-        }
+fn spec_with_mode(
+    handles: &Handles,
+    port: &Port,
+    asker: Asker,
+    asked: &NoteRequest,
+    mode: Mode,
+) -> Result<Spec, Code>
+    requires some { SomeAsks port.now handles.now }
+    requires number { asker.ams_port ≡ port.now.number }
+    requires mode { Some (mode_meant mode) ≡ mode_of (mode_in port.now.manner asked.now.mode) }
+    ensures asked { (a : Asking) (delay : ℕ) → Asks a port.now handles.now → a.asker.address ≡ address_of asker.source
+        → IsSpecAsked a (act_asked a (AddDeviceNotification asked.now.group asked.now.offset asked.now.len asked.now.mode delay asked.now.cycle))
+        result }
+    ensures watchable { IfOk result (λ spec. CanBeWatched (watched_meant spec.watched)) }
+{
+    if asked.len > MOST_BYTES {
+        return Err(Code::C717);
     }
-
-    fn spec_with_mode(
-        &self,
-        port: &Port,
-        asker: Asker,
-        asked: &NoteRequest,
-        mode: Mode,
-    ) -> Result<Spec, Code>
-        requires some { SomeAsks port.now self.now.handles }
-        requires number { asker.ams_port ≡ port.now.number }
-        requires mode { Some (mode_meant mode) ≡ mode_of (mode_in port.now.manner asked.now.mode) }
-        ensures asked { (a : Asking) (delay : ℕ) → Asks a port.now self.now.handles → a.asker.address ≡ address_of asker.source
-            → IsSpecAsked a (act_asked a (AddDeviceNotification asked.now.group asked.now.offset asked.now.len asked.now.mode delay asked.now.cycle))
-            result }
-        ensures watchable { IfOk result (λ spec. CanBeWatched (watched_meant spec.watched)) }
-    {
-        if asked.len > MOST_BYTES {
-            return Err(Code::C717);
-        }
-        match watched(&self.handles, port, asker.ams_port, asked) {
-            Ok(watched) => {
-                if asked.len == 0 {
-                    return Err(Code::C705);
-                }
-                Ok(Spec {
-                    port: asker.ams_port,
-                    to: asker.source,
-                    watched,
-                    mode,
-                    cycle: asked.cycle,
-                })
+    match watched(handles, port, asker.ams_port, asked) {
+        Ok(watched) => {
+            if asked.len == 0 {
+                return Err(Code::C705);
             }
-            Err(code) => Err(code),
+            Ok(Spec {
+                port: asker.ams_port,
+                to: asker.source,
+                watched,
+                mode,
+                cycle: asked.cycle,
+            })
         }
+        Err(code) => Err(code),
     }
+}
 
-    // Adds it; 0x716 where no further one can be added.
-    fn add_spec(&mut self, alloc: Global, spec: Spec) -> Result<Result<u32, Code>, NoMemory>
-        requires { CanBeWatched (watched_meant spec.watched) }
-        ensures adds { IfOk result (λ answer. (a : Asking) (act : Act) → StandsFor a.world.plant a.client self.old → AsksFor a act spec
-            → AddsAs a act answer self.new) }
-        ensures keeps { self.new ≡ record self.old { watches = self.new.watches } }
-        ensures no_memory { OnErr result (self.new ≡ self.old) }
-    {
-        match self.watches.add(alloc, spec)? {
-            Ok(handle) => Ok(Ok(handle)),
-            Err(WatchFull) => Ok(Err(Code::C716)),
-        }
+// Adds it; 0x716 where no further one can be added.
+fn add_spec(
+    alloc: Global,
+    watches: &mut Watches,
+    spec: Spec,
+) -> Result<Result<u32, Code>, NoMemory>
+    requires { CanBeWatched (watched_meant spec.watched) }
+    ensures adds { IfOk result (λ answer. (a : Asking) (act : Act) → NotesFor a.world.plant.ports a.client watches.old → AsksFor a act spec
+        → AddsAs a act answer watches.new) }
+    ensures no_memory { OnErr result (watches.new ≡ watches.old) }
+{
+    match watches.add(alloc, spec)? {
+        Ok(handle) => Ok(Ok(handle)),
+        Err(WatchFull) => Ok(Err(Code::C716)),
     }
 }
 

@@ -55,7 +55,7 @@ fn ended(
     let parts = args.u32();
     let read_len = args.u32();
     let bytes = args.octets();
-    if group < 0xF080 || group > 0xF084 {
+    if group < 0xF080 || group > 0xF086 {
         args.refuse();
         return Ok(0);
     }
@@ -67,7 +67,7 @@ fn ended(
     Ok(register.number)
 }
 
-// The number in group 0x4020. Group 0x4040 is there and has no bytes.
+// The number in group 0x4020, which is also the handle that its addition gives. Group 0x4040 is there and has no bytes.
 #[derive(Drop)]
 struct Register {
     number: u32,
@@ -143,5 +143,34 @@ impl PartService for Register {
         put32(alloc, out, self.number)?;
         self.number = get32(bytes, 0);
         Ok(Ok(()))
+    }
+
+    fn add(
+        &mut self,
+        _alloc: Global,
+        group: u32,
+        _offset: u32,
+        len: u32,
+        _mode: u32,
+        _delay: u32,
+        cycle: u32,
+    ) -> Result<Result<u32, Code>, NoMemory> {
+        if group != 0x4020 {
+            return Ok(Err(Code::C702));
+        }
+        if len != 4 {
+            return Ok(Err(Code::C705));
+        }
+        let handle = self.number;
+        self.number = cycle;
+        Ok(Ok(handle))
+    }
+
+    fn delete(&mut self, handle: u32) -> Result<(), Code> {
+        if handle != self.number {
+            return Err(Code::C714);
+        }
+        self.number = 0;
+        Ok(())
     }
 }

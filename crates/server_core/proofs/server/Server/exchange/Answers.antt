@@ -26,7 +26,7 @@ pub tell_all-requires : goal.tell_all-requires
 tell_all-requires c =
     can_tell (view_of c.args.self.now) c.in_ok-ports.ports c.in_ok-moves.moves c.as_slice.result.now (description_of c.args.d.now)
     c.as_mut_slice-sessions.result.now c.requires.serving c.in_ok-ports.ensures c.in_ok-moves.ensures
-    (λ b holds. c.as_slice.ensures ∙ c.in_ok-numbers.ensures b holds) c.as_mut_slice-sessions.ensures.value
+    (λ b holds. c.as_slice.ensures.value ∙ c.in_ok-numbers.ensures b holds) c.as_mut_slice-sessions.ensures.value
 
 pub returns : goal.returns
 returns c =
@@ -45,7 +45,7 @@ returns c =
           let z = world_after_reload w d in
           let moved = moved_between w z old.device.ports c.in_ok-ports.ports c.in_ok-moves.moves c.as_slice.result.now s.device.world.ports
           (c.in_ok-ports.ensures w s.device.world.ports) c.in_ok-moves.ensures
-          (λ b holds. c.as_slice.ensures ∙ c.in_ok-numbers.ensures b holds) in
+          (λ b holds. c.as_slice.ensures.value ∙ c.in_ok-numbers.ensures b holds) in
           subst (λ (ts : List Turned). EachAsked w.plant z.plant (client_reloaded x.state.moment w z) sessions.items ts) (sym back)
           (subst (λ (t : ℕ). EachAsked w.plant z.plant (client_reloaded t w z) sessions.items list) s.device.moment
           (subst (λ (ts : List Turned). EachAsked w.plant z.plant (client_reloaded old.device.moment w z) ts list) c.as_mut_slice-sessions.ensures.value

@@ -5,7 +5,7 @@ use Rattle.ams_header.specs.Header.{ams_header_of}
 use Rattle.port_device.specs.PortMemory.{memory_numbered}
 use Rattle.session.proofs.FrameLemmas.{begins-kept, kept-front, on-err}
 use Rattle.session.proofs.PortsKept.{keep-same, keep-with}
-use Rattle.session.proofs.TakeLemmas.{no-port, some-asks, numbered-is, same-port, answers-asked, extends-room}
+use Rattle.session.proofs.TakeLemmas.{no-port, some-asks, some-session, numbered-is, same-port, answers-asked, extends-room}
 use Rattle.session.proofs.session.Session.answer.Goals as goal
 
 pub returns-in_default-clause-answers : goal.returns-in_default-clause-answers
@@ -23,6 +23,10 @@ returns-in_err-put_room-clause-keeps c =
 pub run-requires-clause-some : goal.run-requires-clause-some
 run-requires-clause-some c =
     some-asks c.args.ports.now c.args.self.now c.args.h.now.target.port c.in-Some.port.now c.requires.served (sym c.in-Some.ensures.value)
+
+pub run-requires-clause-served : goal.run-requires-clause-served
+run-requires-clause-served c =
+    some-session c.args.ports.now c.args.self.now c.args.h.now.target.port c.in-Some.port.now c.requires.served (sym c.in-Some.ensures.value)
 
 pub run-requires-clause-number : goal.run-requires-clause-number
 run-requires-clause-number c = sym (numbered-is c.args.h.now.target.port c.args.ports.now.ports c.in-Some.port.now (sym c.in-Some.ensures.value))

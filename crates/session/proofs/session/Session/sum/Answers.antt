@@ -1,16 +1,17 @@
 use Rattle.std.proofs.Common.{sym, subst, refl, ap, arith, rules}
 use Rattle.spec_formats.specs.Header.{AmsAddress}
-use Rattle.session.specs.Asks.{SomeAsks}
 use Rattle.spec_machine.specs.Manner.{Manner}
-use Rattle.session.specs.Runs.{AsksSession, IsSumOf}
+use Rattle.session.specs.Runs.{AsksSession, SomeSession, IsSumOf}
 use Rattle.session.specs.SessionState.{SessionState}
-use Rattle.session.proofs.SumLemmas.{sum-runs}
+use Rattle.session.proofs.SumLemmas.{stands-for-some, sum-runs}
+use Rattle.session.proofs.RunLemmas.{asks-of, notes-of}
 use Rattle.session.proofs.session.Session.sum.Goals as goal
 
 pub run_parts-requires-clause-some : goal.run_parts-requires-clause-some
 run_parts-requires-clause-some c =
-    let S : SessionState → Type 0 = λ s. SomeAsks c.args.port.now s.handles in
-    subst S (sym c.self.view_is) c.requires.some
+    let S : SessionState → Type 0 = λ s. SomeSession c.args.port.now s in
+    let own = subst S (sym c.self.view_is) c.requires.some in
+    stands-for-some _ own.asking (asks-of own.asking _ _ own.asks) (notes-of own.asking _ _ own.asks) c.requires.number
 
 pub fill_front-requires-clause-there : goal.fill_front-requires-clause-there
 fill_front-requires-clause-there c = omega (arith, c.len-start.ensures, c.in_ok-put_room.ensures.long, c.in_ok-answer.ensures.grows)
@@ -27,9 +28,10 @@ returns-clause-runs c = λ a h from.
     c.in_ok-answer.ensures.leaves (subst G own.held.manner c.requires.sum) own
     (record {
       asks = record { held = own.held; handles = own.stands.handles };
+      address = from.address;
       asker = record { net_is = ap (λ (x : AmsAddress). x.net) from.address; rights_are = from.rights_are };
       number = c.requires.number;
-      lent = record { handles = refl; port = refl; keeps = refl };
-      notes = record { additions = refl; watches = refl };
+      lent = record { handles = refl; watches = refl; port = refl; keeps = refl };
+      notes = notes-of a _ _ own;
     })
     refl refl (search rules) refl c.number_in.ensures c.len-start.ensures c.in_ok-put_room.ensures.long c.in_ok-put_room.ensures.begins c.fill_front.ensures

@@ -1,6 +1,6 @@
 use Rattle.spec_formats.specs.Request.{ReadWrite}
 use Rattle.session.proofs.SingleLemmas.{gives-all, refused-asked, leaves-all, wants-all}
-use Rattle.session.proofs.EffectLemmas.{same-then, same-notes, read_write-effect}
+use Rattle.session.proofs.EffectLemmas.{notes-kept, same-notes, read_write-effect}
 use Rattle.session.proofs.single.SinglePartService.read_write.Goals as goal
 
 pub returns-clause-gives : goal.returns-clause-gives
@@ -13,15 +13,16 @@ returns-clause-leaves c =
     (λ x h after. record {
       asks = after;
       asker = h.asker;
+  address = h.address;
       number = h.number;
-      lent = record { handles = h.lent.handles; port = h.lent.port; keeps = h.lent.keeps };
+      lent = record { handles = h.lent.handles; watches = h.lent.watches; port = h.lent.port; keeps = h.lent.keeps };
       notes =
-          same-then x.first x.asking.client _ h.notes
+          notes-kept _ x.asking.client _ _ h.notes
           (same-notes x.asking.client _ (read_write-effect x.asking c.args.group c.args.offset c.args.read_len c.args.bytes.now));
     }) c.read_write.ensures.leaves
 
 pub returns-clause-wants : goal.returns-clause-wants
-returns-clause-wants c = wants-all c.args.self.now c.read_write.result _ (λ x h. record { handles = h.lent.handles; port = h.lent.port; keeps = h.lent.keeps })
+returns-clause-wants c = wants-all c.args.self.now c.read_write.result _ (λ x h. record { handles = h.lent.handles; watches = h.lent.watches; port = h.lent.port; keeps = h.lent.keeps })
 
 pub returns-clause-refused : goal.returns-clause-refused
 returns-clause-refused c =

@@ -1,6 +1,6 @@
 use Rattle.std.proofs.Common.{sym, ◌∙◌}
 use Rattle.session.proofs.SingleLemmas.{code-ends, keeps-both, keeps-number}
-use Rattle.session.proofs.EffectLemmas.{same-then, same-notes, write-effect}
+use Rattle.session.proofs.EffectLemmas.{notes-kept, same-notes, write-effect}
 use Rattle.session.proofs.single.SinglePartService.write.Goals as goal
 
 pub returns-clause-code : goal.returns-clause-code
@@ -10,11 +10,13 @@ pub returns-clause-leaves : goal.returns-clause-leaves
 returns-clause-leaves c = λ s h. record {
   asks = (c.write.ensures.ends s.asking h.asks h.asker).after;
   asker = h.asker;
+  address = h.address;
   number = h.number ∙ sym (keeps-number c.args.self.now.port.now c.write.new.port c.write.ensures.keeps);
   lent = record {
     handles = h.lent.handles;
+    watches = h.lent.watches;
     port = h.lent.port;
     keeps = keeps-both s.begun.port.now c.args.self.now.port.now c.write.new.port h.lent.keeps c.write.ensures.keeps;
   };
-  notes = same-then s.first s.asking.client _ h.notes (same-notes s.asking.client _ (write-effect s.asking c.args.group c.args.offset c.args.bytes.now));
+  notes = notes-kept _ s.asking.client _ _ h.notes (same-notes s.asking.client _ (write-effect s.asking c.args.group c.args.offset c.args.bytes.now));
 }

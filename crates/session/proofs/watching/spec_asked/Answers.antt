@@ -5,7 +5,7 @@ use Rattle.spec_machine.specs.Meanings.{mode_in}
 use Rattle.spec_machine.specs.Requests.{mode_of}
 use Rattle.notify_table.specs.Specs.{mode_meant}
 use Rattle.session.proofs.WatchingLemmas.{asked_no_mode}
-use Rattle.session.proofs.session.Session.spec_asked.Goals as goal
+use Rattle.session.proofs.watching.spec_asked.Goals as goal
 
 pub returns-in-None-clause-asked : goal.returns-in-None-clause-asked
 returns-in-None-clause-asked c = λ a delay asks address.
