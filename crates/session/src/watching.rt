@@ -133,11 +133,7 @@ fn spec_with_mode(
 }
 
 // Adds it; 0x716 where no further one can be added.
-fn add_spec(
-    alloc: Global,
-    watches: &mut Watches,
-    spec: Spec,
-) -> Result<Result<u32, Code>, NoMemory>
+fn add_spec(alloc: Global, watches: &mut Watches, spec: Spec) -> Result<Result<u32, Code>, NoMemory>
     requires { CanBeWatched (watched_meant spec.watched) }
     ensures adds { IfOk result (λ answer. (a : Asking) (act : Act) → NotesFor a.world.plant.ports a.client watches.old → AsksFor a act spec
         → AddsAs a act answer watches.new) }
@@ -256,7 +252,12 @@ fn watched_plain(
 }
 
 // The first bytes of a value by its handle.
-fn watched_by_handle(handles: &Handles, ams_port: u16, handle: u32, len: u32) -> Result<Watched, Code>
+fn watched_by_handle(
+    handles: &Handles,
+    ams_port: u16,
+    handle: u32,
+    len: u32,
+) -> Result<Watched, Code>
     ensures watched { (a : Asking) (port : PortMemory) → ams_port ≡ port.number → Asks a port handles.now
         → IsWatched a.world.plant.ports a.asker.port.number len
         (addressed_by_status a.asker.port.number (kept_status a.client.handles handle a.asker.port.number) len) result }
