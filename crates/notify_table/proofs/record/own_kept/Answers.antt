@@ -1,4 +1,4 @@
-use Rattle.std.proofs.Common.{◌≡◌, Option, Some, None, if◌then◌else◌, sym, ◌∙◌, ap, refl, Bool}
+use Rattle.std.proofs.Common.{Option, Some, None, if◌then◌else◌, sym, ◌∙◌, ap, Bool}
 use Rattle.spec_machine.specs.WatchedRanges.{Watched, Own}
 use Rattle.notify_table.proofs.record.own_kept.Goals as goal
 

@@ -7,4 +7,4 @@ use Rattle.notify_table.proofs.schedule.ending_turns.Given as goal
 
 -- the handles of those among the turns so far
 abbrev pub invariant-loop-i : goal.invariant-loop-i
-invariant-loop-i l = l.handles.items ≡ map handle_of (filter (is_ended l.m) (map (watch_at l.records) (take l.i l.turns.items)))
+invariant-loop-i l = l.handles.items ≡ map handle_of (filter (is_ended l.m l.ports) (map (watch_at l.records) (take l.i l.turns.items)))

@@ -1,4 +1,4 @@
-use Rattle.std.proofs.Common.{arith, rules, refl}
+use Rattle.std.proofs.Common.{arith, rules}
 use Rattle.std.proofs.lemmas.List.Sorted.{IsPartitionPoint-from_clause}
 use Rattle.notify_table.specs.Turns.{is_turn_due}
 use Rattle.notify_table.proofs.TurnLemmas.{due_parted, due_until}

@@ -1,5 +1,4 @@
-use Rattle.std.proofs.Common.{rules, ◌≡◌, ◌≤◌, ◌++◌, ◌∷◌, [], length, sym, ◌∙◌, ap, subst, arith}
-use Rattle.std.specs.Prelude.{insert}
+use Rattle.std.proofs.Common.{rules, ◌≤◌, length, sym, ◌∙◌, subst, arith}
 use Rattle.std.specs.VecDeque.{deque_len}
 use Rattle.std.proofs.lemmas.List.Edits.{insert_end}
 use Rattle.notify_table.specs.Turns.{AreInTurn}

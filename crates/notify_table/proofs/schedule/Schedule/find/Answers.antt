@@ -1,6 +1,5 @@
-use Rattle.std.proofs.Common.{◌∙◌, ap, nat_eq}
+use Rattle.std.proofs.Common.{◌∙◌, ap}
 use Rattle.std.specs.List.{position}
-use Rattle.notify_table.specs.Turns.{handle_of_turn}
 use Rattle.notify_table.specs.Table.{is_numbered}
 use Rattle.notify_table.proofs.ScheduleLemmas.{position_of_turn}
 use Rattle.notify_table.proofs.schedule.Schedule.find.Goals as goal
