@@ -130,11 +130,7 @@ fn spec_with_mode(
 }
 
 // Adds it; 0x716 where no further one can be added.
-fn add_spec(
-    alloc: Global,
-    watches: &mut Watches,
-    spec: Spec,
-) -> Result<Result<u32, Code>, NoMemory>
+fn add_spec(alloc: Global, watches: &mut Watches, spec: Spec) -> Result<Result<u32, Code>, NoMemory>
     requires { CanBeWatched (range_meant spec.reach) }
     ensures adds { IfOk result (λ answer. (a : Asking) (act : Act) → NotesFor a.world.plant.ports a.client watches.old → AsksFor a act spec
         → AddsAs a act answer watches.new) }

@@ -13,7 +13,7 @@ returns-clause-leaves c =
     (λ x h after. record {
       asks = after;
       asker = h.asker;
-  address = h.address;
+      address = h.address;
       number = h.number;
       lent = record { handles = h.lent.handles; watches = h.lent.watches; port = h.lent.port; keeps = h.lent.keeps };
       notes =
