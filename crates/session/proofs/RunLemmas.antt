@@ -1,6 +1,6 @@
 -- A request of a packet that is no sum is one act: its reply, and what it leaves.
 use Rattle.std.proofs.Common.{◌≡◌, ◌^◌, ◌<◌, ℕ, List, [], ◌∷◌, ◌++◌, true, false, inl, inr, refl, sym, ◌∙◌, ap, subst}
-use Rattle.std.specs.Prelude.{Bool, Option, Some, option_and_then, Result, Ok, Err, OnOk, ◌==◌, ◌||◌, not, map, if◌then◌else◌}
+use Rattle.std.specs.Prelude.{Bool, Option, Some, option_and_then, Result, Ok, Err, IfOk, OnOk, ◌==◌, ◌||◌, not, map, if◌then◌else◌}
 use Rattle.std.specs.Int.{w16, w32, to_le_bytes}
 use Rattle.std.proofs.lemmas.Bool.{cases_Bool, false≢true}
 use Rattle.std.proofs.lemmas.List.{append-nil}
@@ -274,6 +274,10 @@ deleted-runs a handle n answer m s t old new h deletes is put =
 pub ok-then : {T E : Type 0} (r : Result T E) (P Q : Type 0) → (P → Q) → OnOk r P → OnOk r Q
 ok-then (Ok x) P Q f h = f h
 ok-then (Err e) P Q f h = tt
+
+pub if_ok-then : {T E : Type 0} (r : Result T E) (P Q : T → Type 0) → ((x : T) → P x → Q x) → IfOk r P → IfOk r Q
+if_ok-then (Ok x) P Q f h = f x h
+if_ok-then (Err e) P Q f h = tt
 
 pub write-runs : (a : Asking) (group offset n : ℕ) (bytes : List ℕ)
     (answer : Result (Unit {0}) Code) (m m' : PortMemory) (s s' : SessionState) (old new : List ℕ)

@@ -114,6 +114,7 @@ some-asks ports s number m served found =
 
 pub some-session : (ports : PortsMemory) (s : SessionState) (number : ℕ) (m : PortMemory) → IsServed ports s → memory_numbered number ports.ports ≡ Some m
     → SomeSession m s
+unfolding some-asks
 some-session ports s number m served found =
     let some = some-asks ports s number m served found in
     record { asking = some.asking; asks = record { held = some.asks.held; stands = served.stands } }

@@ -1,6 +1,6 @@
 //! The request of a packet that passed the checks is run, and its reply's payload written.
 
-ghost use Rattle.std.specs.Prelude.{◌≡◌, ℕ, List, OnOk, OnErr};
+ghost use Rattle.std.specs.Prelude.{◌≡◌, ℕ, List, IfOk, OnOk, OnErr};
 ghost use Rattle.ads_base.specs.Octets.{Extends};
 ghost use Rattle.spec_formats.specs.Request as format;
 ghost use Rattle.ads_commands.specs.Request.{request_meant};
@@ -8,8 +8,10 @@ ghost use Rattle.ads_base.specs.declared.ams_addr.AmsAddr.{AmsAddr};
 ghost use Rattle.type_layout.specs.declared.description.Rights.{Rights};
 ghost use Rattle.port_device.specs.Endings.{KeepsDescription};
 ghost use Rattle.port_device.specs.PortMemory.{PortMemory};
-ghost use Rattle.session.specs.Asking.{Asking};
+ghost use Rattle.notify_table.specs.Specs.{address_of};
+ghost use Rattle.session.specs.Asking.{Asking, act_asked};
 ghost use Rattle.session.specs.Asks.{SomeAsks};
+ghost use Rattle.session.specs.Watching.{AddsAs};
 
 use crate::asker::Asker;
 use crate::replies::number_in;
@@ -18,6 +20,7 @@ use crate::{Session, watching};
 use ads_base::{NoMemory, Octets, put16, put32};
 use ads_commands::{Reply, Request, put_reply};
 use port_device::Port;
+use return_codes::Code;
 use std::alloc::Global;
 use type_layout::Rights;
 
@@ -144,10 +147,30 @@ impl Session {
         ensures stream { self.new.stream ≡ self.old.stream }
         ensures no_memory { OnErr result (Extends out.old out.new) }
     {
-        match watching::add(alloc, &self.handles, &mut self.watches, port, asker, asked)? {
+        match self.added(alloc, port, asker, asked)? {
             Ok(handle) => put_reply(alloc, &Reply::Add(0, handle), out),
             Err(code) => put_reply(alloc, &Reply::Add(code.number(), 0), out),
         }
+    }
+
+    // The handle of a notification that is added, or the code that refuses it.
+    fn added(
+        &mut self,
+        alloc: Global,
+        port: &Port,
+        asker: Asker,
+        asked: &NoteRequest,
+    ) -> Result<Result<u32, Code>, NoMemory>
+        requires some { SomeAsks port.now self.old.handles }
+        requires number { asker.ams_port ≡ port.now.number }
+        ensures adds { IfOk result (λ answer. (a : Asking) (delay : ℕ) → AsksSession a port.now self.old
+            → a.asker.address ≡ address_of asker.source
+            → AddsAs a (act_asked a (format.AddDeviceNotification asked.now.group asked.now.offset asked.now.len asked.now.mode delay asked.now.cycle))
+            answer self.new.watches) }
+        ensures keeps { self.new ≡ record self.old { watches = self.new.watches } }
+        ensures no_memory { OnErr result (self.new ≡ self.old) }
+    {
+        watching::add(alloc, &self.handles, &mut self.watches, port, asker, asked)
     }
 
     fn delete(
