@@ -36,6 +36,7 @@ impl MapKeeper {
     ghost use Rattle.ads_outside.specs.FailingCalls.{fails_next, none_made};
     ghost use Rattle.ads_outside.specs.Rose.{Rose};
     ghost use Rattle.sample_store.specs.MapKeeper.{failing_after};
+    ghost use Rattle.spec_samples.specs.Laws.{AreCountedFrom};
     ghost use Rattle.spec_samples.specs.Rows.{row_numbered};
     ghost use Rattle.sample_store.specs.Views.{row_kept};
 
@@ -62,6 +63,7 @@ impl MapKeeper {
     fn note(&mut self, name: &str) -> Result<(), NoMemory>
         ensures ok { OnOk result (self.new ≡ record self.old { names = self.old.names ++ name.now ∷ [] }) }
         ensures no_memory { OnErr result (self.new ≡ self.old) }
+        ensures numbers { AreCountedFrom 1 self.new.rows }
     {
         let name = Octets::copy_of(self.alloc, name.as_bytes())?;
         self.names.push(self.alloc, name)?;

@@ -59,3 +59,6 @@ returns-in-Err-clause-opens g c = only_none _ _ c.args.file.now refl
 
 pub returns-in-Err-build_in-clause-opens : goal.returns-in-Err-build_in-clause-opens
 returns-in-Err-build_in-clause-opens g c = only_none _ _ c.args.file.now refl
+
+pub returns-clause-opens : goal.returns-clause-opens
+returns-clause-opens g c = rw c.as_str-3.ensures at c.keep_posted.ensures.opens
