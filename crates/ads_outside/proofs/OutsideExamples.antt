@@ -198,7 +198,7 @@ moves_in (Some ms) = length ms
 two_logs : (h : WireHistory) → h ≡ history_after unused (move.Took 1 2 (4 ∷ 5 ∷ []) ∷ [])
     → h ≡ history_after unused (move.Took 1 1 (4 ∷ []) ∷ move.Took 1 1 (5 ∷ []) ∷ []) → ⊥
 unfolding history_after
-two_logs h one two = false≢true (sym (ap (λ (x : WireHistory). moves_in x.log == 1) one) ∙ ap (λ (x : WireHistory). moves_in x.log == 1) two)
+two_logs h one two = false≢true (sym (ap (λ (x : WireHistory). moves_in x.log == 1) two) ∙ ap (λ (x : WireHistory). moves_in x.log == 1) one)
 
 no_run_is_taken : (new : WireHistory) → TakesRun true (wire unused 0) (wire new 0) 1 (4 ∷ 5 ∷ []) → ⊥
 no_run_is_taken new t = two_logs new (t ((4 ∷ 5 ∷ []) ∷ []) refl) (t ((4 ∷ []) ∷ (5 ∷ []) ∷ []) refl)
