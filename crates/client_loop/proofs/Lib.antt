@@ -15,3 +15,4 @@ pub mod FinishLemmas
 pub mod RecordLemmas
 pub mod LaterLemmas
 pub mod ComeLemmas
+mod TalkExamples

@@ -97,7 +97,8 @@ unfolding ams_length_of is_header front_of packet_of behind_frame frames_from fr
     acts_of_log acts_by_others reply_in_forms outcome_in_all response_packet performed grouped frames_of_samples samples_at watches_after_tick
     reach_of outcomes_of memory_after_acts client_after_acts is_kept memory_after_reload world_after_reload client_reloaded answered_group
     after_packet after_packets after_piece read_group acts_of decide_request decide digits
-    body_of form_of entry_of entries_in entries_of bodies_at_ticks saves_in saves_over left_after offers_to peers_after moves_of_each turns_of log_text_of encode_with
+    body_of form_of entry_of entries_in entries_of bodies_at_ticks saves_in saves_over left_after offers_to peers_after moves_of_each turns_of log_text_of
+    encode_with
 save_rows = record { first = refl; same = refl; written = refl; printed = refl }
 
 -- a disk whose file was told before, and that tells this one

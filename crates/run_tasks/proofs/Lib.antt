@@ -5,3 +5,4 @@ pub mod VerdictLemmas
 pub mod EndLemmas
 pub mod TaskLemmas
 mod StatusExamples
+mod VerdictExamples

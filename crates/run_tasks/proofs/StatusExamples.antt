@@ -7,6 +7,7 @@ use Rattle.ads_outside.specs.declared.end.End.{End}
 use Rattle.ads_outside.specs.declared.end.End.TheVariants as end
 use Rattle.ads_outside.specs.declared.put.Put.TheVariants as put
 use Rattle.ads_outside.specs.SinkState.{SinkState}
+use Rattle.spec_formats.specs.Codes.{text_in}
 use Rattle.spec_machine.specs.Profile.{strict}
 use Rattle.spec_machine.specs.Moves.{state_after}
 use Rattle.ads_base.specs.declared.peer.Peer.TheVariants as peer
@@ -37,7 +38,7 @@ lines : flat_map last_line_of (status.Done ∷ status.Usage ∷ status.BadDescri
     ∷ status.WriteFault ∷ status.Refused 0x710 ∷ status.TimedOut 5 9 ∷ status.Memory ∷ status.TooLong ∷ status.StoreLimit ∷ [])
     ≡ codes "ads: usage\nads: description rule 12 item 3\nads: description syntax\nads: script line 7\n"
     ++ codes "ads: refused 0x710 symbol not found\nads: timed out 5 9\nads: memory\nads: file too long\nads: store limit\n"
-unfolding digits
+unfolding digits text_in
 lines = refl
 
 -- a sink that holds this, and in which nothing failed; and one in which a piece failed
