@@ -86,12 +86,7 @@ fn append_row(
     put_entry(alloc, &entry, out)
 }
 
-fn entry_of_row<'a>(
-    manner: Manner,
-    types: &Types,
-    row: &'a SymbolRow,
-    text: &'a [u8],
-) -> Entry<'a>
+fn entry_of_row<'a>(manner: Manner, types: &Types, row: &'a SymbolRow, text: &'a [u8]) -> Entry<'a>
     requires types { AreTypes (types_of types.now) }
     requires row { IsEntryRow (types_of types.now) row.now }
     requires text { text.now ≡ type_text (tree_of (types_of types.now) (shape_of row.now.kind)) }

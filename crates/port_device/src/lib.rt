@@ -25,6 +25,7 @@ mod reading;
 mod reloading;
 mod signals_step;
 mod type_ids;
+mod typed;
 mod upload;
 mod uploads;
 mod writable;

@@ -199,8 +199,10 @@ plain-at d c k (ReadWrite group offset len bytes) =
 pub act-at : (d : Setup) (c : Client) (k : Asker) (r : Request) → PutsAt k.port.number (act_of d c k r)
 act-at d c k r =
     act-cases d c k (PutsAt k.port.number)
-    (record { types = λ len bytes. let act = type_act d.plant len bytes in
-        nothing-at k.port.number act (idle-nothing act (type_act-idle d.plant len bytes)) })
+    (record {
+      types = λ len bytes. let act = type_act d.plant len bytes in
+          nothing-at k.port.number act (idle-nothing act (type_act-idle d.plant len bytes));
+    })
     r (plain-at d c k (meant_by d.profile c k.port r))
 
 -- and so do the acts of parts
