@@ -38,3 +38,5 @@ pub mod ReloadedPorts
 mod WritableLemmas
 mod WriteLemmas
 pub mod TypeIds
+pub mod EndsRead
+pub mod TypesPut

@@ -1,5 +1,5 @@
 -- An element is no array, so both servers give it one id.
-use Rattle.std.proofs.Common.{◌≡◌, ℕ, true, refl, ap, List}
+use Rattle.std.proofs.Common.{◌≡◌, ℕ, true, refl, List}
 use Rattle.std.specs.Prelude.{Some, slice_get}
 use Rattle.spec_plant.specs.Listed.{Elem, Plain, Text, Struct, Enum, NamedType, Structure, Enumeration, is_structure, is_enumeration}
 use Rattle.spec_plant.specs.Trees.{tree_at, elem_tree, trees_of}

@@ -11,6 +11,7 @@ pub mod PersistentRows
 pub mod Behind
 pub mod Rows
 pub mod Uploads
+pub mod TypesPut
 pub mod Signals
 pub mod BoundTables
 pub mod Marks

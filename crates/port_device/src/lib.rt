@@ -26,6 +26,7 @@ mod reading;
 mod reloading;
 mod signals_step;
 mod type_ids;
+mod typed;
 mod upload;
 mod uploads;
 mod writable;

@@ -1,26 +1,24 @@
 -- The types that texts name are those of a description, and named ones are found by their names.
-use Rattle.std.proofs.Common.{◌≡◌, ℕ, zero, suc, ◌<◌, Bool, true, false, cond, List, [], ◌∷◌, ◌++◌, length, map, refl, sym, ◌∙◌, ap, subst, inl, inr, arith}
-use Rattle.name_paths.specs.Identifier.{lower}
-use Rattle.std.specs.Prelude.{Option, Some, None, option_map, option_and_then, position, slice_get, not, ◌&&◌, nat_lt, bytes_eq}
+use Rattle.std.proofs.Common.{◌≡◌, ℕ, zero, suc, Bool, true, false, cond, List, [], ◌∷◌, ◌++◌, length, map, refl, sym, ◌∙◌, ap, subst, arith}
+use Rattle.std.specs.Prelude.{Option, Some, None, option_map, option_and_then, slice_get, not, bytes_eq}
 use Rattle.std.specs.List.{list_all, position_or_len}
 use Rattle.std.specs.Option.{option_map_or}
-use Rattle.std.proofs.lemmas.Bool.{cases_Bool, and_parts, lt-ltb}
+use Rattle.std.proofs.lemmas.Bool.{and_parts, lt-ltb}
 use Rattle.std.proofs.lemmas.List.Folds.{list_all-append}
 use Rattle.std.proofs.lemmas.Option.{slice_get_within}
 use Rattle.std.proofs.lemmas.Slice.Eq.{bytes_eq-Decides}
-use Rattle.spec_plant.specs.Listed.{Bound, Elem, Struct, Enum, One, NamedType, Structure, Enumeration, type_name, is_structure, is_enumeration}
+use Rattle.name_paths.specs.Identifier.{lower}
+use Rattle.spec_plant.specs.Listed.{Elem, Struct, Enum, One, NamedType, Structure, Enumeration, type_name, is_structure}
 use Rattle.spec_plant.specs.Trees.{TypeTree, ArrayTree, elem_tree, tree_at, tree_of, trees_of}
 use Rattle.spec_plant.specs.TypeTexts.{Ends, ElemText, PlainText, StringText, NamedText, TypeText, type_text_of, is_same_word}
-use Rattle.spec_plant.specs.AcceptedTypes.{AreTypes, are_types_behind, is_next_type, is_type_name, has_parts, is_small_type, is_shape, differ}
-use Rattle.spec_plant.specs.Trees.{named_tree}
-use Rattle.spec_plant.specs.Spelling.{type_text}
+use Rattle.spec_plant.specs.AcceptedTypes.{AreTypes, are_types_behind, is_next_type, is_shape, differ}
 use Rattle.spec_plant.specs.WrittenTypes.{name_at}
 use Rattle.spec_plant.proofs.TypeLemmas.{stands_at, type_text-named}
 use Rattle.spec_plant.proofs.ReadBack.{read_back}
 use Rattle.spec_formats.specs.TypeUpload.{entry_of_type}
 use Rattle.spec_machine.specs.TypesByText.{place_of_type, elem_tree_of, bound_of_ends, tree_with, tree_of_type_text, if_small, tree_of_text, entry_by_type}
-use Rattle.spec_rules.specs.Shapes.{place_named, elem_at, elem_named, bound_between, shape_with, shape_named, shape_of_text}
-use Rattle.spec_server.specs.TypeLaws.{TextsAreDescribed, IsListed, NamedTypesAreListed}
+use Rattle.spec_rules.specs.Shapes.{elem_at, elem_named, shape_with, shape_named, shape_of_text}
+use Rattle.spec_server.specs.TypeLaws.{TextsAreDescribed, NamedTypesAreListed}
 
 -- the types of texts
 
