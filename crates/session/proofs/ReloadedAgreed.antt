@@ -76,7 +76,7 @@ all_in_old_world : (old new : Plant) (moves : List KeptPlace) (ports : List ℕ)
     → AgreeingHandles (is_place_of old.ports) hs ks → All (HasPlaceInOldWorld moves) (kept_from number ks)
 all_in_old_world old new moves ports are number [] [] h = All-nil (HasPlaceInOldWorld moves)
 all_in_old_world old new moves ports are number (x ∷ xs) (y ∷ ys) h =
-    by_status x.status y.status h.1 (all_in_old_world old new moves are (number + 1) xs ys h.2)
+    by_status x.status y.status h.1 (all_in_old_world old new moves ports are (number + 1) xs ys h.2)
   where
     by_status : (s : HandleStatus client.Place) (t : HandleStatus Place) → AgreeingStatus (is_place_of old.ports) x.port s t
         → All (HasPlaceInOldWorld moves) (kept_from (number + 1) ys)

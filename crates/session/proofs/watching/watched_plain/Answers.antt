@@ -2,6 +2,8 @@ use Rattle.std.proofs.Common.{◌∙◌, sym, subst, ◌≡◌}
 use Rattle.spec_formats.specs.Ranges.{range_of}
 use Rattle.index_groups.specs.Access.{answer_meant, IsWithin}
 use Rattle.std.specs.Prelude.{Ok, Err, IfOk}
+use Rattle.return_codes.specs.declared.code.Code.{Code}
+use Rattle.index_groups.specs.declared.access.Reach.{Reach}
 use Rattle.session.proofs.WatchedReach.{watched_in_area, area_len, watched_nowhere, watched_by_value}
 use Rattle.session.proofs.watching.watched_plain.Goals as goal
 
@@ -23,7 +25,7 @@ returns-in-Ok-clause-watched c = λ a asks.
     watched_in_area a c.args.port.now x.group x.offset x.len (Ok c.in-Ok.range) asks.held
     (sym c.is_bytes_or_bit.ensures ∙ c.if-not-is_bytes_or_bit.false)
     (subst (λ s. answer_meant (Ok c.in-Ok.range) ≡ range_of s x.group x.offset x.len) c.sizes.ensures c.in-Ok.ensures.rule)
-    (subst (λ s. IfOk (Ok c.in-Ok.range) (IsWithin s)) c.sizes.ensures c.in-Ok.ensures.within)
+    (subst (λ s. IfOk {E = Code} (Ok c.in-Ok.range) (IsWithin s)) c.sizes.ensures c.in-Ok.ensures.within)
 
 pub returns-in-Err-clause-watched : goal.returns-in-Err-clause-watched
 returns-in-Err-clause-watched c = λ a asks.
@@ -31,7 +33,7 @@ returns-in-Err-clause-watched c = λ a asks.
     watched_in_area a c.args.port.now x.group x.offset x.len (Err c.in-Err.code) asks.held
     (sym c.is_bytes_or_bit.ensures ∙ c.if-not-is_bytes_or_bit.false)
     (subst (λ s. answer_meant (Err c.in-Err.code) ≡ range_of s x.group x.offset x.len) c.sizes.ensures c.in-Err.ensures.rule)
-    (subst (λ s. IfOk (Err c.in-Err.code) (IsWithin s)) c.sizes.ensures c.in-Err.ensures.within)
+    (subst (λ s. IfOk {T = Reach} (Err c.in-Err.code) (IsWithin s)) c.sizes.ensures c.in-Err.ensures.within)
 
 pub returns-in-Ok-clause-len : goal.returns-in-Ok-clause-len
 returns-in-Ok-clause-len c =
