@@ -230,7 +230,10 @@ fn put_field(alloc: Global, out: &mut Octets, bytes: &[u8]) -> Result<(), NoMemo
     ensures no_memory { OnErr result (out.new ≡ out.old) }
 {
     match bytes.as_array::<4>() {
-        Some(four) => out.put_array(alloc, four),
+        Some(four) => {
+            let copied = *four;
+            out.put_array(alloc, &copied)
+        }
         None => out.put(alloc, bytes),
     }
 }

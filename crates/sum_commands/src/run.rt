@@ -111,10 +111,22 @@ fn put_reply<P: PartService>(
     out.reserve(alloc, rest.form.sure_len(fronts, len))?;
     put_zeros(alloc, out, fronts)?;
     let start = out.len() - fronts as usize;
-    run_parts(alloc, service, rest, n, start, out)
+    // Plain reads have a loop of their own, which tests no form.
+    match rest.form {
+        Form::Reads => {
+            let reads = Rest {
+                form: Form::Reads,
+                heads: rest.heads,
+                written: rest.written,
+            };
+            run_parts(alloc, service, reads, n, start, out)
+        }
+        _ => run_parts(alloc, service, rest, n, start, out),
+    }
 }
 
 // Runs n parts. Their results are written into the room from `start` on, and their data is appended.
+#[inline(always)]
 fn run_parts<P: PartService>(
     alloc: Global,
     service: &mut P,

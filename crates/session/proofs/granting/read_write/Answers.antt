@@ -39,7 +39,7 @@ returns-clause-answer c =
     (λ a asks. read_write-is-meant a asked.group asked.offset asked.len asked.bytes.now c.value_len-len.result c.name_meant-bytes.result.now
     c.args.port.now c.args.handles.now asks (sym c.is_wide.ensures ∙ c.if-not-is_wide.false)
     c.name_meant-bytes.ensures (c.value_len-len.ensures a c.args.handles.now asks))
-    (λ a asks. nothing-other a asked.group asked.offset asked.len asked.bytes.now (ne_eqb asked.group type_by_text c.if-asked-TYPE_BY_TEXT.false))
+    (λ a asks. nothing-other a asked.group asked.offset asked.len asked.bytes.now (ne_eqb asked.group type_by_text c.if-asked-eq-TYPE_BY_TEXT.false))
     c.read_write_plain-2.ensures.answer
 
 pub returns-clause-leaves : goal.returns-clause-leaves
@@ -51,7 +51,7 @@ returns-clause-leaves c =
     (λ a asks. read_write-is-meant a asked.group asked.offset asked.len asked.bytes.now c.value_len-len.result c.name_meant-bytes.result.now
     c.args.port.now c.args.handles.now asks (sym c.is_wide.ensures ∙ c.if-not-is_wide.false)
     c.name_meant-bytes.ensures (c.value_len-len.ensures a c.args.handles.now asks))
-    (λ a asks. nothing-other a asked.group asked.offset asked.len asked.bytes.now (ne-eqb asked.group type_by_text c.if-asked-TYPE_BY_TEXT.false))
+    (λ a asks. nothing-other a asked.group asked.offset asked.len asked.bytes.now (ne_eqb asked.group type_by_text c.if-asked-eq-TYPE_BY_TEXT.false))
     c.read_write_plain-2.ensures.leaves
 
 pub returns-clause-asked : goal.returns-clause-asked
@@ -60,20 +60,20 @@ returns-clause-asked c =
     read_write-asked c.args.port.now c.args.handles.now asked.group asked.offset asked.len asked.bytes.now c.read_write_plain-2.result _ _ c.requires.some
     (returns-clause-answer c)
 
-pub returns-then-asked-TYPE_BY_TEXT-clause-answer : goal.returns-then-asked-TYPE_BY_TEXT-clause-answer
-returns-then-asked-TYPE_BY_TEXT-clause-answer c =
+pub returns-then-asked-eq-TYPE_BY_TEXT-clause-answer : goal.returns-then-asked-eq-TYPE_BY_TEXT-clause-answer
+returns-then-asked-eq-TYPE_BY_TEXT-clause-answer c =
     let asked = c.args.asked.now in
     typed-answers c.args.port.now c.args.handles.now asked.group asked.offset asked.len asked.bytes.now c.type_by_text.result _ _
-    (sym c.is_wide.ensures ∙ c.if-not-is_wide.false) (eq-eqb asked.group type_by_text c.if-asked-TYPE_BY_TEXT.true) c.type_by_text.ensures.answer
+    (sym c.is_wide.ensures ∙ c.if-not-is_wide.false) (eq-eqb asked.group type_by_text c.if-asked-eq-TYPE_BY_TEXT.true) c.type_by_text.ensures.answer
 
-pub returns-then-asked-TYPE_BY_TEXT-clause-leaves : goal.returns-then-asked-TYPE_BY_TEXT-clause-leaves
-returns-then-asked-TYPE_BY_TEXT-clause-leaves c =
+pub returns-then-asked-eq-TYPE_BY_TEXT-clause-leaves : goal.returns-then-asked-eq-TYPE_BY_TEXT-clause-leaves
+returns-then-asked-eq-TYPE_BY_TEXT-clause-leaves c =
     let asked = c.args.asked.now in
     typed-leaves c.args.port.now c.args.handles.now asked.group asked.offset asked.len asked.bytes.now c.type_by_text.result
-    (sym c.is_wide.ensures ∙ c.if-not-is_wide.false) (eq-eqb asked.group type_by_text c.if-asked-TYPE_BY_TEXT.true)
+    (sym c.is_wide.ensures ∙ c.if-not-is_wide.false) (eq-eqb asked.group type_by_text c.if-asked-eq-TYPE_BY_TEXT.true)
 
-pub returns-then-asked-TYPE_BY_TEXT-clause-asked : goal.returns-then-asked-TYPE_BY_TEXT-clause-asked
-returns-then-asked-TYPE_BY_TEXT-clause-asked c =
+pub returns-then-asked-eq-TYPE_BY_TEXT-clause-asked : goal.returns-then-asked-eq-TYPE_BY_TEXT-clause-asked
+returns-then-asked-eq-TYPE_BY_TEXT-clause-asked c =
     let asked = c.args.asked.now in
     read_write-asked c.args.port.now c.args.handles.now asked.group asked.offset asked.len asked.bytes.now c.type_by_text.result _ _ c.requires.some
-    (returns-then-asked-TYPE_BY_TEXT-clause-answer c)
+    (returns-then-asked-eq-TYPE_BY_TEXT-clause-answer c)
