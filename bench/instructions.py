@@ -102,25 +102,29 @@ def by_function(log):
     return {name: int(count.replace(",", "")) for count, name in re.findall(r"^\s*([\d,]+) \([^)]*\)\s+\S*?:(.*?)(?: \[.*)?$", said, re.M)}
 
 
+def print_table(program, kinds, top, more):
+    """The table of these kinds of request, a dictionary as KINDS, and the functions that cost most of each."""
+    asked = CONNECTIONS * DEPTH * (ROUNDS[1] - ROUNDS[0])
+    print("| kind | instructions a request |\n|---|---|")
+    with tempfile.TemporaryDirectory() as room, contextlib.chdir(room):
+        pathlib.Path("plant.toml").write_text(toml_of(serve.plant(0, serve.SYMBOLS)))
+        for name, letters in kinds.items():
+            few, many = (counted(program, letters, rounds, more) for rounds in ROUNDS)
+            print(f"| {name} | {(total(many) - total(few)) / asked:,.0f} |", flush=True)
+            if top:
+                before, after = by_function(few), by_function(many)
+                cost = {name: (after[name] - before.get(name, 0)) / asked for name in after}
+                for function in sorted(cost, key=cost.get, reverse=True)[:top]:
+                    print(f"    {cost[function]:8.0f}  {function[:140]}")
+
+
 def main():
     it = argparse.ArgumentParser(description=__doc__, formatter_class=argparse.RawDescriptionHelpFormatter)
     it.add_argument("program", type=os.path.abspath)
     it.add_argument("--top", type=int, default=0)
     it.add_argument("words", nargs="*")
     given = it.parse_args()
-    asked = CONNECTIONS * DEPTH * (ROUNDS[1] - ROUNDS[0])
-    print("| kind | instructions a request |\n|---|---|")
-    with tempfile.TemporaryDirectory() as room:
-        os.chdir(room)
-        pathlib.Path("plant.toml").write_text(toml_of(serve.plant(0, serve.SYMBOLS)))
-        for name, kinds in KINDS.items():
-            few, many = (counted(given.program, kinds, rounds, given.words) for rounds in ROUNDS)
-            print(f"| {name} | {(total(many) - total(few)) / asked:,.0f} |", flush=True)
-            if given.top:
-                before, after = by_function(few), by_function(many)
-                cost = {name: (after[name] - before.get(name, 0)) / asked for name in after}
-                for function in sorted(cost, key=cost.get, reverse=True)[:given.top]:
-                    print(f"    {cost[function]:8.0f}  {function[:140]}")
+    print_table(given.program, KINDS, given.top, given.words)
 
 
 if __name__ == "__main__":
