@@ -1,8 +1,9 @@
 #!/usr/bin/env python3
 """How many instructions `ads serve` or `adsd` takes for a request, by valgrind's callgrind: a figure that other work on the machine does not change.
 
-    python3 bench/instructions.py PROGRAM [--top N] [-- WORD ..]     a table (Markdown); with --top, the N functions that cost most of a request of each kind
+    python3 bench/instructions.py PROGRAM [--top N] [--still] [-- WORD ..]     a table (Markdown); with --top, the N functions that cost most of a request of each kind
 
+With --still the server's clocks stand still (still_clock.c), so that no tick comes: figures that a busy machine does not raise either, and that repeat to 1 in 1,000.
 PROGRAM is `ads` or `adsd`, which is known by its name; the words go to it, as in `bench/instructions.py crates/adsd/out/adsd -- --profile strict`.
 
 The plant and the requests are those of bench/serve.py. Eight connections each send 32 requests of a kind at once and wait for all replies; that is a round. Each kind is
@@ -69,12 +70,19 @@ def words_of(program, port, more):
     return [program, "serve", "plant.toml", "--events", str(2 ** 64 - 1), *listen]
 
 
-def counted(program, kinds, rounds, more):
+def still_clock(room):
+    """The environment in which a program's clocks stand still."""
+    made = os.path.join(room, "still_clock.so")
+    subprocess.run(["gcc", "-O2", "-shared", "-fPIC", "-o", made, os.path.join(serve.HERE, "still_clock.c")], check=True)
+    return {**os.environ, "LD_PRELOAD": made}
+
+
+def counted(program, kinds, rounds, more, env=None):
     """The file of callgrind for so many rounds."""
     port = free_port()
     log = f"callgrind.{rounds}"
     command = ["valgrind", "--tool=callgrind", f"--callgrind-out-file={log}", *words_of(program, port, more)]
-    with subprocess.Popen(command, stdout=subprocess.PIPE, stderr=subprocess.DEVNULL) as server, contextlib.ExitStack() as stack:
+    with subprocess.Popen(command, stdout=subprocess.PIPE, stderr=subprocess.DEVNULL, env=env) as server, contextlib.ExitStack() as stack:
         if server.stdout.readline() != b"listening\n":
             sys.exit("the server does not listen")
         conns = [stack.enter_context(socket.create_connection(("127.0.0.1", port))) for _ in range(CONNECTIONS)]
@@ -102,25 +110,31 @@ def by_function(log):
     return {name: int(count.replace(",", "")) for count, name in re.findall(r"^\s*([\d,]+) \([^)]*\)\s+\S*?:(.*?)(?: \[.*)?$", said, re.M)}
 
 
+def print_table(program, kinds, top, more, still=False):
+    """The table of these kinds of request, a dictionary as KINDS, and the functions that cost most of each."""
+    asked = CONNECTIONS * DEPTH * (ROUNDS[1] - ROUNDS[0])
+    print("| kind | instructions a request |\n|---|---|")
+    with tempfile.TemporaryDirectory() as room, contextlib.chdir(room):
+        pathlib.Path("plant.toml").write_text(toml_of(serve.plant(0, serve.SYMBOLS)))
+        env = still_clock(room) if still else None
+        for name, letters in kinds.items():
+            few, many = (counted(program, letters, rounds, more, env) for rounds in ROUNDS)
+            print(f"| {name} | {(total(many) - total(few)) / asked:,.0f} |", flush=True)
+            if top:
+                before, after = by_function(few), by_function(many)
+                cost = {name: (after[name] - before.get(name, 0)) / asked for name in after}
+                for function in sorted(cost, key=cost.get, reverse=True)[:top]:
+                    print(f"    {cost[function]:8.0f}  {function[:140]}")
+
+
 def main():
     it = argparse.ArgumentParser(description=__doc__, formatter_class=argparse.RawDescriptionHelpFormatter)
     it.add_argument("program", type=os.path.abspath)
     it.add_argument("--top", type=int, default=0)
+    it.add_argument("--still", action="store_true")
     it.add_argument("words", nargs="*")
     given = it.parse_args()
-    asked = CONNECTIONS * DEPTH * (ROUNDS[1] - ROUNDS[0])
-    print("| kind | instructions a request |\n|---|---|")
-    with tempfile.TemporaryDirectory() as room:
-        os.chdir(room)
-        pathlib.Path("plant.toml").write_text(toml_of(serve.plant(0, serve.SYMBOLS)))
-        for name, kinds in KINDS.items():
-            few, many = (counted(given.program, kinds, rounds, given.words) for rounds in ROUNDS)
-            print(f"| {name} | {(total(many) - total(few)) / asked:,.0f} |", flush=True)
-            if given.top:
-                before, after = by_function(few), by_function(many)
-                cost = {name: (after[name] - before.get(name, 0)) / asked for name in after}
-                for function in sorted(cost, key=cost.get, reverse=True)[:given.top]:
-                    print(f"    {cost[function]:8.0f}  {function[:140]}")
+    print_table(given.program, KINDS, given.top, given.words, given.still)
 
 
 if __name__ == "__main__":
