@@ -35,7 +35,7 @@ pub fn relay<T: Threads + Sync, W: Wire>(
     // Where the streams are told: each connection took what it takes in such moves.
     ensures streams { (x : RelayStanding) → StandsOver (StandsAt r.old) (W.state wire.old).history.opened x
         → WhereTold (W.state wire.old).history.streams (λ streams. StreamsOfTurns result relay_after_event nothing_noted (StandsAt r.new) x streams
-            (W.state wire.new).history.streams) }
+        (W.state wire.new).history.streams) }
     // What the moves promise of a relay that had no connection yet.
     ensures promises { (d : Description) → StandsOver (StandsAt r.old) (W.state wire.old).history.opened (standing_at_start (relay_start d))
         → WhereTold (W.state wire.old).history.log (λ log. LogsPromises result d log (W.state wire.new).history.log) }

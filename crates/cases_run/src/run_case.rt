@@ -4,7 +4,9 @@ ghost use Rattle.std.specs.Prelude.{[], IsTrue};
 ghost use Rattle.ads_outside.specs.Opened.{are_new};
 
 use ads_base::{NoMemory, Octets};
-use ads_outside::{Files, Link, LinkMove, MemFiles, MemLink, MemSink, MemWire, RunWire, Sink, Wire};
+use ads_outside::{
+    Files, Link, LinkMove, MemFiles, MemLink, MemSink, MemWire, RunWire, Sink, Wire,
+};
 use ads_run::{Status, run, run_program};
 use persist_store::{Disk, MemDisk};
 use run_sheets::{
