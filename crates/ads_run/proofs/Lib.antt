@@ -7,4 +7,3 @@ pub mod StoreLemmas
 pub mod RecordRunLemmas
 pub mod OwnLemmas
 pub mod SignalLemmas
-mod CauseExamples

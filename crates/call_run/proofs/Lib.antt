@@ -7,4 +7,3 @@ pub mod RecordLemmas
 pub mod RecordedRows
 pub mod RecordLocalLemmas
 pub mod RecordEndLemmas
-mod CallExamples

@@ -15,4 +15,3 @@ pub mod FinishLemmas
 pub mod RecordLemmas
 pub mod LaterLemmas
 pub mod ComeLemmas
-mod TalkExamples

@@ -3,4 +3,3 @@ pub mod StatusLemmas
 pub mod RunningLemmas
 pub mod KeptLemmas
 pub mod PlantDone
-mod PlantExamples

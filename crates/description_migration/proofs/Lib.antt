@@ -4,4 +4,3 @@ pub mod SecondLemmas
 pub mod VerdictLemmas
 pub mod PlainLemmas
 pub mod MigratedLemmas
-pub mod MigrationExamples

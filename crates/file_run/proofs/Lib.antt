@@ -9,4 +9,3 @@ pub mod ServiceLemmas
 pub mod MigrationLemmas
 pub mod LoadLemmas
 pub mod KeepLemmas
-mod ServingExamples

@@ -9,4 +9,3 @@ mod WantLemmas
 mod BegunLemmas
 mod LookLemmas
 mod OnLemmas
-mod KeepExamples

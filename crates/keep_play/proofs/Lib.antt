@@ -1,4 +1,3 @@
 pub mod ScriptLemmas
 pub mod CoreLemmas
 pub mod StoreLemmas
-mod KeptExamples

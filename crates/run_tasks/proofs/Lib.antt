@@ -4,5 +4,3 @@ pub mod OpenLemmas
 pub mod VerdictLemmas
 pub mod EndLemmas
 pub mod TaskLemmas
-mod StatusExamples
-mod VerdictExamples

@@ -11,5 +11,5 @@ pub returns-clause-answer : goal.returns-clause-answer
 returns-clause-answer c =
     let len = c.args.asked.now.len in
     subst (λ (t : List ℕ). IfOk c.entry_of_type.result (λ answer. (w : World) (p : PlantPort) → HoldsPort w p c.args.port.now
-        → AnswersAct w (if_type (tree_of_text w.plant.types t) len) answer c.args.out.now c.entry_of_type.new.out))
+    → AnswersAct w (if_type (tree_of_text w.plant.types t) len) answer c.args.out.now c.entry_of_type.new.out))
     c.up_to_nul.ensures c.entry_of_type.ensures.answer
