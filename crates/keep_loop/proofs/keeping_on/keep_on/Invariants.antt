@@ -17,7 +17,7 @@ invariant-loop-taken g l = record {
   few : AreFew l.counts l._taken;
   failed : 0 < l.counts.failed → Rose (g.D.Disk.fault_count l.initial.disk) (g.D.Disk.fault_count l.disk);
   untold : g.D.Disk.contents l.initial.disk ≡ None → g.D.Disk.contents l.disk ≡ None;
-  named : OpensOnly (g.D.Disk.names l.initial.disk) (g.D.Disk.names l.disk) l.name.now;
+  named : OpensOnly (g.D.Disk.names l.initial.disk) (g.D.Disk.names l.disk) l.name;
   kept : g.W.Wire.kept l.wire ≡ g.W.Wire.kept l.initial.wire;
   later : g.D.Disk.fault_count l.initial.disk ≤ g.D.Disk.fault_count l.disk;
   wire_later : (g.W.Wire.state l.initial.wire).faults ≤ (g.W.Wire.state l.wire).faults;
