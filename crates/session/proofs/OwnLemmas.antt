@@ -5,6 +5,7 @@ use Rattle.std.proofs.lemmas.Bool.{false≢true}
 use Rattle.ads_base.specs.declared.no_memory.NoMemory.{NoMemory}
 use Rattle.return_codes.specs.declared.code.Code.{Code}
 use Rattle.spec_plant.specs.World.{PlantPort}
+use Rattle.spec_formats.specs.GroupNumbers.{process_bytes}
 use Rattle.spec_formats.specs.Request.{Request, Read}
 use Rattle.spec_machine.specs.Manner.{Manner, Strict, Wide}
 use Rattle.spec_machine.specs.Acts.{Act}
@@ -37,6 +38,14 @@ unfolding act_of
 states-asked a m kept group offset len asks t =
     states-more a.world.profile.manner a.asker.port.number group offset len (plain_asked a (meant_in a (Read group offset len)))
     (ap (λ x. reads_states x group) (sym asks.held.manner) ∙ t)
+
+-- the group of the bytes of data is none of the state words
+pub data-is-no-state : (x : Manner) (group : ℕ) → group ≡ process_bytes → reads_states x group ≡ false
+data-is-no-state x group e = subst (λ (n : ℕ). reads_states x n ≡ false) (sym e) (of_manner x)
+  where
+    of_manner : (y : Manner) → reads_states y process_bytes ≡ false
+    of_manner Strict = refl
+    of_manner Wide = refl
 
 -- another one is taken as it is meant
 pub meant-asked : (a : Asking) (m : PortMemory) (kept : Kept) (group offset len : ℕ) → Asks a m kept → reads_states m.manner group ≡ false

@@ -11,6 +11,7 @@ use crate::looking::read_value;
 use crate::meaning::read_len;
 use crate::requests::ReadRequest;
 use ads_base::{NoMemory, Octets};
+use index_groups::PROCESS_BYTES;
 use port_device::Port;
 use return_codes::Code;
 use std::alloc::Global;
@@ -35,6 +36,10 @@ pub(crate) fn read(
     ensures asked { OnOk result (length out.new ≤ length out.old + asked.now.len) }
     ensures no_memory { OnErr result (out.new ≡ out.old) }
 {
+    // Most reads are of data, which needs no further look at the group.
+    if asked.group == PROCESS_BYTES {
+        return read_meant(alloc, handles, port, ams_port, asked, out);
+    }
     if is_device_data(port, asked.group) {
         return port.read_states(alloc, asked.offset, asked.len, out);
     }
