@@ -46,7 +46,7 @@ class Has:
 
 
 def a_length(r, length):
-    return r.choice((length, length + 1, 2 * length + 7, 1024, 0xFFFFFFFF))
+    return min(r.choice((length, length + 1, 2 * length + 7, 1024, 0xFFFFFFFF)), 0xFFFFFFFF)
 
 
 def a_name(r, name):
