@@ -231,6 +231,7 @@ fn put_field(alloc: Global, out: &mut Octets, bytes: &[u8]) -> Result<(), NoMemo
 {
     match bytes.as_array::<4>() {
         Some(four) => {
+            // Copied first, so that nothing tests whether they lie in the room.
             let copied = *four;
             out.put_array(alloc, &copied)
         }

@@ -20,6 +20,7 @@ ghost use Rattle.port_device.specs.TypesPut.{ends_read, tree_read, is_elem_text,
 
 use crate::port::Port;
 use crate::type_ids::elem_id;
+use crate::uploads::MOST;
 use ads_base::{NoMemory, Octets};
 use return_codes::Code;
 use std::alloc::Global;
@@ -28,9 +29,6 @@ use type_layout::{
     size, type_text,
 };
 use type_upload::{put_type_alone, put_type_at};
-
-// The most bytes that a reply holds.
-const MOST: usize = 2_000_000;
 
 // The greatest number of elements, and of bytes, of an array.
 const GREATEST: u128 = 1_048_576;
@@ -84,7 +82,7 @@ fn entry_by_text(
 fn is_too_long(size: usize, len: u32) -> bool
     ensures { result ≡ (nat_lt greatest_len size || nat_lt len size) }
 {
-    MOST < size || (len as usize) < size
+    (MOST as usize) < size || (len as usize) < size
 }
 
 // The entry of the type that a text names, and whether it names one.

@@ -20,7 +20,7 @@ use std::alloc::Global;
 use type_upload::put_types;
 
 // The most bytes that a reply holds.
-const MOST: u32 = 2_000_000;
+pub(crate) const MOST: u32 = 2_000_000;
 
 impl Port {
     /// Appends an upload, or the sizes of uploads. 0x705 where it has more bytes than were asked for.

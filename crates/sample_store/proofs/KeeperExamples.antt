@@ -11,11 +11,11 @@ use Rattle.sample_store.specs.declared.keeper_open.KeeperOpen.TheVariants as ope
 use Rattle.sample_store.specs.declared.totalled.Totalled.TheVariants as totalled
 use Rattle.sample_store.specs.Keeper.{AreNumbered, Counts, IsNext, Keeps, Totals}
 
-abbrev row : ℕ → ℕ → Row
-row number value = record { number = number; name = codes "Main.count"; time = 5; bytes = value ∷ [] }
+abbrev sample : ℕ → ℕ → Row
+sample number value = record { number = number; name = codes "Main.count"; time = 5; bytes = value ∷ [] }
 
 abbrev two : Option (List Row)
-two = Some (row 1 42 ∷ row 2 43 ∷ [])
+two = Some (sample 1 42 ∷ sample 2 43 ∷ [])
 
 abbrev count_in : Option (List Row) → ℕ
 count_in None = 0
@@ -25,7 +25,7 @@ numbered : AreNumbered two
 unfolding AreCountedFrom
 numbered = (refl, (refl, tt))
 
-a_number_is_missing : AreNumbered (Some (row 1 42 ∷ row 3 43 ∷ [])) → ⊥
+a_number_is_missing : AreNumbered (Some (sample 1 42 ∷ sample 3 43 ∷ [])) → ⊥
 unfolding AreCountedFrom
 a_number_is_missing n = false≢true (ap (λ m. m == 2) (n.1.0))
 
@@ -43,19 +43,19 @@ next_number = lit≤ tt
 over_a_number : IsNext two 4 → ⊥
 over_a_number h = omega (arith, h)
 
-put : Keeps kept.Done two (Some (row 1 42 ∷ row 2 43 ∷ row 3 44 ∷ [])) (row 3 44)
+put : Keeps kept.Done two (Some (sample 1 42 ∷ sample 2 43 ∷ sample 3 44 ∷ [])) (sample 3 44)
 unfolding rows_after_put
 put = refl
 
-put_again : Keeps kept.Done two two (row 2 99)
+put_again : Keeps kept.Done two two (sample 2 99)
 unfolding rows_after_put
 put_again = refl
 
-put_and_lost : Keeps kept.Done two two (row 3 44) → ⊥
+put_and_lost : Keeps kept.Done two two (sample 3 44) → ⊥
 unfolding rows_after_put
 put_and_lost e = false≢true (ap (λ o. count_in o == 3) e)
 
-failed_and_put : Keeps kept.Failed two (Some (row 1 42 ∷ row 2 43 ∷ row 3 44 ∷ [])) (row 3 44) → ⊥
+failed_and_put : Keeps kept.Failed two (Some (sample 1 42 ∷ sample 2 43 ∷ sample 3 44 ∷ [])) (sample 3 44) → ⊥
 failed_and_put e = false≢true (ap (λ o. count_in o == 2) e)
 
 -- there is no total exactly where no row has the name

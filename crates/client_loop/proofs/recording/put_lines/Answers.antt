@@ -16,7 +16,11 @@ returns-in-Ok-Some-clause-lines g c =
     (rw c.in-Ok-Some.field-0-is at c.in-Ok-Some.ensures.lines) c.print.ensures.put)
 
 pub returns-in-Ok-Some-clause-out_later : goal.returns-in-Ok-Some-clause-out_later
-returns-in-Ok-Some-clause-out_later g c = record { sink = c.print.ensures.out_later; keeper = c.total_lines.ensures.keeper_later; names = c.total_lines.ensures.names }
+returns-in-Ok-Some-clause-out_later g c = record {
+  sink = c.print.ensures.out_later;
+  keeper = c.total_lines.ensures.keeper_later;
+  names = c.total_lines.ensures.names;
+}
 
 pub returns-in-Ok-None-clause-lines : goal.returns-in-Ok-None-clause-lines
 returns-in-Ok-None-clause-lines g c = (rw c.in-Ok-None.field-0-is at c.in-Ok-None.ensures.lines, refl, c.total_lines.ensures.rows)

@@ -4,7 +4,9 @@ use Rattle.client_calls.proofs.StandingLemmas.{rests_over}
 use Rattle.client_calls.proofs.runner.Runner.hear.Goals as goal
 
 pub returns-in-Some : goal.returns-in-Some
-returns-in-Some c = rests_over c.args.self.now c.take_end.new.self c.in-Some.end c.requires.quiet c.in-Some.ensures.0 c.in-Some.ensures.1.0 c.in-Some.ensures.1.1
+returns-in-Some c =
+    let ends = c.in-Some.ensures in
+    rests_over c.args.self.now c.take_end.new.self c.in-Some.end c.requires.quiet ends.0 ends.1.0 ends.1.1
 
 pub returns-in_ok-step-in-None : goal.returns-in_ok-step-in-None
 returns-in_ok-step-in-None c =
