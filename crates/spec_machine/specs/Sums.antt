@@ -105,23 +105,13 @@ sum_of_read_writes n bytes = record {
   form = OfReadWrites;
 }
 
--- reads whose results tell their lengths, each filled to the length that it asks
-abbrev pub sum_of_told_reads : ℕ → List ℕ → SumRequest
-sum_of_told_reads n bytes = record {
-  data_len = 12 * n;
-  reply_len = 8 * n + sum (numbers_of_heads n 12 8 bytes);
-  parts = read_parts n bytes;
-  form = OfToldReads (numbers_of_heads n 12 8 bytes);
-}
-
 -- reads whose results tell their lengths, each as long as what it gives
 abbrev pub sum_of_short_reads : ℕ → List ℕ → SumRequest
-sum_of_short_reads n bytes = record {
-  data_len = 12 * n;
-  reply_len = 8 * n + sum (numbers_of_heads n 12 8 bytes);
-  parts = read_parts n bytes;
-  form = OfReadWrites;
-}
+sum_of_short_reads n bytes = record (sum_of_reads n bytes) { reply_len = 8 * n + sum (numbers_of_heads n 12 8 bytes); form = OfReadWrites }
+
+-- reads whose results tell their lengths, each filled to the length that it asks
+abbrev pub sum_of_told_reads : ℕ → List ℕ → SumRequest
+sum_of_told_reads n bytes = record (sum_of_short_reads n bytes) { form = OfToldReads (numbers_of_heads n 12 8 bytes) }
 
 -- additions of notifications, whose results tell their handles, where a head has this width
 abbrev pub additions_of_width : ℕ → ℕ → List ℕ → SumRequest
