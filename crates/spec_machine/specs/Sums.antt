@@ -1,9 +1,10 @@
 -- Sum commands: their parts, one after another, and the packing of what the parts gave.
 -- Beckhoff Information System, "ADS Sum Command".
-use Rattle.std.specs.Prelude.{ℕ, zero, suc, ◌+◌, ◌-◌, ◌*◌, List, [], ◌∷◌, ◌++◌, length, take, drop}
-use Rattle.std.specs.Prelude.{flat_map, sum, replicate, nat_lt, not, ◌||◌, ◌==◌, if◌then◌else◌}
+use Rattle.std.specs.Prelude.{ℕ, zero, suc, ◌+◌, ◌*◌, List, [], ◌∷◌, ◌++◌, length, take, drop}
+use Rattle.std.specs.Prelude.{flat_map, sum, nat_lt, not, ◌||◌, ◌==◌, if◌then◌else◌}
 use Rattle.std.specs.Prelude.{Option, Some, None}
 use Rattle.std.specs.Int.{w32, to_le_bytes}
+pub use Rattle.spec_frames.specs.Number.{filled}
 use Rattle.spec_formats.specs.Codes.{invalid_size, invalid_value}
 use Rattle.spec_formats.specs.Numbers.{number32}
 use Rattle.spec_formats.specs.Ranges.{greatest_len}
@@ -150,10 +151,7 @@ sum_refusal n data_len len reply_len read_len =
 abbrev pub codes_of : List Outcome → List ℕ
 codes_of os = flat_map (λ (o : Outcome). to_le_bytes w32 o.code) os
 
--- data filled with zeros to the asked length
-abbrev pub filled : ℕ → List ℕ → List ℕ
-filled len bytes = bytes ++ replicate (len - length bytes) 0
-
+-- data filled with zeros to the asked lengths
 abbrev pub filled_data : List ℕ → List Outcome → List ℕ
 filled_data [] os = []
 filled_data (len ∷ lens) [] = []
