@@ -11,12 +11,11 @@ ghost use Rattle.run_tasks.specs.Tasks.{asked_task};
 
 use crate::real_outside::RealOutside;
 use ads_base::NoMemory;
-use ads_edge::{RealFiles, RealLink, RealSink, RealWire, hold_standard_descriptors};
+use ads_edge::{RealFiles, RealLink, RealSink, RealWire, hold_standard_descriptors, words_of_process};
 use ads_outside::Sink;
 use ads_run::{Status, end_without_memory, run_program};
 use real_disk::RealDisk;
 use sqlite_samples::SqliteKeeper;
-use std::env;
 use std::io::ErrorKind;
 use std::process::ExitCode;
 use std::thread::Threads;
@@ -106,13 +105,4 @@ fn run_over<T: Threads + Sync, S: Sink>(
         disk,
         keeper,
     )
-}
-
-// The words of the process, the program's name first; or what failed where they could not be read, as a word that is not
-// UTF-8.
-fn words_of_process(rt: &HostRuntime) -> Result<Vec<String>, ErrorKind> {
-    match env::args(rt) {
-        Ok(args) => args.collect(rt.alloc()).map_err(|_| ErrorKind::OutOfMemory),
-        Err(error) => Err(error.kind()),
-    }
 }
