@@ -6,6 +6,7 @@ mod draft;
 mod fault;
 mod folder;
 mod given;
+mod joined;
 mod line;
 mod link_case;
 mod new_events;
