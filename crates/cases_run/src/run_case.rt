@@ -4,13 +4,12 @@ ghost use Rattle.std.specs.Prelude.{[], IsTrue};
 ghost use Rattle.ads_outside.specs.Opened.{are_new};
 
 use ads_base::{NoMemory, Octets};
-use ads_outside::{
-    Files, Link, LinkMove, MemFiles, MemLink, MemSink, MemWire, RunWire, Sink, Wire,
-};
+use ads_outside::{Files, Link, LinkMove, MemFiles, MemLink, MemSink, MemWire, Move, Sink, Wire};
 use ads_run::{Status, run, run_program};
 use persist_store::{Disk, MemDisk};
 use run_sheets::{
-    Came, Fault, Given, LinkCase, Runs, StoreCase, WireCase, log_text, open_new, rows_of, talk_of,
+    CaseWire, Came, Fault, Given, LinkCase, Runs, StoreCase, WireCase, log_text, open_new, rows_of,
+    talk_of,
 };
 use sample_store::{Keeper, MapKeeper};
 use signals::Signal;
@@ -38,19 +37,6 @@ impl Runs for Ads {
     ) -> Result<Came, Fault> {
         run_case(threads, alloc, given, self.takes_runs)
     }
-}
-
-/// All that a run is handed in beside its wire.
-#[derive(Drop)]
-struct Handed {
-    words: Vec<String>,
-    unreadable: Option<ErrorKind>,
-    has_signals: bool,
-    files: MemFiles,
-    link: MemLink,
-    sink: MemSink,
-    disk: MemDisk,
-    keeper: MapKeeper,
 }
 
 // Runs the words that are given over the files, the wire, the link and the stores.
@@ -107,64 +93,13 @@ fn run_given<T: Threads + Sync>(
         failing_keeper,
         rows: _rows,
     } = stores;
+    let mut files = MemFiles::new(alloc, files, failing_reads);
     let wire = MemWire::new(alloc, events, failing_calls, cuts);
-    let handed = Handed {
-        words,
-        unreadable,
-        has_signals,
-        files: MemFiles::new(alloc, files, failing_reads),
-        link: MemLink::new(alloc, link_events, link_fails),
-        sink: MemSink::with_parts(alloc, failing_puts, parts),
-        disk: MemDisk::new(alloc, file, failing_disk, stop),
-        keeper: MapKeeper::new(alloc, failing_keeper),
-    };
-    if takes_runs {
-        return run_by_runs(threads, alloc, handed, wire);
-    }
-    run_by_frames(threads, alloc, handed, wire)
-}
-
-// The run over the wire, which takes each frame by itself.
-fn run_by_frames<T: Threads + Sync>(
-    threads: &T,
-    alloc: Global,
-    handed: Handed,
-    wire: MemWire,
-) -> Result<Came, Fault> {
-    let mut wire = wire;
-    let came = run_over(threads, alloc, handed, &mut wire);
-    with_log(came, log_text(alloc, wire.log().as_slice()))
-}
-
-// The run over the same wire, which takes frames in runs.
-fn run_by_runs<T: Threads + Sync>(
-    threads: &T,
-    alloc: Global,
-    handed: Handed,
-    wire: MemWire,
-) -> Result<Came, Fault> {
-    let mut wire = RunWire::new(wire);
-    let came = run_over(threads, alloc, handed, &mut wire);
-    with_log(came, log_text(alloc, wire.log().as_slice()))
-}
-
-// The run over a wire; what came but for the log.
-fn run_over<T: Threads + Sync, W: Wire>(
-    threads: &T,
-    alloc: Global,
-    handed: Handed,
-    wire: &mut W,
-) -> Result<Came, Fault> {
-    let Handed {
-        words,
-        unreadable,
-        has_signals,
-        mut files,
-        mut link,
-        mut sink,
-        mut disk,
-        mut keeper,
-    } = handed;
+    let mut wire = CaseWire::new(wire, takes_runs);
+    let mut link = MemLink::new(alloc, link_events, link_fails);
+    let mut sink = MemSink::with_parts(alloc, failing_puts, parts);
+    let mut disk = MemDisk::new(alloc, file, failing_disk, stop);
+    let mut keeper = MapKeeper::new(alloc, failing_keeper);
     let status = run_words(
         threads,
         alloc,
@@ -172,21 +107,21 @@ fn run_over<T: Threads + Sync, W: Wire>(
         unreadable,
         has_signals,
         &mut files,
-        wire,
+        &mut wire,
         &mut link,
         &mut sink,
         &mut disk,
         &mut keeper,
     );
-    let came = came_of(alloc, status, sink.bytes(), link.log(), &keeper);
+    let came = came_of(
+        alloc,
+        status,
+        sink.bytes(),
+        wire.log().as_slice(),
+        link.log(),
+        &keeper,
+    );
     with_file(came, disk.file())
-}
-
-// What came, with the log of the wire.
-fn with_log(came: Result<Came, Fault>, log: Result<Octets, Fault>) -> Result<Came, Fault> {
-    let mut came = came?;
-    came.log = log?;
-    Ok(came)
 }
 
 // What came, with the file that is left.
@@ -260,23 +195,25 @@ fn run_without_signals<T: Threads + Sync, F: Files, W: Wire, L: Link, S: Sink, D
     )
 }
 
-// What came, but for the log of the wire and the file that is left.
+// What came, but for the file that is left.
 fn came_of(
     alloc: Global,
     status: Result<Status, NoMemory>,
     out: &[u8],
+    log: &[Move],
     talk: &[LinkMove],
     keeper: &MapKeeper,
 ) -> Result<Came, Fault> {
     let status = status?;
     let out = Octets::copy_of(alloc, out)?;
+    let log = log_text(alloc, log)?;
     let talk = talk_of(alloc, talk)?;
     let rows = rows_of(alloc, keeper)?;
     Ok(Came {
         status: status.number(),
         out,
         told: Octets::new(alloc),
-        log: Octets::new(alloc),
+        log,
         talk,
         left: Octets::new(alloc),
         rows,

@@ -15,6 +15,7 @@ mod runs;
 mod store_case;
 mod tally;
 mod told;
+mod two_wires;
 mod wire_case;
 mod wire_log;
 
@@ -26,5 +27,6 @@ pub use new_events::open_new;
 pub use report::main_of;
 pub use runs::Runs;
 pub use store_case::{StoreCase, rows_of};
+pub use two_wires::CaseWire;
 pub use wire_case::WireCase;
 pub use wire_log::log_text;
