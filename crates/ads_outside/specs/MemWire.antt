@@ -73,10 +73,6 @@ unlogged s = record s { history = record s.history { log = None } }
 abbrev pub state_of_runs : HeldWire → WireState
 state_of_runs w = unlogged (state_of_held w)
 
--- the events that are left open numbers that were not opened before
-abbrev pub opens_new : HeldWire → Bool
-opens_new w = are_new (drop w.given w.events) (opened_in w.log)
-
 -- what is answered, want of memory aside
 abbrev pub started_of : HeldWire → Started
 started_of w = if fails_next w.failing then started.Failed else started.Ready
