@@ -24,6 +24,7 @@ use Rattle.run_tasks.specs.EndsOr.{EndsOr, WantsMemory}
 use Rattle.run_tasks.specs.Prints.{PrintsEnding}
 use Rattle.file_run.specs.FileOutcomes.{at_start_in}
 use Rattle.file_run.specs.Serving.{CannotRun, EndsService}
+use Rattle.file_run.proofs.PromiseLemmas.{holds_accepted}
 use Rattle.file_run.proofs.ServiceLemmas.{server_promises}
 use Rattle.daemon_run.specs.Kept.{EndsKept, HoldsBody, KeepsBodies, RunsKept, SavesEach}
 use Rattle.daemon_run.specs.Plant.{Plant, Serving, service_of, serves_plant, serving}
@@ -111,6 +112,7 @@ module _ {D : Type 0} (contents : D → Option (List ℕ)) (may_leave : D → Li
           most = r.wire.most;
           promises = server_promises r.kept.ended profile d waves r.moves r.wire.turns r.wire.offers;
         };
+        over_accepted = holds_accepted profile d waves r.moves;
         bodies = bodies_kept old mid new r.kept (LooksAt r.kept.ended every body_of_world server s0 r.moves)
             (body_of_world (state_after server s0 r.moves).world) standing same later r.keeps r.failed;
         prints = r.prints;
