@@ -63,7 +63,7 @@ pub(crate) fn keep_read<
     requires every { 1 ≤ every }
     ensures ends { EndsKept (serving (profile_of profile) (G.waves signals) (Some store.now) every)
         (plant_of name.now listen.now read.bytes (description_of read.description)) result (S.state out.old) (S.state out.new)
-        (disk_used D.contents D.may_leave D.moment D.left_since D.fault_count disk.old disk.new)
+        (disk_used D.contents D.may_leave D.moment D.left_since D.marked D.fault_count disk.old disk.new)
         (W.state wire.old).history (W.state wire.new).history }
     ensures status { IsOfPlant result }
     ensures opens { OpensOnly (D.names disk.old) (D.names disk.new) store.now }
