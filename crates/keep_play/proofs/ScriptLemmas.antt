@@ -350,7 +350,8 @@ marks_logged bodies Holds lines old moves count (look ∷ looks) first are =
 pub script_marked : {W C : Type 0} (body_of : BodyOf W) (step : EventStep W C) (s : MachineState W C) (lines : List ScriptLine) (old new : PlayedScript)
     (log : List Move) (told : Option (List ℕ)) (standing : Option slots.Standing) (Marked : List Mark → Type 0) (marks : List Mark)
     → IsWireOf lines old new log → log ≡ play_of step s lines
-    → MarksMore Marked marks (MarksRun true 1 body_of step s (HoldsSaves told standing) (state_of_played old) (state_of_played new))
+    → MarksMore Marked marks (MarksRun true 1 body_of step s (HoldsSaves told standing) (state_of_played old).history
+    (state_of_played new).history)
     → MarksMore Marked marks (MarksScript body_of step s lines told standing)
 script_marked body_of step s lines old new log told standing Marked marks wire play m =
     let r = m.are in
@@ -359,7 +360,7 @@ script_marked body_of step s lines old new log told standing Marked marks wire p
     let last = history_after (state_of_played old).history r.moves in
     let here = log_there lines old last r.moves wire.first refl in
     let all : new.log ≡ r.moves ++ r.later = same_some new.log (r.moves ++ r.later)
-    (log_same (state_of_played old) (state_of_played new) (history_after last r.later) r.ended ∙ log-after r.later last r.moves here) in
+    (ap (λ (h : WireHistory). h.log) r.ended ∙ log-after r.later last r.moves here) in
     let whole : new.log ≡ r.moves = all ∙ (ap (λ l. r.moves ++ l) r.all.whole ∙ append-nil r.moves) in
     let P : List Move → Type 0 = λ l. MarksPlay bodies (bodies_to_end 1 body_of step s l) Holds l m.more in
     record {
