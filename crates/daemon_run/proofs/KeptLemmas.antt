@@ -7,7 +7,7 @@ use Rattle.ads_outside.specs.WireState.{WireHistory}
 use Rattle.signals.specs.Wave.{Wave}
 use Rattle.spec_machine.specs.Moves.{state_after}
 use Rattle.spec_machine.specs.Profile.{Profile}
-use Rattle.spec_server.specs.Server.{server, server_start_in}
+use Rattle.spec_server.specs.Server.{server, start_in}
 use Rattle.spec_store.specs.Disk.{LeavesOnly}
 use Rattle.spec_store.specs.Slots.{Standing, standing_of}
 use Rattle.persist_store.proofs.Moments.{weaker, joins, started}
@@ -101,7 +101,7 @@ module _ {D : Type 0} (contents : D → Option (List ℕ)) (may_leave : D → Li
   unfolding served
   runs_kept profile waves store every x standing old mid new s between out_new wire wire_new same later stay r =
       let d = description_kept x.description standing in
-      let s0 = server_start_in profile d waves in
+      let s0 = start_in profile d waves in
       record {
         kept = r.kept;
         moves = r.moves;

@@ -16,7 +16,7 @@ use Rattle.spec_machine.proofs.Changes.{state_after-append}
 use Rattle.spec_machine.proofs.TurnsKept.{offers_whole, takes_output}
 use Rattle.spec_machine.proofs.ServerDelivers.{server_only_adds, server_takes_output, server_takes_all}
 use Rattle.spec_laws.proofs.Exact.{changes_only_by_writes}
-use Rattle.spec_server.specs.Server.{read_description, server_device, server, server_start_in, server_after_in, server_play}
+use Rattle.spec_server.specs.Server.{read_description, server_device, server, start_in, server_after_in, server_play}
 use Rattle.spec_server.proofs.ServerProofs.{server_plays_in_turns, each_is_isolated, each_takes_as_alone, server_refuses_dead_handles}
 use Rattle.spec_server.proofs.ServerProofs.{reads_descriptions, server_leaves_all_at_refusals}
 use Rattle.spec_promises.proofs.Promised.{each_holds_writes}
@@ -26,7 +26,7 @@ use Rattle.spec_promises.proofs.Promised.{each_handle_is_history}
 use Rattle.file_run.specs.Promises.{GivesFramesInOrderIn, ChangesByWritesIn, IsUntouchedHereIn, IsServedAsAloneIn, BeginsAsAloneIn}
 use Rattle.file_run.specs.Promises.{HoldsThroughoutIn, KeepsPromisesIn, KeepsPromisesSoFarIn, PlayKeepsPromises}
 
-frames_in_order : (profile : Profile) (d : Description) (waves : List Wave) (log : List Move) → KeepsTurns server (server_start_in profile d waves) log
+frames_in_order : (profile : Profile) (d : Description) (waves : List Wave) (log : List Move) → KeepsTurns server (start_in profile d waves) log
     → GivesFramesInOrderIn profile d waves log
 frames_in_order profile d waves log turns = record {
   turns = turns;
@@ -43,7 +43,7 @@ changes_by_writes : (profile : Profile) (d : Description) (waves : List Wave) (b
 changes_by_writes profile d waves before m name not_reload not_written =
     let s = server_after_in profile d waves before in
     let next : server_after_in profile d waves (before ++ m ∷ []) ≡ state_after_move server s m =
-    state_after-append server before (m ∷ []) (server_start_in profile d waves) ∙ one_move s m in
+    state_after-append server before (m ∷ []) (start_in profile d waves) ∙ one_move s m in
     ap (λ (t : MachineState World Client). byte_at t.world.memory name) next
     ∙ changes_only_by_writes read_description s m name not_reload not_written
 
@@ -59,13 +59,13 @@ holds_throughout profile d waves log = record {
   accepted = reads_descriptions;
 }
 
-are_offers : (profile : Profile) (d : Description) (waves : List Wave) (log : List Move) → KeepsTurns server (server_start_in profile d waves) log
-    → AreOffers server (server_start_in profile d waves) log
+are_offers : (profile : Profile) (d : Description) (waves : List Wave) (log : List Move) → KeepsTurns server (start_in profile d waves) log
+    → AreOffers server (start_in profile d waves) log
 are_offers profile d waves log turns =
-    offers_whole World Client server (server_start_in profile d waves) log []
-    (subst (λ (l : List Move). KeepsTurns server (server_start_in profile d waves) l) (sym (append-nil log)) turns)
+    offers_whole World Client server (start_in profile d waves) log []
+    (subst (λ (l : List Move). KeepsTurns server (start_in profile d waves) l) (sym (append-nil log)) turns)
 
-served_as_alone : (profile : Profile) (d : Description) (waves : List Wave) (log : List Move) → KeepsTurns server (server_start_in profile d waves) log
+served_as_alone : (profile : Profile) (d : Description) (waves : List Wave) (log : List Move) → KeepsTurns server (start_in profile d waves) log
     → (c : ℕ) → IsUntouchedHereIn profile d waves c log → IsServedAsAloneIn profile d waves c log
 served_as_alone profile d waves log turns c untouched =
     let taken = each_takes_as_alone profile d waves c log untouched in
@@ -76,21 +76,21 @@ served_as_alone profile d waves log turns c untouched =
     }
 
 pub turns_keep_promises : (profile : Profile) (d : Description) (waves : List Wave) (log : List Move)
-    → KeepsTurns server (server_start_in profile d waves) log → KeepsPromisesIn profile d waves log
+    → KeepsTurns server (start_in profile d waves) log → KeepsPromisesIn profile d waves log
 turns_keep_promises profile d waves log turns = record {
   frames = frames_in_order profile d waves log turns;
   isolated = served_as_alone profile d waves log turns;
   throughout = holds_throughout profile d waves log;
 }
 
-begins_as_alone : (profile : Profile) (d : Description) (waves : List Wave) (log : List Move) → AreOffers server (server_start_in profile d waves) log
+begins_as_alone : (profile : Profile) (d : Description) (waves : List Wave) (log : List Move) → AreOffers server (start_in profile d waves) log
     → (c : ℕ) → IsUntouchedHereIn profile d waves c log → BeginsAsAloneIn profile d waves c log
 begins_as_alone profile d waves log offers c untouched =
     let taken = each_takes_as_alone profile d waves c log untouched in
     record { given = each_is_isolated profile d waves c log untouched; begins = taken.begins offers }
 
 pub offers_keep_promises : (profile : Profile) (d : Description) (waves : List Wave) (log : List Move)
-    → AreOffers server (server_start_in profile d waves) log → KeepsPromisesSoFarIn profile d waves log
+    → AreOffers server (start_in profile d waves) log → KeepsPromisesSoFarIn profile d waves log
 offers_keep_promises profile d waves log offers = record {
   begins = λ c. takes_output World Client server (world_in profile d waves) c log (server_only_adds World Client server_device) offers;
   isolated = begins_as_alone profile d waves log offers;

@@ -18,7 +18,7 @@ use Rattle.spec_machine.specs.ScriptLine.{ScriptLine}
 use Rattle.spec_machine.specs.Delivery.{IsPrefix, is_short, is_cut_off}
 use Rattle.spec_laws.specs.Isolation.{IsAmong, IsUntouchedIn}
 use Rattle.spec_laws.specs.ExactWrites.{writes_of_move, is_accepted_reload}
-use Rattle.spec_server.specs.Server.{read_description, server, server_start_in, server_after_in, server_output_in, server_play}
+use Rattle.spec_server.specs.Server.{read_description, server, start_in, server_after_in, server_output_in, server_play}
 use Rattle.spec_server.specs.ServerLaws.{ReadsDescriptions, ServerLeavesAllAtRefusals, ServerRefusesDeadHandles}
 use Rattle.spec_promises.specs.Written.{HoldsWritesIn}
 use Rattle.spec_promises.specs.Notified.{NotifiesAfterIn}
@@ -31,7 +31,7 @@ IsUntouchedHereIn profile d waves c log = IsUntouchedIn read_description profile
 -- each connection takes the machine's frames in their order
 pub record GivesFramesInOrderIn (profile : Profile) (d : Description) (waves : List Wave) (log : List Move) : Type 0 where
   -- each event is followed by the offers to each connection
-  pub turns : KeepsTurns server (server_start_in profile d waves) log
+  pub turns : KeepsTurns server (start_in profile d waves) log
   -- what a connection took begins what it was given
   pub begins : (c : ℕ) → IsPrefix (taken_of c log) (server_output_in profile d waves c log)
   -- and is all of it, unless its last offer was short, or it was closed by its peer or lost

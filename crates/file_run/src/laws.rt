@@ -5,7 +5,7 @@ ghost use Rattle.spec_machine.specs.Profile.{Profile};
 ghost use Rattle.spec_machine.specs.Turns.{KeepsTurns};
 ghost use Rattle.ads_outside.specs.declared.moves.Move.{Move};
 ghost use Rattle.spec_plant.specs.Description.{Description};
-ghost use Rattle.spec_server.specs.Server.{server, server_start, server_start_in};
+ghost use Rattle.spec_server.specs.Server.{server, server_start, start_in};
 ghost use Rattle.file_run.specs.Promises.{KeepsPromises, KeepsPromisesIn};
 ghost use Rattle.signals.specs.Wave.{Wave};
 
@@ -15,5 +15,5 @@ pub fn logs_in_turns_keep_promises()
     ensures strict { (d : Description) (waves : List Wave) (log : List Move) → KeepsTurns server (server_start d waves) log
         → KeepsPromises d waves log }
     ensures each { (profile : Profile) (d : Description) (waves : List Wave) (log : List Move)
-        → KeepsTurns server (server_start_in profile d waves) log → KeepsPromisesIn profile d waves log }
+        → KeepsTurns server (start_in profile d waves) log → KeepsPromisesIn profile d waves log }
 {}

@@ -1,5 +1,5 @@
 -- A type that is read from a text is one that a description may have.
-use Rattle.std.proofs.Common.{◌≡◌, ℕ, zero, suc, ◌+◌, ◌≤◌, Bool, true, List, [], ◌∷◌, length, map, take, drop, refl, ap, subst, arith, inl, inr}
+use Rattle.std.proofs.Common.{◌≡◌, ℕ, zero, suc, ◌+◌, ◌≤◌, Bool, true, false, List, [], ◌∷◌, length, map, take, drop, refl, ap, subst, arith, inl, inr}
 use Rattle.std.specs.Prelude.{Option, Some, None, option_map, option_and_then, ◌&&◌, ◌==◌, nat_le, nat_lt, ℤ}
 use Rattle.std.specs.Prelude.{pos, int_le, neg_ℤ, nat_abs, bytes_eq, codes, ◌+ℤ◌, ◌-ℤ◌, ◌≤ℤ◌}
 use Rattle.std.specs.List.{list_all, slice_split, before_first}
@@ -10,8 +10,13 @@ use Rattle.name_paths.specs.Name.{is_full_stop}
 use Rattle.name_paths.specs.Path.{is_comma}
 use Rattle.spec_plant.specs.TypeTexts.{Ends, ends_in_order, ends_of, high_text_of, all_ends_of, dimensions_of}
 use Rattle.spec_plant.specs.AcceptedTypes.{is_index, is_bound}
-use Rattle.spec_rules.specs.Shapes.{bound_between}
-use Rattle.spec_rules.proofs.FirstWrong.{both_true}
+use Rattle.spec_plant.specs.Shapes.{bound_between}
+
+-- two tests that pass
+pub both_true : (a b : Bool) → a ≡ true → b ≡ true → (a && b) ≡ true
+both_true true true p q = refl
+both_true true false p q = q
+both_true false b p q = p
 
 unsigned_of-index : (text : List ℕ) (z : ℤ) → unsigned_of text ≡ Some z → is_index z ≡ true
 unsigned_of-index text z h =
