@@ -9,12 +9,14 @@ use Rattle.spec_machine.specs.Moves.{state_after}
 use Rattle.spec_server.specs.Server.{server}
 use Rattle.spec_store.specs.Disk.{Only}
 use Rattle.spec_store.specs.Slots.{Standing, standing_of, standing_body}
+use Rattle.persist_store.specs.Marks.{Mark}
 use Rattle.keep_loop.specs.Bodies.{saves_in}
 use Rattle.keep_loop.specs.declared.kept_on.KeptOn.{KeptOn}
 use Rattle.keep_loop.specs.declared.save_counts.SaveCounts.{SaveCounts}
 use Rattle.keep_loop.specs.declared.save_end.SaveEnd.{SaveEnd}
 use Rattle.keep_loop.specs.declared.save_end.SaveEnd.TheVariants as save
 use Rattle.keep_loop.specs.KeepingOn.{Begun, MayStand, StoodOnce, AreSomeOf, bodies_begun, all_done, done_in, IsWhole, is_kept, IsAnyOver, LooksAt}
+use Rattle.keep_loop.specs.Marking.{HoldsWhole, MarksRun, MarksMore, comes_to_end}
 use Rattle.keep_play.specs.KeptDisk.{DiskUse}
 use Rattle.keep_play.specs.KeptPlay.{AllSaved}
 use Rattle.keep_play.specs.KeptSaves.{body_standing, body_of_world, description_kept}
@@ -87,6 +89,9 @@ pub record RunsKept (h : Serving) (x : Plant) (standing : Option Standing) (begu
       → HoldsAcceptedIn h.profile (description_kept x.description standing) h.waves moves
   pub bodies : KeepsBodies kept (LooksAt kept.ended h.every body_of_world server (start_kept h standing x) moves)
       (body_of_world (state_after server (start_kept h standing x) moves).world) disk standing begun
+  -- behind which moves each of them was looked at, as may be told of the disk
+  pub marks : (marks : List Mark) → disk.marked marks → MarksMore disk.marked_new marks
+      (MarksRun (comes_to_end kept.ended) h.every body_of_world server (start_kept h standing x) (HoldsWhole kept.counts disk.file standing) old new)
   pub prints : PrintsAt kept.ended (ending_kept kept (counts_after (service_of h (plant_kept standing x)).machine moves)) s out out_new
 
 -- the store could not be opened, and that is told
