@@ -1,27 +1,16 @@
 //! The single requests that the parts of a sum are.
 
 use crate::asker::Asker;
+use crate::lending::data_lent;
 use crate::requests::{NoteRequest, ReadRequest, ReadWriteRequest, WriteRequest};
 use crate::{granting, reading, watching, writing};
 use ads_base::{NoMemory, Octets};
-use index_groups::{PROCESS_BYTES, Reach, reach};
 use notify_table::Watches;
 use port_device::Port;
 use return_codes::Code;
 use std::alloc::Global;
 use sum_commands::PartService;
 use sym_handles::Handles;
-
-#[inline(always)]
-fn data_lent(port: &Port, group: u32, offset: u32, len: u32) -> Option<&[u8]> {
-    if group != PROCESS_BYTES {
-        return None;
-    }
-    match reach(port.sizes(), PROCESS_BYTES, offset, len) {
-        Ok(Reach::Bytes { area, at, len }) => Some(port.lent(area, at, len)),
-        _ => None,
-    }
-}
 
 /// One client at one port, who runs single requests. After want of memory the part that wanted it may be done.
 #[derive(Drop)]

@@ -1,7 +1,8 @@
 -- Plain reads whose bytes are lent: their results are all 0, and their data is what they gave.
-use Rattle.std.proofs.Common.{◌≡◌, ℕ, zero, suc, ◌+◌, ◌-◌, ◌*◌, ◌<◌, ◌≤◌, List, [], ◌∷◌, ◌++◌, length, take, drop, replicate}
+use Rattle.std.proofs.Common.{◌≡◌, ℕ, suc, ◌+◌, ◌-◌, ◌*◌, ◌≤◌, List, [], ◌++◌, length, take, drop, replicate}
 use Rattle.std.proofs.Common.{refl, sym, ◌∙◌, ap, subst, arith, append_assoc, length-append, length-take, length-drop, take_at, drop_at}
-use Rattle.std.proofs.lemmas.List.{append-nil, drop-drop, length-replicate}
+use borrow.Rule.Slice.PartMut.{put_mid}
+use Rattle.std.proofs.lemmas.List.{append-nil, drop-drop, drop_all, length-replicate, replicate-append-replicate}
 use Rattle.std.proofs.Math.Seq.{take-length}
 use Rattle.std.specs.Int.{w32, to_le_bytes}
 use Rattle.spec_formats.specs.Numbers.{number32}
@@ -26,10 +27,6 @@ written_over-there front bytes behind at count =
     sym (drop-drop (length bytes) at text) ∙ ap (drop (length bytes)) from ∙ drop_at bytes behind (length bytes) refl in
     ap (λ x. x ++ bytes ++ drop (at + length bytes) text) before ∙ ap (λ x. front ++ bytes ++ x) after ∙ append_assoc front bytes behind
 
-replicate-add : (a b : ℕ) → replicate (a + b) 0 ≡ replicate a 0 ++ replicate b 0
-replicate-add zero b = refl
-replicate-add (suc a) b = ap (λ x. 0 ∷ x) (replicate-add a b)
-
 -- the result of a read that is well is there before it is written
 result-there : (at all : ℕ) (more : List ℕ) → at + 4 ≤ all
     → written_over at (to_le_bytes w32 0) (replicate all 0 ++ more) ≡ replicate all 0 ++ more
@@ -37,8 +34,10 @@ result-there at all more fits =
     let left = all - (at + 4) in
     let split : replicate all 0 ++ more ≡ replicate at 0 ++ (to_le_bytes w32 0 ++ (replicate left 0 ++ more)) =
     ap (λ n. replicate n 0 ++ more) (let e : all ≡ at + (4 + left) = omega (arith, fits) in e)
-    ∙ ap (λ x. x ++ more) (replicate-add at (4 + left))
-    ∙ append_assoc (replicate at 0) (replicate (4 + left) 0) more in
+    ∙ ap (λ x. x ++ more) (sym (replicate-append-replicate at (4 + left) 0))
+    ∙ append_assoc (replicate at 0) (replicate (4 + left) 0) more
+    ∙ ap (λ x. replicate at 0 ++ (x ++ more)) (sym (replicate-append-replicate 4 left 0))
+    ∙ ap (λ x. replicate at 0 ++ x) (append_assoc (replicate 4 0) (replicate left 0) more) in
     ap (λ x. written_over at (to_le_bytes w32 0) x) split
     ∙ written_over-there (replicate at 0) (to_le_bytes w32 0) (replicate left 0 ++ more) at (length-replicate {A = ℕ} at 0)
     ∙ sym split
@@ -55,6 +54,30 @@ written-up at len bytes room room' fits long written =
     let text = take at room ++ bytes in
     let count : length text ≡ at + len = omega (arith, length-append (take at room) bytes, length-take at room, fits, long) in
     ap (take (at + len)) written ∙ take_at text (drop (at + length bytes) room) (at + len) count
+
+-- the text whose last bytes were lent and written
+pub rest-written : (n len asked begin : ℕ) (base text lent_text lent : List ℕ) → text ≡ base ++ replicate len 0 → len ≡ 4 * n + asked
+    → begin ≡ length base + 4 * n → lent_text ≡ text → length lent ≡ length lent_text - begin
+    → take (length text) (put_mid begin (length lent_text - begin) lent_text lent ++ drop (length (put_mid begin (length lent_text - begin) lent_text lent)) text)
+    ≡ base ++ (replicate (4 * n) 0 ++ lent)
+rest-written n len asked begin base text lent_text lent whole split there same long =
+    let zeros = replicate {A = ℕ} (4 * n) 0 in
+    let behind = replicate {A = ℕ} asked 0 in
+    let put = put_mid begin (length lent_text - begin) lent_text lent in
+    let parts : lent_text ≡ (base ++ zeros) ++ behind =
+    same ∙ whole ∙ ap (λ k. base ++ replicate k 0) split ∙ ap (λ x. base ++ x) (sym (replicate-append-replicate (4 * n) asked 0)) ∙ sym (append_assoc base zeros behind) in
+    let front_long : length (base ++ zeros) ≡ begin = omega (arith, length-append base zeros, length-replicate {A = ℕ} (4 * n) 0, there) in
+    let front : take begin lent_text ≡ base ++ zeros = ap (take begin) parts ∙ take_at (base ++ zeros) behind begin front_long in
+    let none : drop (length lent_text - begin) (drop begin lent_text) ≡ [] =
+    drop_all (length lent_text - begin) (drop begin lent_text) (omega (arith, length-drop begin lent_text)) in
+    let is : put ≡ (base ++ zeros) ++ lent =
+    ap (λ x. x ++ (lent ++ drop (length lent_text - begin) (drop begin lent_text))) front
+    ∙ ap (λ x. (base ++ zeros) ++ (lent ++ x)) none ∙ ap (λ x. (base ++ zeros) ++ x) (append-nil lent) in
+    let text_long : length lent_text ≡ begin + asked =
+    omega (arith, ap length parts, length-append (base ++ zeros) behind, length-replicate {A = ℕ} asked 0, front_long) in
+    let count : length put ≡ length text =
+    omega (arith, ap length is, length-append (base ++ zeros) lent, front_long, long, ap length same, text_long) in
+    take_at put (drop (length put) text) (length text) count ∙ is ∙ append_assoc base zeros lent
 
 module _ {V S : Type 0} (stands_for : V → S → Type 0) (given : S → Request → Outcome) (leaves : S → Request → S)
     (may_leave : S → Request → V → Type 0) where
@@ -115,3 +138,13 @@ module _ {V S : Type 0} (stands_for : V → S → Type 0) (given : S → Request
       let all = ap (λ x. take x room) whole ∙ take-length room in
       subst (λ x. Replies stands_for given leaves form.Reads n heads [] s service [] (replicate (4 * n) 0 ++ x)) all
       (replies stands_for given leaves may_leave form.Reads n heads [] s [] form.Reads k heads1 [] service at_front _ none so_far)
+
+  -- and they stand behind other bytes
+  pub lent-behind : (n : ℕ) (heads : List ℕ) (s : S) (service : V) (base reply out : List ℕ) → out ≡ base ++ reply
+      → Replies stands_for given leaves form.Reads n heads [] s service [] reply
+      → Replies stands_for given leaves form.Reads n heads [] s service base out
+  lent-behind n heads s service base reply out is said = record {
+    state = said.state;
+    bytes = is ∙ ap (λ x. base ++ x) said.bytes;
+    asked = omega (arith, ap length is, length-append base reply, said.asked);
+  }

@@ -36,7 +36,8 @@ pub(crate) fn put_reads<P: PartService>(
 {
     let before = out.len();
     put_zeros(alloc, out, len)?;
-    let begin = before + 4 * n as usize;
+    let asked = (len - 4 * n) as usize;
+    let begin = out.len() - asked;
     if put_lent(service, heads, n, &mut out.as_mut_slice()[begin..]) {
         return Ok(true);
     }
@@ -53,18 +54,18 @@ fn put_lent<P: PartService>(service: &P, heads: &[u8], n: u32, room: &mut [u8]) 
     requires fits { length room.old ≡ sum (numbers_of_heads n 12 8 heads.now) }
     requires some { StandsForSome P.stands_for service.now }
     ensures all { result ≡ true → (s : P.State) → P.stands_for service.now s
-        → Replies P.stands_for P.given P.left form.Reads n heads.entry.now [] s service.now [] (replicate (4 * n) 0 ++ room.new) }
+        → Replies P.stands_for P.given P.left form.Reads n heads.now [] s service.now [] (replicate (4 * n) 0 ++ room.new) }
     ensures len { length room.new ≡ length room.old }
 {
-    let mut heads = heads;
+    let mut rest = heads;
     let mut at = 0usize;
     for _ in 0..n {
-        let len = get32(heads, 8);
-        if !put_first(service, heads, len, at, room) {
+        let len = get32(rest, 8);
+        if !put_first(service, rest, len, at, room) {
             return false;
         }
         at += len as usize;
-        heads = bytes_behind(heads, 12);
+        rest = bytes_behind(rest, 12);
     }
     true
 }

@@ -1,6 +1,7 @@
 //! What runs the parts of a sum.
 
-ghost use Rattle.std.specs.Prelude.{◌≡◌, ◌+◌, ◌≤◌, [], length, Ok, OnOk, OnErr, IfOk, IfSome};
+ghost use Rattle.std.specs.Prelude.{◌≡◌, ◌+◌, ◌≤◌, length, OnOk, OnErr, IfOk, IfSome};
+ghost use Rattle.spec_formats.specs.Codes.{no_error};
 ghost use Rattle.spec_formats.specs.Request.{Request, Read, Write, ReadWrite};
 ghost use Rattle.spec_formats.specs.Request.{AddDeviceNotification, DeleteDeviceNotification};
 
@@ -57,7 +58,7 @@ pub trait PartService {
     fn lent(&self, _group: u32, _offset: u32, _len: u32) -> Option<&[u8]>
         requires { StandsForSome stands_for self.now }
         ensures gives { IfSome result (λ bytes. (s : State) → stands_for self.now s
-            → Gives (given s (Read _group _offset _len)) (Ok tt) [] bytes.now) }
+            → given s (Read _group _offset _len) ≡ record { code = no_error; bytes = bytes.now }) }
         ensures leaves { IfSome result (λ _. (s : State) → stands_for self.now s
             → stands_for self.now (left s (Read _group _offset _len))) }
         ensures len { IfSome result (λ bytes. length bytes.now ≡ _len) }
