@@ -3,7 +3,7 @@ use Rattle.std.proofs.Common.{◌≡◌, ◌⊎◌, inl, inr, ℕ, List, [], ◌
 use Rattle.std.proofs.lemmas.List.{append_assoc, take-append-drop}
 use Rattle.std.specs.Prelude.{true, false, Option, Some, None}
 use Rattle.ads_outside.specs.Rose.{raised}
-use Rattle.daemon_log.specs.Lines.{HeldLines, Line, IsLog, texts_of, bytes_of_kept, lost_of, TakesWaiting}
+use Rattle.daemon_log.specs.Lines.{HeldLines, Line, IsLog, texts_of, bytes_of_kept, lost_of}
 
 -- a line that is kept
 pub log_kept : (told : List (List ℕ)) (given line : List ℕ) (old : HeldLines) → IsLog told given old

@@ -1,5 +1,5 @@
 -- What a log holds of the lines that it was told. This project's own choice.
-use Rattle.std.specs.Prelude.{◌≡◌, ℕ, Bool, true, false, List, [], ◌∷◌, ◌++◌, take, Option, Some, None, if◌then◌else◌}
+use Rattle.std.specs.Prelude.{◌≡◌, ℕ, Bool, true, false, List, [], ◌∷◌, ◌++◌, if◌then◌else◌}
 use Rattle.ads_outside.specs.Rose.{raised}
 
 -- the bytes that are still to be given to the outlet, and how many lines were lost; that count stands still at its type's end
@@ -31,8 +31,3 @@ pub record IsLog (told : List (List ℕ)) (given : List ℕ) (held : HeldLines) 
   pub texts : texts_of lines ≡ told
   pub whole : given ++ held.waits ≡ bytes_of_kept lines
   pub lost : held.lost ≡ lost_of lines
-
--- an outlet, where it tells, took so many first bytes of what waited
-abbrev pub TakesWaiting : ℕ → Option (List ℕ) → Option (List ℕ) → List ℕ → Type 0
-TakesWaiting n None new waits = Unit {0}
-TakesWaiting n (Some old) new waits = new ≡ Some (old ++ take n waits)

@@ -1,7 +1,8 @@
 //! Lines that wait for an outlet, at most so many bytes of them.
 
 ghost use Rattle.std.specs.Prelude.{◌≡◌, ◌⊎◌, ◌+◌, ◌<◌, ◌≤◌, ◌∷◌, [], ◌++◌, List, ℕ, length, take, drop};
-ghost use Rattle.daemon_log.specs.Lines.{IsLog, TakesWaiting};
+ghost use Rattle.daemon_outside.specs.Outlet.{TakesFirst};
+ghost use Rattle.daemon_log.specs.Lines.{IsLog};
 ghost use Rattle.ads_outside.specs.Rose.{raised};
 
 use daemon_outside::LogOutlet;
@@ -80,7 +81,7 @@ impl Ring {
     pub fn flush<O: LogOutlet>(&mut self, outlet: &mut O) -> u32
         ensures few { result ≤ 4096 }
         ensures waits { self.new ≡ record self.old { waits = drop result self.old.waits } }
-        ensures takes { TakesWaiting result (O.held outlet.old) (O.held outlet.new) self.old.waits }
+        ensures takes { TakesFirst result (O.held outlet.old) (O.held outlet.new) self.old.waits }
         ensures log { (told : List (List ℕ)) (given : List ℕ) → IsLog told given self.old → IsLog told (given ++ take result self.old.waits) self.new }
     {
         self.give(outlet)
@@ -102,7 +103,7 @@ impl Ring {
     fn give<O: LogOutlet>(&mut self, outlet: &mut O) -> u32
         ensures few { result ≤ 4096 }
         ensures waits { self.new ≡ record self.old { waits = drop result self.old.waits } }
-        ensures takes { TakesWaiting result (O.held outlet.old) (O.held outlet.new) self.old.waits }
+        ensures takes { TakesFirst result (O.held outlet.old) (O.held outlet.new) self.old.waits }
     {
         let waiting = self.waiting();
         if waiting == 0 {

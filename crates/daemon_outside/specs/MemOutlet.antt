@@ -1,5 +1,6 @@
 -- An outlet in memory.
-use Rattle.std.specs.Prelude.{ℕ, List, min, Option, Some, None, slice_get, ◌++◌, take}
+use Rattle.std.specs.Prelude.{ℕ, List, slice_get, ◌++◌, take}
+use Rattle.ads_outside.specs.MemWire.{taken_at_most}
 use Rattle.ads_outside.specs.Rose.{raised}
 
 -- what it took, how many bytes it takes at most in each call, in order, and how often it was called
@@ -8,13 +9,9 @@ pub record HeldOutlet : Type 0 where
   pub cuts : List ℕ
   pub calls : ℕ
 
-abbrev pub cut_at : Option ℕ → ℕ → ℕ
-cut_at None n = n
-cut_at (Some cut) n = min cut n
-
 -- how many of so many bytes the next call takes, want of memory aside: all where no number is given
 abbrev pub takes_next : HeldOutlet → ℕ → ℕ
-takes_next o n = cut_at (slice_get o.cuts o.calls) n
+takes_next o n = taken_at_most (slice_get o.cuts o.calls) n
 
 -- after a call that took so many
 abbrev pub outlet_after : ℕ → HeldOutlet → List ℕ → HeldOutlet

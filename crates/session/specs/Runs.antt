@@ -18,7 +18,7 @@ use Rattle.type_layout.specs.declared.description.Rights.{Rights}
 use Rattle.type_layout.specs.Descriptions.{rights_of}
 use Rattle.port_device.specs.PortMemory.{PortMemory}
 use Rattle.port_device.specs.Holds.{HoldsPort}
-use Rattle.session.specs.Asking.{Asking, outcome_asked, asking_after}
+use Rattle.session.specs.Asking.{Asking}
 use Rattle.session.specs.SessionState.{SessionState}
 use Rattle.session.specs.StandsFor.{StandsFor}
 
@@ -36,11 +36,6 @@ pub record SomeSession (port : PortMemory) (s : SessionState) : Type 0 where
 pub record IsFrom (a : Asking) (source : AmsAddr) (rights : Rights) : Type 0 where
   pub address : a.asker.address ≡ address_of source
   pub rights_are : a.asker.rights ≡ rights_of rights
-
--- a single request is run: its reply's payload, and what it leaves
-pub record RunsSingle (a : Asking) (r : Request) (old new : List ℕ) (port : PortMemory) (s : SessionState) : Type 0 where
-  pub reply : new ≡ old ++ reply_payload (command_of r) (outcome_asked a r)
-  pub after : AsksSession (asking_after a r) port s
 
 -- what the request of a packet leads to
 abbrev pub decision_of : Asking → Request → Decision

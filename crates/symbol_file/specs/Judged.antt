@@ -29,17 +29,6 @@ fault_in_types d = first_broken (
     ∷ (7, wrong_part d.types)
     ∷ [])
 
--- rules 9 to 14
-abbrev pub fault_in_symbols : ℕ → rules.Document → List NamedType → Option BrokenRule
-fault_in_symbols signals d types = first_broken (
-    (9, wrong_port d.schema d.ports)
-    ∷ (10, wrong_name d.ports)
-    ∷ (11, wrong_type types d.ports)
-    ∷ (12, wrong_place types d.ports)
-    ∷ (13, wrong_content types d.ports)
-    ∷ (14, wrong_signal types signals d.ports)
-    ∷ [])
-
 -- rules 9 to 15
 abbrev pub fault_in_ports : ℕ → rules.Document → List NamedType → Option BrokenRule
 fault_in_ports signals d types = first_broken (
