@@ -21,7 +21,7 @@ use Rattle.run_tasks.proofs.ReadingLemmas.{rose_from}
 use Rattle.sample_store.specs.Keeper.{KeeperState}
 use Rattle.call_run.proofs.SilentLemmas.{IsRecord, both_none, call_silent, last_step_silent}
 
-take_none : {A : Type 0} (n : ℕ) → take n ([] {A}) ≡ []
+take_none : (n : ℕ) → ◌≡◌ {A = List ℕ} (take n []) []
 take_none zero = refl
 take_none (suc n) = refl
 

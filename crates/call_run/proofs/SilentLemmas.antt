@@ -1,5 +1,5 @@
 -- A recording prints nothing before it is done.
-use Rattle.std.proofs.Common.{◌≡◌, ℕ, zero, suc, List, [], ◌∷◌, ◌++◌, Bool, true, false, refl, sym, ap, ◌∙◌, inl, inr}
+use Rattle.std.proofs.Common.{◌≡◌, ℕ, zero, suc, ◌+◌, List, [], ◌∷◌, ◌++◌, Bool, true, false, refl, sym, ap, ◌∙◌, inl, inr}
 use Rattle.std.specs.Prelude.{Option, Some, None, ◌==◌}
 use Rattle.std.specs.List.{list_all}
 use Rattle.spec_formats.specs.Header.{AmsAddress}
@@ -84,7 +84,7 @@ silent_on (ForNotification name) r = record { stage = refl; outputs = refl }
 silent_on (ForDeletion left) r = record { stage = refl; outputs = refl }
 
 silent_kept : (wait : RecordWait) (r : Recording) (time : ℕ) (bytes : List ℕ) (n : Recorded) → IsSilent (with_sample wait r time bytes n)
-silent_kept wait r time bytes n = let p = silent_on wait (record r { kept = suc r.kept }) in record { stage = p.stage; outputs = p.outputs }
+silent_kept wait r time bytes n = let p = silent_on wait (record r { kept = r.kept + 1 }) in record { stage = p.stage; outputs = p.outputs }
 
 silent_sample : (wait : RecordWait) (r : Recording) (time : ℕ) (bytes : List ℕ) (o : Option Recorded)
     → IsSilent (after_record_sample wait r time bytes o)

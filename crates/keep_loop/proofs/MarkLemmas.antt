@@ -20,10 +20,10 @@ use Rattle.keep_loop.specs.Saving.{StaysTold}
 pub marks_more : (Is : ℕ → Mark → Type 0) (count : ℕ) (looks : List Mark) (mark : Mark) → AreMarks Is count looks → Is (count + length looks) mark
     → AreMarks Is count (looks ++ mark ∷ [])
 marks_more Is count [] mark are is =
-    let none : count + 0 ≡ count = omega arith in
+    let none : count + length {A = Mark} [] ≡ count = omega arith in
     (subst (λ n. Is n mark) none is, tt)
 marks_more Is count (look ∷ looks) mark are is =
-    let next : count + (length looks + 1) ≡ count + 1 + length looks = omega arith in
+    let next : count + length (look ∷ looks) ≡ count + 1 + length looks = omega arith in
     (are.0, marks_more Is (count + 1) looks mark are.1 (subst (λ n. Is n mark) next is))
 
 -- what holds of a file and of bodies, in other words
