@@ -4,6 +4,7 @@ pub mod SaveLemmas
 pub mod SavingLemmas
 pub mod TurnLemmas
 pub mod KeepLemmas
+mod QuietLemmas
 pub mod MarkLemmas
 mod AlsoLemmas
 pub mod EndLemmas

@@ -14,7 +14,7 @@ use Rattle.persist_store.specs.Marks.{Mark, MarksOne, MarksStay}
 use Rattle.persist_store.specs.Store.{StoreState, body_of, IsReady}
 use Rattle.keep_loop.specs.Bodies.{BodyOf, bodies_looked_at, bodies_to_end, saves_in}
 use Rattle.keep_loop.specs.Keeping.{EndsAfter}
-use Rattle.keep_loop.specs.Marking.{HoldsSaves, MarksLook, AreMarks, MarksLast, MarksToEnd, IsBehind, IsUpToEnd, MarksRun, MarksMore, MarksSoFar, MarksOf}
+use Rattle.keep_loop.specs.Marking.{HoldsSaves, MarksLook, AreMarks, IsBehind, IsUpToEnd, MarksRun, MarksMore, MarksSoFar, MarksBeforeEnd, MarksAtEnd}
 use Rattle.keep_loop.specs.Saving.{StaysTold}
 
 pub marks_more : (Is : ℕ → Mark → Type 0) (count : ℕ) (looks : List Mark) (mark : Mark) → AreMarks Is count looks → Is (count + length looks) mark
@@ -104,54 +104,67 @@ up_to_end old new last (inr (inl ended)) = subst (λ h. IsUpToEnd h last) (sym e
 up_to_end old new last (inr (inr stops)) =
     stops.same ∙ ap (λ n. record last { ends = n; stops = new.history.stops }) (sym (ap (λ (h : WireHistory). h.ends) stops.same))
 
--- how a run ends that was marked so far
-module _ {W C : Type 0} (every : ℕ) (of_world : BodyOf W) (step : EventStep W C) (s : MachineState W C) (Holds Then : List (List ℕ) → Option (List ℕ) → Type 0)
-    (old : WireState) (mid : WireHistory) (new : WireState) (moves : List Move) (Marked Now : List Mark → Type 0) (marks : List Mark)
-    (follows : Follows Holds Then) where
-  -- with these moves behind the whole turns
-  pub marked_some : (later : List Move) → events_in later ≤ 1 → mid ≡ history_after old.history moves → EndsAfter old new (history_after mid later)
-      → ((l : List Mark) → Marked l → Now l)
-      → MarksSoFar Marked marks (bodies_looked_at every of_world step s) old.history Holds moves
-      → MarksMore Now marks (MarksRun false every of_world step s Then old.history new.history)
-  marked_some later few logged ended stay so_far = record {
-    more = so_far.looks;
-    told = stay (marks ++ so_far.looks) so_far.told;
-    are = record {
+-- how a run ends that was marked so far: with these moves behind the whole turns
+pub marked_before : {W C : Type 0} (every : ℕ) (of_world : BodyOf W) (step : EventStep W C) (s : MachineState W C)
+    (Holds Then : List (List ℕ) → Option (List ℕ) → Type 0) (old : WireState) (mid : WireHistory) (new : WireState) (moves : List Move)
+    (Marked Now : List Mark → Type 0) (marks : List Mark) → Follows Holds Then → (to_end : Bool) (file : Option (List ℕ)) (later : List Move)
+    → events_in later ≤ 1 → mid ≡ history_after old.history moves → EndsAfter old new (history_after mid later) → ((l : List Mark) → Marked l → Now l)
+    → (to_end ≡ true → later ≡ []) → (to_end ≡ true → Then (bodies_to_end every of_world step s moves) file)
+    → MarksSoFar Marked marks (bodies_looked_at every of_world step s) old.history Holds moves
+    → MarksMore Now marks (MarksBeforeEnd to_end every of_world step s Then file old.history new.history)
+marked_before every of_world step s Holds Then old mid new moves Marked Now marks follows to_end file later few logged ended stay whole holds so_far = record {
+  more = so_far.looks;
+  told = stay (marks ++ so_far.looks) so_far.told;
+  are = record {
+    run = record {
       moves = moves;
       later = later;
       few = few;
       ended = subst (λ h. IsUpToEnd new.history (history_after h later)) logged (up_to_end old new (history_after mid later) ended);
       looks = so_far.looks;
       each = so_far.each;
-      are = let P : List Move → Type 0 = λ l. AreMarks (MarksLook (bodies_looked_at every of_world step s) (IsBehind old.history) Then l) 0 so_far.looks in
+      are =
+          let P : List Move → Type 0 = λ l. AreMarks (MarksLook (bodies_looked_at every of_world step s) (IsBehind old.history) Then l) 0 so_far.looks in
           subst P (append-nil moves)
           (marks_later (bodies_looked_at every of_world step s) (IsBehind old.history) Holds Then moves [] 0 so_far.looks follows so_far.are);
       all = refl;
     };
-  }
+    whole = whole;
+    holds = holds;
+  };
+}
 
-  pub marked_all : (file : Option (List ℕ)) → mid ≡ history_after old.history moves → EndsAfter old new (history_after mid [])
-      → ((l : List Mark) → Marked l → Now (l ++ record { wire = new.history; file = file } ∷ [])) → Then (bodies_to_end every of_world step s moves) file
-      → MarksSoFar Marked marks (bodies_looked_at every of_world step s) old.history Holds moves
-      → MarksMore Now marks (MarksRun true every of_world step s Then old.history new.history)
-  marked_all file logged ended adds holds so_far =
-      let mark : Mark = record { wire = new.history; file = file } in
-      record {
-        more = so_far.looks ++ mark ∷ [];
-        told = subst Now (append_assoc marks so_far.looks (mark ∷ [])) (adds (marks ++ so_far.looks) so_far.told);
-        are = record {
-          moves = moves;
-          later = [];
-          few = omega arith;
-          ended = subst (λ h. IsUpToEnd new.history (history_after h [])) logged (up_to_end old new (history_after mid []) ended);
-          looks = so_far.looks;
-          each = so_far.each;
-          are = let P : List Move → Type 0 = λ l. AreMarks (MarksLook (bodies_looked_at every of_world step s) (IsBehind old.history) Then l) 0 so_far.looks in
-              subst P (append-nil moves)
-              (marks_later (bodies_looked_at every of_world step s) (IsBehind old.history) Holds Then moves [] 0 so_far.looks follows so_far.are);
-          all = record { whole = refl; last = mark; are = refl; wire = refl; holds = holds };
+-- the mark of the end
+pub marked_end : {W C D : Type 0} (every : ℕ) (of_world : BodyOf W) (step : EventStep W C) (s : MachineState W C)
+    (Holds : List (List ℕ) → Option (List ℕ) → Type 0) (marked : D → List Mark → Type 0) (mid disk : D) (marks : List Mark) (to_end : Bool)
+    (file : Option (List ℕ)) (old new : WireHistory) → MarksAtEnd to_end marked mid disk new file
+    → MarksMore (marked mid) marks (MarksBeforeEnd to_end every of_world step s Holds file old new)
+    → MarksMore (marked disk) marks (MarksRun to_end every of_world step s Holds old new)
+marked_end every of_world step s Holds marked mid disk marks false file old new stay m =
+    record { more = m.more; told = stay (marks ++ m.more) m.told; are = m.are.run }
+marked_end every of_world step s Holds marked mid disk marks true file old new adds m =
+    let mark : Mark = record { wire = new; file = file } in
+    let r = m.are.run in
+    record {
+      more = m.more ++ mark ∷ [];
+      told = subst (marked disk) (append_assoc marks m.more (mark ∷ [])) (adds (marks ++ m.more) m.told);
+      are = record {
+        moves = r.moves;
+        later = r.later;
+        few = r.few;
+        ended = r.ended;
+        looks = r.looks;
+        each = r.each;
+        are = r.are;
+        all = record {
+          whole = m.are.whole refl;
+          last = mark;
+          are = ap (λ l. l ++ mark ∷ []) r.all;
+          wire = refl;
+          holds = m.are.holds refl;
         };
-      }
+      };
+    }
 
 -- the file behind some saves, where the store is ready
 pub holds_saves : {D : Type 0} (contents : D → Option (List ℕ)) (may_leave : D → List ℕ → Type 0) (old_disk disk : D) (first now : StoreState)

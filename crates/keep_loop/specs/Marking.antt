@@ -113,12 +113,19 @@ pub record MarksSoFar (Marked : List Mark → Type 0) (marks : List Mark) (bodie
   pub each : length looks ≡ length (bodies moves)
   pub are : AreMarks (MarksLook bodies (IsBehind old) Holds moves) 0 looks
 
+-- the marks of a run before the mark of its end; what the file holds then, if it came to its end
+pub record MarksBeforeEnd {W C : Type 0} (to_end : Bool) (every : ℕ) (body_of : BodyOf W) (step : EventStep W C) (s : MachineState W C)
+    (Holds : List (List ℕ) → Option (List ℕ) → Type 0) (file : Option (List ℕ)) (old new : WireHistory) (marks : List Mark) : Type 0 where
+  pub run : MarksRun false every body_of step s Holds old new marks
+  pub whole : to_end ≡ true → run.later ≡ []
+  pub holds : to_end ≡ true → Holds (bodies_to_end every body_of step s run.moves) file
+
 abbrev pub MarksOf : {W C D : Type 0} → (every : ℕ) → BodyOf W → EventStep W C → (marked : D → List Mark → Type 0) → WireHistory
     → (List (List ℕ) → Option (List ℕ) → Type 0) → D → D → served.Standing W C → List Move → Type 0
 MarksOf every body_of step marked old Holds first_disk disk x moves = (marks : List Mark) → marked first_disk marks
     → MarksSoFar (marked disk) marks (bodies_looked_at every body_of step x.running.state) old Holds moves
 
--- the save at the end has its mark, if it came to it
+-- a mark at the end of a run, if it came to it
 abbrev pub MarksAtEnd : {D : Type 0} → Bool → (D → List Mark → Type 0) → D → D → WireHistory → Option (List ℕ) → Type 0
 MarksAtEnd true marked old new wire file = MarksOne marked old new wire file
 MarksAtEnd false marked old new wire file = MarksStay marked old new

@@ -3,15 +3,16 @@
 ghost use Rattle.std.specs.Prelude.{◌≡◌, ◌≤◌, ◌<◌, ◌+◌, ◌^◌, List, false, None};
 ghost use Rattle.ads_outside.specs.Rose.{Rose};
 ghost use Rattle.ads_served.specs.Standing.{Standing};
-ghost use Rattle.persist_store.specs.Marks.{Mark};
+ghost use Rattle.persist_store.specs.Marks.{Mark, MarksStay};
 ghost use Rattle.persist_store.specs.Store.{IsReady, body_of};
 ghost use Rattle.keep_loop.specs.Ending.{EndsBySave, end_of};
 ghost use Rattle.serve_loop.specs.TurnTaken.{StandsOver};
 ghost use Rattle.keep_loop.specs.Saving.{LeavesEach, StandsForSome};
 ghost use Rattle.keep_loop.specs.Keeping.{AfterKeep, TookTurns, CountsSaves, StandsAtEnd};
-ghost use Rattle.keep_loop.specs.Marking.{HoldsSaves, MarksRun, MarksMore, MarksAtEnd, is_to_end};
+ghost use Rattle.keep_loop.specs.Marking.{HoldsSaves, MarksBeforeEnd, MarksRun, MarksMore, is_to_end};
 ghost use Rattle.keep_loop.specs.Wanting.{WantsToKeep};
 
+use crate::marking::{mark_behind, mark_end};
 use crate::run_end::RunEnd;
 use crate::save_end::SaveEnd;
 use crate::saving::save_body;
@@ -61,6 +62,58 @@ pub fn keep_turns<T: Threads + Sync, W: Wire, M: Persistent, D: Disk>(
     ensures memory { result ≡ KeepEnd.Memory → WantsToKeep M.steps M.noted (M.serves served.old) (M.serves served.new)
         (M.has_failed served.new) (W.state wire.old) (W.state wire.new) limit }
 {
+    let end = keep_saves(rt, alloc, served, wire, store, disk, every, limit);
+    mark_end(wire, disk, is_to_end(end));
+    end
+}
+
+// Whether a run came to its end.
+fn is_to_end(end: KeepEnd) -> bool
+    ensures { result ≡ is_to_end end }
+{
+    match end {
+        KeepEnd::Done(_) | KeepEnd::LinkFault(_) | KeepEnd::Budget(_) => true,
+        KeepEnd::StoreFault | KeepEnd::StoreLimit | KeepEnd::Memory => false,
+    }
+}
+
+// The turns and the saves of a run, whose end is not marked yet.
+fn keep_saves<T: Threads + Sync, W: Wire, M: Persistent, D: Disk>(
+    rt: &T,
+    alloc: Global,
+    served: &mut M,
+    wire: &mut W,
+    store: &mut Store,
+    disk: &mut D,
+    every: u64,
+    limit: u64,
+) -> KeepEnd
+    requires some { StandsForSome (StandsOver (M.serves served.old) (W.state wire.old).history.opened) }
+    requires ready { IsReady D.contents D.may_leave disk.old store.old }
+    requires open { store.old.shut ≡ false }
+    requires every { 1 ≤ every }
+    requires few { limit + 1 < 2 ^ 64 }
+    // The turns, the saves among the bodies of their moves, and what a stop at any moment leaves of them.
+    ensures keeps { AfterKeep
+        (TookTurns result every M.body_of M.steps M.noted (M.serves served.old) (M.serves served.new) (body_of store.old) (W.state wire.old) (W.state wire.new) limit)
+        (LeavesEach D.contents D.moment D.left_since disk.old disk.new store.old.standing)
+        (CountsSaves result store.old.standing)
+        (StandsAtEnd result D.contents D.may_leave disk.old disk.new store.old.standing) }
+    ensures marks { (x : Standing M.World M.Client) → StandsOver (M.serves served.old) (W.state wire.old).history.opened x
+        → (marks : List Mark) → D.marked disk.old marks
+        → MarksMore (D.marked disk.new) marks (MarksBeforeEnd (is_to_end result) every M.body_of M.steps x.running.state
+        (HoldsSaves (D.contents disk.old) store.old.standing) (D.contents disk.new) (W.state wire.old).history (W.state wire.new).history) }
+    ensures untold { D.contents disk.old ≡ None → D.contents disk.new ≡ None }
+    ensures kept { W.kept wire.new ≡ W.kept wire.old }
+    // Why it ended.
+    ensures store_fault { result ≡ KeepEnd.StoreFault → Rose (D.fault_count disk.old) (D.fault_count disk.new) }
+    ensures names { D.names disk.new ≡ D.names disk.old }
+    ensures later { D.fault_count disk.old ≤ D.fault_count disk.new }
+    ensures wire_later { (W.state wire.old).faults ≤ (W.state wire.new).faults }
+    ensures wanted { (W.state wire.old).wants ≤ (W.state wire.new).wants }
+    ensures memory { result ≡ KeepEnd.Memory → WantsToKeep M.steps M.noted (M.serves served.old) (M.serves served.new)
+        (M.has_failed served.new) (W.state wire.old) (W.state wire.new) limit }
+{
     let mut saved = 0u64;
     let mut left = every - 1;
     for _taken in 0..limit {
@@ -68,11 +121,11 @@ pub fn keep_turns<T: Threads + Sync, W: Wire, M: Persistent, D: Disk>(
             Turn::Tick if left > 0 => left -= 1,
             Turn::Tick => match save_body(alloc, served, store, disk) {
                 SaveEnd::Same => {
-                    disk.mark(wire);
+                    mark_behind(wire, disk);
                     left = every - 1;
                 }
                 SaveEnd::Saved => {
-                    disk.mark(wire);
+                    mark_behind(wire, disk);
                     saved += 1;
                     left = every - 1;
                 }
@@ -81,23 +134,20 @@ pub fn keep_turns<T: Threads + Sync, W: Wire, M: Persistent, D: Disk>(
                 SaveEnd::Memory => return KeepEnd::Memory,
             },
             Turn::Other => {}
-            Turn::End => {
-                return save_last(alloc, served, wire, store, disk, RunEnd::Done, saved);
-            }
+            Turn::End => return save_last(alloc, served, store, disk, RunEnd::Done, saved),
             Turn::LinkFault => {
-                return save_last(alloc, served, wire, store, disk, RunEnd::LinkFault, saved);
+                return save_last(alloc, served, store, disk, RunEnd::LinkFault, saved);
             }
             Turn::Memory => return KeepEnd::Memory,
         }
     }
-    save_last(alloc, served, wire, store, disk, RunEnd::Budget, saved)
+    save_last(alloc, served, store, disk, RunEnd::Budget, saved)
 }
 
 // The save at the end of a run whose turns ended so, with so many saves.
-fn save_last<W: Wire, M: Persistent, D: Disk>(
+fn save_last<M: Persistent, D: Disk>(
     alloc: Global,
     served: &M,
-    wire: &W,
     store: &mut Store,
     disk: &mut D,
     ended: RunEnd,
@@ -112,19 +162,13 @@ fn save_last<W: Wire, M: Persistent, D: Disk>(
     ensures ready { IsReady D.contents D.may_leave disk.new store.new }
     ensures untold { D.contents disk.old ≡ None → D.contents disk.new ≡ None }
     ensures names { D.names disk.new ≡ D.names disk.old }
-    ensures marks { MarksAtEnd (is_to_end result) D.marked disk.old disk.new (W.state wire.now).history (D.contents disk.new) }
+    ensures marks { MarksStay D.marked disk.old disk.new }
     ensures later { D.fault_count disk.old ≤ D.fault_count disk.new }
     ensures failed { result ≡ KeepEnd.StoreFault → Rose (D.fault_count disk.old) (D.fault_count disk.new) }
 {
     match save_body(alloc, served, store, disk) {
-        SaveEnd::Same => {
-            disk.mark(wire);
-            end_of(ended, saved)
-        }
-        SaveEnd::Saved => {
-            disk.mark(wire);
-            end_of(ended, saved + 1)
-        }
+        SaveEnd::Same => end_of(ended, saved),
+        SaveEnd::Saved => end_of(ended, saved + 1),
         SaveEnd::Failed => KeepEnd::StoreFault,
         SaveEnd::Limit => KeepEnd::StoreLimit,
         SaveEnd::Memory => KeepEnd::Memory,

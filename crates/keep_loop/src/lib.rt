@@ -7,6 +7,7 @@ mod keeping_on;
 mod kept_on;
 mod laws;
 mod looking;
+mod marking;
 mod mem_notes;
 mod persistent;
 mod reopened;

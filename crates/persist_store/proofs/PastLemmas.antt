@@ -64,6 +64,10 @@ quiet m new fails is =
     let P : HeldFile → Type 0 = λ x. Elapses m.period x.period (leaves_since m) (leaves_since x) (leaves_now x) in
     subst P (sym is) (record { later = omega arith; nothing_else = λ t c le left. inl left; keeps = λ t c le left. left })
 
+-- nothing was called
+pub still : (m : HeldFile) → Elapses m.period m.period (leaves_since m) (leaves_since m) (leaves_now m)
+still m = record { later = omega arith; nothing_else = λ t c le left. inl left; keeps = λ t c le left. left }
+
 pub same_now : (m new : HeldFile) (fails : Bool) → new ≡ after_call fails m → (c : List ℕ) → leaves_now new c → leaves_now m c
 same_now m new fails is c left =
     let P : HeldFile → Type 0 = λ x. leaves_now x c in

@@ -83,11 +83,15 @@ pub trait Disk {
         ensures later { fault_count self.old ≤ fault_count self.new }
         ensures failed { result ≡ Synced.Failed → Rose (fault_count self.old) (fault_count self.new) };
 
-    /// Marks how far a wire is: what was written before stands before what comes of the wire later. It is for what is told of a
-    /// disk alone, and does nothing.
+    /// Marks how far a wire is, while the file holds what it holds. It is for what may be told of a disk alone: it changes nothing
+    /// of the file, and a real disk does nothing.
     fn mark<W: Wire>(&mut self, _wire: &W)
         ensures marks { MarksOne marked self.old self.new (W.state _wire.now).history (contents self.old) }
-        ensures nothing { self.new ≡ self.old };
+        ensures contents { contents self.new ≡ contents self.old }
+        ensures stop { (c : List ℕ) → may_leave self.new c → may_leave self.old c }
+        ensures time { Elapses (moment self.old) (moment self.new) (left_since self.old) (left_since self.new) (may_leave self.new) }
+        ensures names { names self.new ≡ names self.old }
+        ensures later { fault_count self.old ≤ fault_count self.new };
 
     /// The file that a read gives is one that a stop now may leave.
     ghost leaves_contents: { (disk : Self) (file : List ℕ) → contents disk ≡ Some file → may_leave disk file };

@@ -311,5 +311,6 @@ impl Disk for MemDisk {
         Synced::Done
     }
 
+    #[tactic(auto, using(crate::proofs::PastLemmas::still))]
     fn mark<W: Wire>(&mut self, _wire: &W) {}
 }

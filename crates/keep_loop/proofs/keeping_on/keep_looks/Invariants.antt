@@ -6,7 +6,7 @@ use Rattle.persist_store.specs.Disk.{OpensOnly}
 use Rattle.persist_store.specs.Store.{IsReady}
 use Rattle.keep_loop.specs.Looking.{AreFew, ServesOnSoFar}
 use Rattle.keep_loop.specs.Marking.{HoldsWhole, MarksOf}
-use Rattle.keep_loop.proofs.keeping_on.keep_on.Given as goal
+use Rattle.keep_loop.proofs.keeping_on.keep_looks.Given as goal
 
 abbrev pub invariant-loop-taken : goal.invariant-loop-taken
 invariant-loop-taken g l = record {

@@ -4,7 +4,7 @@ use Rattle.std.specs.Prelude.{None}
 use Rattle.persist_store.specs.Store.{IsReady}
 use Rattle.keep_loop.specs.Keeping.{KeepsSoFar}
 use Rattle.keep_loop.specs.Marking.{HoldsSaves, MarksOf}
-use Rattle.keep_loop.proofs.keeping.keep_turns.Given as goal
+use Rattle.keep_loop.proofs.keeping.keep_saves.Given as goal
 
 abbrev pub invariant-loop-taken : goal.invariant-loop-taken
 invariant-loop-taken g l = record {
