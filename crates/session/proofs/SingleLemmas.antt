@@ -1,6 +1,7 @@
 -- Single requests as parts of a sum: what is said of them in the words of a service.
 use Rattle.std.proofs.Common.{◌≡◌, ℕ, List, [], ◌∷◌, length, true, false, refl, sym, ◌∙◌, ap}
-use Rattle.std.specs.Prelude.{Bool, Option, Some, Result, Ok, Err, IfOk, OnOk, OnErr, ◌==◌, nat_lt, if◌then◌else◌}
+use Rattle.std.specs.Borrow.{Bor}
+use Rattle.std.specs.Prelude.{Bool, Option, Some, None, Result, Ok, Err, IfOk, IfSome, OnOk, OnErr, ◌==◌, nat_lt, if◌then◌else◌}
 use Rattle.std.proofs.lemmas.Bool.{false≢true}
 use Rattle.std.proofs.Common.{eq-eqb}
 use Rattle.std.proofs.lemmas.List.{append-nil}
@@ -11,7 +12,7 @@ use Rattle.return_codes.specs.Code.{number_of}
 use Rattle.std.specs.Int.{w32, to_le_bytes}
 use Rattle.spec_plant.specs.Description.{size_in}
 use Rattle.spec_plant.specs.World.{PlantPort, Block}
-use Rattle.spec_formats.specs.Codes.{invalid_size}
+use Rattle.spec_formats.specs.Codes.{no_error, invalid_size}
 use Rattle.spec_formats.specs.Groups.{Group, AreaSize, SymbolVersion, SymbolUpload, UploadInfo, TypeUpload, UploadInfoWithTypes}
 use Rattle.spec_formats.specs.Ranges.{greatest_len}
 use Rattle.spec_formats.specs.Request.{Request, Read}
@@ -32,7 +33,7 @@ use Rattle.sym_handles.specs.Kept.{Kept}
 use Rattle.port_device.specs.PortMemory.{PortMemory}
 use Rattle.port_device.specs.Answers.{AnswersAct}
 use Rattle.port_device.specs.Endings.{HasCode, KeepsDescription}
-use Rattle.session.specs.Asking.{Asking, act_asked, asking_after}
+use Rattle.session.specs.Asking.{Asking, act_asked, outcome_asked, asking_after}
 use Rattle.session.specs.Asks.{Asks, SomeAsks}
 use Rattle.session.specs.declared.single.Single.{Single}
 use Rattle.session.specs.Single.{SumState, IsSingle, part_outcome, state_after}
@@ -124,6 +125,17 @@ pub gives-all : (s : Single) (r : Request) (answered : Result (Result (Unit {0})
     → IfOk answered (λ answer. (x : SumState) → IsSingle s x → Gives (part_outcome x r) answer old new)
 gives-all s r (Err no_memory) old new said = tt
 gives-all s r (Ok answer) old new said = λ x h. gives-answer x.asking.world (act_asked x.asking r) answer old new (said x.asking h.asks)
+
+-- bytes that are lent to one who asks are what he is given, in every state that the service stands for
+pub lent-all : (s : Single) (r : Request) (lent : Option (Bor (List ℕ)))
+    → IfSome lent (λ bytes. (a : Asking) (kept : Kept) → Asks a s.port.now kept → outcome_asked a r ≡ record { code = no_error; bytes = bytes.now })
+    → IfSome lent (λ bytes. (x : SumState) → IsSingle s x → part_outcome x r ≡ record { code = no_error; bytes = bytes.now })
+lent-all s r None said = tt
+lent-all s r (Some bytes) said = λ x h. said x.asking s.handles.now h.asks
+
+pub on-some : {X : Type 0} (r : Option X) (P : Type 0) → P → IfSome r (λ _. P)
+on-some None P h = tt
+on-some (Some x) P h = h
 
 pub leaves-all : (s s' : Single) (r : Request) (answered : Result (Result (Unit {0}) Code) NoMemory)
     → ((x : SumState) → IsSingle s x → Asks (asking_after x.asking r) s'.port.now s'.handles.now → IsSingle s' (state_after x r))

@@ -9,7 +9,6 @@ use Rattle.spec_formats.specs.Numbers.{number32}
 use Rattle.spec_formats.specs.Request.{Request, Read}
 use Rattle.spec_machine.specs.Acts.{Outcome}
 use Rattle.spec_machine.specs.Sums.{filled}
-use Rattle.sum_commands.specs.declared.form.Form.{Form}
 use Rattle.sum_commands.specs.declared.form.Form.TheVariants as form
 use Rattle.sum_commands.specs.Forms.{Replies}
 use Rattle.sum_commands.specs.Packing.{Runs}

@@ -1,11 +1,11 @@
-use Rattle.std.proofs.Common.{◌≡◌, ◌+◌, ◌-◌, ◌*◌, ◌≤◌, suc, ◌++◌, drop, length, refl, ap, arith, rules, length-append, length-drop}
+use Rattle.std.proofs.Common.{◌≡◌, ◌+◌, ◌-◌, ◌*◌, ◌≤◌, suc, drop, length, refl, ap, arith, rules}
 use Rattle.sum_commands.specs.Forms.{head_width, front_width, written_len, part_of}
 use Rattle.sum_commands.specs.Packing.{front_of, data_of}
-use Rattle.sum_commands.proofs.StopLemmas.{parts_of-next, stops-here, stops-later, on_err}
+use Rattle.sum_commands.proofs.StopLemmas.{parts_of-next, stops-here, on_err}
 use Rattle.sum_commands.proofs.HeadLemmas.{times-step}
-use Rattle.sum_commands.proofs.LaidLemmas.{laid-next, longer-next, kept-next, kept-extends}
+use Rattle.sum_commands.proofs.LaidLemmas.{longer-next, kept-next, kept-extends}
 use Rattle.sum_commands.proofs.RunningLemmas.{continues-first, continues-next, replies}
-use Rattle.sum_commands.proofs.PartLemmas.{IsBehind, parts-step, parts-next, runs-next, front-len}
+use Rattle.sum_commands.proofs.PartLemmas.{IsBehind, parts-step, parts-next, front-len}
 use Rattle.sum_commands.proofs.run.run_parts.Goals as goal
 
 pub run_first-requires-clause-written : goal.run_first-requires-clause-written

@@ -1,6 +1,4 @@
-use Rattle.std.proofs.Common.{◌≡◌, ◌≤◌, ◌<◌, ◌^◌, ◌+◌, arith, true, length, sym}
-use Rattle.sum_commands.specs.Reads.{is_of_reads}
-use Rattle.sum_commands.specs.Additions.{is_of_additions}
+use Rattle.std.proofs.Common.{arith, sym}
 use Rattle.sum_commands.specs.Packing.{Runs}
 use Rattle.sum_commands.proofs.ReadLemmas.{reads-of, read_width-front}
 use Rattle.sum_commands.proofs.AdditionLemmas.{additions-of, front_width-additions, part_of-addition, ok-at}
