@@ -96,7 +96,7 @@ module _ {W C D : Type 0} (every : ℕ) (of_world : BodyOf W) (step : EventStep 
       → SoFar (Also old.history old_disk mid_disk first) old_serves mid_serves old.history mid count left old_disk mid_disk first mid_store saved
       → events_in later ≤ 1 → EndsAfter old new (history_after mid later) → MarksStay marked mid_disk disk
       → (x : Standing W C) → StandsOver old_serves old.history.opened x → (marks : List Mark) → marked old_disk marks
-      → MarksMore (marked disk) marks (MarksRun false every of_world step x.running.state (HoldsSaves (contents old_disk) first.standing) old new)
+      → MarksMore (marked disk) marks (MarksRun false every of_world step x.running.state (HoldsSaves (contents old_disk) first.standing) old.history new.history)
   some_marked old_serves mid_serves old mid new count left old_disk mid_disk disk first mid_store saved later so_far few ended stay x over marks told =
       let Holds : List (List ℕ) → Option (List ℕ) → Type 0 = HoldsSaves (contents old_disk) first.standing in
       let turns = so_far.paced.keeps.turns in
@@ -112,7 +112,7 @@ module _ {W C D : Type 0} (every : ℕ) (of_world : BodyOf W) (step : EventStep 
       → now.standing ≡ runs.standing_after_all first.standing (so_far.saves ++ more)
       → ((z : Standing W C) → StandsOver new_serves mid.opened z → saves_in (last_of (body_of first) so_far.saves) (of_world z.running.state.world ∷ []) ≡ more)
       → (x : Standing W C) → StandsOver old_serves old.history.opened x → (marks : List Mark) → marked old_disk marks
-      → MarksMore (marked disk) marks (MarksRun true every of_world step x.running.state (HoldsSaves (contents old_disk) first.standing) old new)
+      → MarksMore (marked disk) marks (MarksRun true every of_world step x.running.state (HoldsSaves (contents old_disk) first.standing) old.history new.history)
   last_marked old_serves mid_serves new_serves old mid new count left old_disk mid_disk disk first mid_store now saved more so_far ended stays mark told
       ready open_ standing adds x over marks here =
       let Holds : List (List ℕ) → Option (List ℕ) → Type 0 = HoldsSaves (contents old_disk) first.standing in
@@ -129,7 +129,7 @@ module _ {W C D : Type 0} (every : ℕ) (of_world : BodyOf W) (step : EventStep 
   abbrev pub EndsMarked : Bool → (Standing W C → Type 0) → WireState → WireState → D → D → StoreState → Type 0
   EndsMarked to_end old_serves old new old_disk disk first =
       (x : Standing W C) → StandsOver old_serves old.history.opened x → (marks : List Mark) → marked old_disk marks
-      → MarksMore (marked disk) marks (MarksRun to_end every of_world step x.running.state (HoldsSaves (contents old_disk) first.standing) old new)
+      → MarksMore (marked disk) marks (MarksRun to_end every of_world step x.running.state (HoldsSaves (contents old_disk) first.standing) old.history new.history)
 
   none_after : (old new : WireState) (mid : WireHistory) → EndsAfter old new mid → EndsAfter old new (history_after mid [])
   unfolding history_after

@@ -1,5 +1,5 @@
 -- Marks behind looks go on with a turn.
-use Rattle.std.proofs.Common.{◌≡◌, ℕ, ◌+◌, ◌≤◌, List, [], ◌∷◌, ◌++◌, length, true, false, refl, sym, ap, ◌∙◌, subst, append_assoc, append-nil, arith}
+use Rattle.std.proofs.Common.{◌≡◌, ℕ, ◌+◌, ◌≤◌, List, [], ◌∷◌, ◌++◌, length, true, false, refl, sym, ap, ◌∙◌, subst, append_assoc, append-nil, inl, inr, arith}
 use Rattle.std.proofs.lemmas.List.{length-append}
 use Rattle.std.specs.Prelude.{Bool, Option, Some}
 use Rattle.ads_outside.specs.declared.moves.Move.{Move}
@@ -14,16 +14,16 @@ use Rattle.persist_store.specs.Marks.{Mark, MarksOne, MarksStay}
 use Rattle.persist_store.specs.Store.{StoreState, body_of, IsReady}
 use Rattle.keep_loop.specs.Bodies.{BodyOf, bodies_looked_at, bodies_to_end, saves_in}
 use Rattle.keep_loop.specs.Keeping.{EndsAfter}
-use Rattle.keep_loop.specs.Marking.{HoldsSaves, MarksLook, AreMarks, MarksLast, MarksToEnd, IsBehind, MarksRun, MarksMore, MarksSoFar, MarksOf}
+use Rattle.keep_loop.specs.Marking.{HoldsSaves, MarksLook, AreMarks, MarksLast, MarksToEnd, IsBehind, IsUpToEnd, MarksRun, MarksMore, MarksSoFar, MarksOf}
 use Rattle.keep_loop.specs.Saving.{StaysTold}
 
 pub marks_more : (Is : ℕ → Mark → Type 0) (count : ℕ) (looks : List Mark) (mark : Mark) → AreMarks Is count looks → Is (count + length looks) mark
     → AreMarks Is count (looks ++ mark ∷ [])
 marks_more Is count [] mark are is =
-    let none : count + 0 ≡ count = omega arith in
+    let none : count + length {A = Mark} [] ≡ count = omega arith in
     (subst (λ n. Is n mark) none is, tt)
 marks_more Is count (look ∷ looks) mark are is =
-    let next : count + (length looks + 1) ≡ count + 1 + length looks = omega arith in
+    let next : count + length (look ∷ looks) ≡ count + 1 + length looks = omega arith in
     (are.0, marks_more Is (count + 1) looks mark are.1 (subst (λ n. Is n mark) next is))
 
 -- what holds of a file and of bodies, in other words
@@ -98,6 +98,12 @@ marked_none bodies old Holds marks Marked none told = record {
   are = tt;
 }
 
+up_to_end : (old new : WireState) (last : WireHistory) → EndsAfter old new last → IsUpToEnd new.history last
+up_to_end old new last (inl same) = subst (λ h. IsUpToEnd h last) (sym same) refl
+up_to_end old new last (inr (inl ended)) = subst (λ h. IsUpToEnd h last) (sym ended) refl
+up_to_end old new last (inr (inr stops)) =
+    stops.same ∙ ap (λ n. record last { ends = n; stops = new.history.stops }) (sym (ap (λ (h : WireHistory). h.ends) stops.same))
+
 -- how a run ends that was marked so far
 module _ {W C : Type 0} (every : ℕ) (of_world : BodyOf W) (step : EventStep W C) (s : MachineState W C) (Holds Then : List (List ℕ) → Option (List ℕ) → Type 0)
     (old : WireState) (mid : WireHistory) (new : WireState) (moves : List Move) (Marked Now : List Mark → Type 0) (marks : List Mark)
@@ -106,7 +112,7 @@ module _ {W C : Type 0} (every : ℕ) (of_world : BodyOf W) (step : EventStep W 
   pub marked_some : (later : List Move) → events_in later ≤ 1 → mid ≡ history_after old.history moves → EndsAfter old new (history_after mid later)
       → ((l : List Mark) → Marked l → Now l)
       → MarksSoFar Marked marks (bodies_looked_at every of_world step s) old.history Holds moves
-      → MarksMore Now marks (MarksRun false every of_world step s Then old new)
+      → MarksMore Now marks (MarksRun false every of_world step s Then old.history new.history)
   marked_some later few logged ended stay so_far = record {
     more = so_far.looks;
     told = stay (marks ++ so_far.looks) so_far.told;
@@ -114,7 +120,7 @@ module _ {W C : Type 0} (every : ℕ) (of_world : BodyOf W) (step : EventStep W 
       moves = moves;
       later = later;
       few = few;
-      ended = subst (λ h. EndsAfter old new (history_after h later)) logged ended;
+      ended = subst (λ h. IsUpToEnd new.history (history_after h later)) logged (up_to_end old new (history_after mid later) ended);
       looks = so_far.looks;
       each = so_far.each;
       are = let P : List Move → Type 0 = λ l. AreMarks (MarksLook (bodies_looked_at every of_world step s) (IsBehind old.history) Then l) 0 so_far.looks in
@@ -127,7 +133,7 @@ module _ {W C : Type 0} (every : ℕ) (of_world : BodyOf W) (step : EventStep W 
   pub marked_all : (file : Option (List ℕ)) → mid ≡ history_after old.history moves → EndsAfter old new (history_after mid [])
       → ((l : List Mark) → Marked l → Now (l ++ record { wire = new.history; file = file } ∷ [])) → Then (bodies_to_end every of_world step s moves) file
       → MarksSoFar Marked marks (bodies_looked_at every of_world step s) old.history Holds moves
-      → MarksMore Now marks (MarksRun true every of_world step s Then old new)
+      → MarksMore Now marks (MarksRun true every of_world step s Then old.history new.history)
   marked_all file logged ended adds holds so_far =
       let mark : Mark = record { wire = new.history; file = file } in
       record {
@@ -137,7 +143,7 @@ module _ {W C : Type 0} (every : ℕ) (of_world : BodyOf W) (step : EventStep W 
           moves = moves;
           later = [];
           few = omega arith;
-          ended = subst (λ h. EndsAfter old new (history_after h [])) logged ended;
+          ended = subst (λ h. IsUpToEnd new.history (history_after h [])) logged (up_to_end old new (history_after mid []) ended);
           looks = so_far.looks;
           each = so_far.each;
           are = let P : List Move → Type 0 = λ l. AreMarks (MarksLook (bodies_looked_at every of_world step s) (IsBehind old.history) Then l) 0 so_far.looks in

@@ -112,7 +112,7 @@ module _ {W C D : Type 0} (every : ℕ) (of_world : BodyOf W) (step : EventStep 
       (state_played step noted x ms) (state_played step noted y ns)
       takes.kind (turn_bodies of_world step takes.event y.running ns (takes.leads.are y (turns.stands x over)) takes.leads.events) in
       let logged : new ≡ history_after old (ms ++ ns) =
-          takes.leads.logged ∙ (ap (λ h. history_after h ns) turns.logged ∙ sym (history-append old ms ns)) in
+      takes.leads.logged ∙ (ap (λ h. history_after h ns) turns.logged ∙ sym (history-append old ms ns)) in
       let more_looked = λ (x : Standing W C) (over : StandsOver old_serves old.opened x).
       let z = standing_after_all step noted (standing_after_all step noted x ms) ns in
       looked_then every of_world step noted left (every - 1) (bodies_at_ticks of_world step x.running.state ms)

@@ -115,7 +115,7 @@ module _ {W C D : Type 0} (every : ℕ) (of_world : BodyOf W) (step : EventStep 
   abbrev pub EndsOnMarked : Bool → SaveCounts → (Standing W C → Type 0) → WireState → WireState → D → D → StoreState → Type 0
   EndsOnMarked to_end counts old_serves old new old_disk disk first =
       (x : Standing W C) → StandsOver old_serves old.history.opened x → (marks : List Mark) → marked old_disk marks
-      → MarksMore (marked disk) marks (MarksRun to_end every of_world step x.running.state (HoldsWhole counts (contents old_disk) first.standing) old new)
+      → MarksMore (marked disk) marks (MarksRun to_end every of_world step x.running.state (HoldsWhole counts (contents old_disk) first.standing) old.history new.history)
 
   -- memory ended it in a turn
   pub memory_marked : (old_serves mid_serves : Standing W C → Type 0) (old : WireState) (mid : WireHistory) (new : WireState) (count left : ℕ)

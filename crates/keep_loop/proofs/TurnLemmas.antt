@@ -102,7 +102,7 @@ module _ {W C : Type 0} (every : ℕ) (body_of : BodyOf W) (step : EventStep W C
       bodies_then x y (standing_after_all step noted y ns) takes.event tells ms ns (state_played step noted x ms) (state_played step noted y ns)
       takes.kind (turn_bodies body_of step takes.event y.running ns (takes.leads.are y (keeps.turns.stands x over)) takes.leads.events) in
       let logged : new ≡ history_after old (ms ++ ns) =
-          takes.leads.logged ∙ (ap (λ h. history_after h ns) keeps.turns.logged ∙ sym (history-append old ms ns)) in
+      takes.leads.logged ∙ (ap (λ h. history_after h ns) keeps.turns.logged ∙ sym (history-append old ms ns)) in
       let looked = λ (x : Standing W C) (over : StandsOver old_serves old.opened x).
       let z = standing_after_all step noted (standing_after_all step noted x ms) ns in
       looked_then left (every - 1) (bodies_at_ticks body_of step x.running.state ms) (bodies_of_turn tells (body_of z.running.state.world))

@@ -3,7 +3,7 @@ use Rattle.std.specs.Prelude.{◌≡◌, ℕ, ◌+◌, ◌≤◌, List, [], ◌�
 use Rattle.ads_outside.specs.declared.end.End.{End}
 use Rattle.ads_outside.specs.declared.end.End.TheVariants as end
 use Rattle.ads_outside.specs.declared.moves.Move.{Move}
-use Rattle.ads_outside.specs.WireState.{WireState, WireHistory, history_after}
+use Rattle.ads_outside.specs.WireState.{WireHistory, history_after}
 use Rattle.spec_machine.specs.MachineState.{MachineState}
 use Rattle.spec_machine.specs.Moves.{EventStep}
 use Rattle.ads_served.specs.Standing as served
@@ -15,7 +15,6 @@ use Rattle.keep_loop.specs.declared.keep_end.KeepEnd.{KeepEnd}
 use Rattle.keep_loop.specs.declared.keep_end.KeepEnd.TheVariants as keep
 use Rattle.keep_loop.specs.declared.save_counts.SaveCounts.{SaveCounts}
 use Rattle.keep_loop.specs.Bodies.{BodyOf, bodies_looked_at, bodies_to_end, saves_in}
-use Rattle.keep_loop.specs.Keeping.{EndsAfter}
 use Rattle.keep_loop.specs.KeepingOn.{IsWhole, body_standing}
 
 -- where the disk told its file at the beginning: this file stands for what stands after the saves among these bodies
@@ -83,18 +82,22 @@ HoldsWhole counts told standing looked file = IsWhole counts → HoldsSaves told
 abbrev pub IsBehind : WireHistory → WireHistory → List Move → Type 0
 IsBehind old wire moves = wire ≡ history_after old moves
 
+-- all that is known of a wire, but how often it ended or failed
+abbrev pub IsUpToEnd : WireHistory → WireHistory → Type 0
+IsUpToEnd new rest = new ≡ record rest { ends = new.ends; stops = new.stops }
+
 -- The marks of a run: one behind each body that was looked at in the moves of its whole turns, and one at the end, if it came to it.
 pub record MarksRun {W C : Type 0} (to_end : Bool) (every : ℕ) (body_of : BodyOf W) (step : EventStep W C) (s : MachineState W C)
-    (Holds : List (List ℕ) → Option (List ℕ) → Type 0) (old new : WireState) (marks : List Mark) : Type 0 where
+    (Holds : List (List ℕ) → Option (List ℕ) → Type 0) (old new : WireHistory) (marks : List Mark) : Type 0 where
   pub moves : List Move
   -- what the wire logged behind them: the turn that a save or want of memory ended
   pub later : List Move
   pub few : events_in later ≤ 1
-  pub ended : EndsAfter old new (history_after (history_after old.history moves) later)
+  pub ended : IsUpToEnd new (history_after (history_after old moves) later)
   pub looks : List Mark
   pub each : length looks ≡ length (bodies_looked_at every body_of step s moves)
-  pub are : AreMarks (MarksLook (bodies_looked_at every body_of step s) (IsBehind old.history) Holds moves) 0 looks
-  pub all : MarksToEnd to_end (bodies_to_end every body_of step s moves) (λ wire. wire ≡ new.history) Holds later looks marks
+  pub are : AreMarks (MarksLook (bodies_looked_at every body_of step s) (IsBehind old) Holds moves) 0 looks
+  pub all : MarksToEnd to_end (bodies_to_end every body_of step s moves) (λ wire. wire ≡ new) Holds later looks marks
 
 -- these marks may be told of a disk behind others, and they are so
 pub record MarksMore (Marked : List Mark → Type 0) (marks : List Mark) (Are : List Mark → Type 0) : Type 0 where

@@ -49,7 +49,7 @@ pub fn keep_turns<T: Threads + Sync, W: Wire, M: Persistent, D: Disk>(
     ensures marks { (x : Standing M.World M.Client) → StandsOver (M.serves served.old) (W.state wire.old).history.opened x
         → (marks : List Mark) → D.marked disk.old marks
         → MarksMore (D.marked disk.new) marks (MarksRun (is_to_end result) every M.body_of M.steps x.running.state
-        (HoldsSaves (D.contents disk.old) store.old.standing) (W.state wire.old) (W.state wire.new)) }
+        (HoldsSaves (D.contents disk.old) store.old.standing) (W.state wire.old).history (W.state wire.new).history) }
     ensures untold { D.contents disk.old ≡ None → D.contents disk.new ≡ None }
     ensures kept { W.kept wire.new ≡ W.kept wire.old }
     // Why it ended.

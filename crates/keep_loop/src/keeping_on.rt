@@ -50,7 +50,7 @@ pub fn keep_on<T: Threads + Sync, W: Wire, M: Persistent, D: Disk, N: SaveNotes>
     ensures marks { (x : Standing M.World M.Client) → StandsOver (M.serves served.old) (W.state wire.old).history.opened x
         → (marks : List Mark) → D.marked disk.old marks
         → MarksMore (D.marked disk.new) marks (MarksRun (comes_to_end result.ended) every M.body_of M.steps x.running.state
-        (HoldsWhole result.counts (D.contents disk.old) store.old.standing) (W.state wire.old) (W.state wire.new)) }
+        (HoldsWhole result.counts (D.contents disk.old) store.old.standing) (W.state wire.old).history (W.state wire.new).history) }
     ensures last { (result.last ≡ None → result.ended ≡ End.Memory) × (result.ended ≡ End.Memory → result.last ≡ None) }
     ensures untold { D.contents disk.old ≡ None → D.contents disk.new ≡ None }
     ensures kept { W.kept wire.new ≡ W.kept wire.old }

@@ -8,6 +8,7 @@ mod examined;
 mod framing;
 mod granting;
 mod groups;
+mod lending;
 mod looking;
 mod meaning;
 mod notes;

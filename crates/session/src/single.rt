@@ -1,6 +1,7 @@
 //! The single requests that the parts of a sum are.
 
 use crate::asker::Asker;
+use crate::lending::data_lent;
 use crate::requests::{NoteRequest, ReadRequest, ReadWriteRequest, WriteRequest};
 use crate::{granting, reading, watching, writing};
 use ads_base::{NoMemory, Octets};
@@ -45,6 +46,11 @@ impl PartService for Single<'_> {
         let asked = ReadRequest { group, offset, len };
         let ams_port = self.asker.ams_port;
         reading::read(alloc, &*self.handles, &*self.port, ams_port, &asked, out)
+    }
+
+    #[inline(always)]
+    fn lent(&self, group: u32, offset: u32, len: u32) -> Option<&[u8]> {
+        data_lent(&*self.port, group, offset, len)
     }
 
     fn write(&mut self, group: u32, offset: u32, bytes: &[u8]) -> Result<(), Code> {

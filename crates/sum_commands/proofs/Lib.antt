@@ -6,3 +6,4 @@ pub mod RunningLemmas
 pub mod LaidLemmas
 pub mod ReadLemmas
 pub mod AdditionLemmas
+pub mod LentLemmas

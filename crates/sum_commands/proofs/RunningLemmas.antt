@@ -1,13 +1,16 @@
 -- Parts that were run, and those that are left.
-use Rattle.std.proofs.Common.{◌≡◌, ℕ, ◌*◌, List, [], ◌+◌, ◌++◌, length, take, drop, sym, ◌∙◌, ap, subst, arith, length-append, length-take, length-drop}
+use Rattle.std.proofs.Common.{◌≡◌, ℕ, suc, ◌*◌, ◌≤◌, List, [], ◌+◌, ◌++◌, length, take, drop, refl, sym, ◌∙◌, ap, subst, arith, length-append, length-take, length-drop}
 use Rattle.std.proofs.lemmas.List.{append-nil, nil_from_length, take-append-drop}
 use Rattle.spec_formats.specs.Request.{Request}
 use Rattle.spec_machine.specs.Acts.{Outcome}
 use Rattle.sum_commands.specs.declared.form.Form.{Form}
-use Rattle.sum_commands.specs.Forms.{RunsAll, Replies, front_width, parts_of, fronts_in}
+use Rattle.sum_commands.specs.Forms.{RunsAll, Replies, front_width, part_of, parts_of, fronts_in}
+use Rattle.sum_commands.specs.Packing.{Runs, front_of, data_of}
 use Rattle.sum_commands.specs.Stops.{StopsAmong}
-use Rattle.sum_commands.proofs.LaidLemmas.{IsLaid}
-use Rattle.sum_commands.proofs.PartLemmas.{runs-none}
+use Rattle.sum_commands.proofs.HeadLemmas.{times-step}
+use Rattle.sum_commands.proofs.LaidLemmas.{IsLaid, laid-next}
+use Rattle.sum_commands.proofs.PartLemmas.{IsBehind, front-len, runs-next, runs-none}
+use Rattle.sum_commands.proofs.StopLemmas.{parts_of-next, stops-later}
 use Rattle.spec_machine.specs.Sums.{given_in_turn}
 
 -- n parts from the state s on, of which k are left: what stands of their reply, and whatever runs those that are left runs all
@@ -66,3 +69,35 @@ continues-first stands_for given leaves may_leave form n heads written s service
   runs = λ v f o rest. subst (λ x. RunsAll stands_for given leaves form x heads written s v [] f [] o) same rest;
   stops = λ v rest. subst (λ x. StopsAmong stands_for leaves may_leave (parts_of form x heads written) s v) same rest;
 }
+
+-- one more part was run
+pub continues-next : {V S : Type 0} (stands_for : V → S → Type 0) (given : S → Request → Outcome) (leaves : S → Request → S)
+    (may_leave : S → Request → V → Type 0) (form : Form) (n : ℕ) (heads written : List ℕ) (s : S) (base : List ℕ)
+    (form1 : Form) (m k : ℕ) (heads1 written1 : List ℕ) (service service' : V) (at at' : ℕ) (out out' : List ℕ)
+    (form2 : Form) (heads2 written2 : List ℕ) → m ≡ suc k → IsBehind form1 heads1 written1 form2 heads2 written2 → at' ≡ at + front_width form1
+    → (so_far : Continues stands_for given leaves may_leave form n heads written s base form1 m heads1 written1 service at out)
+    → Runs stands_for given leaves form1 (part_of form1 heads1 written1) so_far.now service' at out out'
+    → Continues stands_for given leaves may_leave form n heads written s base form2 k heads2 written2 service' at' out'
+continues-next stands_for given leaves may_leave form n heads written s base form1 m k heads1 written1 service service' at at' out out' form2 heads2 written2
+    more behind next so_far this =
+    let r = part_of form1 heads1 written1 in
+    let front = front_of form1 (given so_far.now r) in
+    let added = data_of form1 r (given so_far.now r) in
+    let long : length front ≡ front_width form1 = front-len form1 (given so_far.now r) in
+    let all = times-step m k (front_width form1) more in
+    let same_left : front_width form2 * k ≡ front_width form1 * k = ap (λ f. front_width f * k) behind.form_same in
+    let fits : length front ≤ length so_far.room = omega (arith, so_far.left, all, long) in
+    record {
+      now = leaves so_far.now r;
+      stands = this.state;
+      fronts = so_far.fronts ++ front;
+      room = drop (length front) so_far.room;
+      more = so_far.more ++ added;
+      laid = laid-next _ so_far.fronts so_far.room so_far.more at _ out front added _ so_far.laid fits (omega (arith, next, long)) this.bytes;
+      left = omega (arith, length-drop (length front) so_far.room, so_far.left, all, long, same_left);
+      runs = λ v f o rest. so_far.runs v f o
+          (runs-next stands_for given leaves _ _ _ _ _ _ _ _ r so_far.now _ v _ _ _ _ _ _ more behind refl
+          (record { state = this.state; front = refl; bytes = refl; asked = omega (arith, this.asked, length-append so_far.more added) }) rest);
+      stops = λ v later. so_far.stops v
+          (stops-later stands_for leaves may_leave _ r _ so_far.now v (parts_of-next _ _ _ _ _ _ _ _ r more behind refl) later);
+    }

@@ -6,6 +6,7 @@ mod answers;
 mod form;
 mod groups;
 mod heads;
+mod lent;
 mod part_service;
 mod refusals;
 mod room;

@@ -1,6 +1,7 @@
 //! What runs the parts of a sum.
 
-ghost use Rattle.std.specs.Prelude.{◌≡◌, ◌+◌, ◌≤◌, length, OnOk, OnErr, IfOk};
+ghost use Rattle.std.specs.Prelude.{◌≡◌, ◌+◌, ◌≤◌, length, OnOk, OnErr, IfOk, IfSome};
+ghost use Rattle.spec_formats.specs.Codes.{no_error};
 ghost use Rattle.spec_formats.specs.Request.{Request, Read, Write, ReadWrite};
 ghost use Rattle.spec_formats.specs.Request.{AddDeviceNotification, DeleteDeviceNotification};
 
@@ -52,6 +53,18 @@ pub trait PartService {
         ensures asked { OnOk result (length out.new ≤ length out.old + len) }
         ensures refused { IfOk result (λ answer. OnErr answer (out.new ≡ out.old)) }
         ensures no_memory { OnErr result (out.new ≡ out.old) };
+
+    /// The bytes that a read gives, all that it asks, lent; it leaves all as it was. Or none, and then `read` runs it.
+    fn lent(&self, _group: u32, _offset: u32, _len: u32) -> Option<&[u8]>
+        requires { StandsForSome stands_for self.now }
+        ensures gives { IfSome result (λ bytes. (s : State) → stands_for self.now s
+            → given s (Read _group _offset _len) ≡ record { code = no_error; bytes = bytes.now }) }
+        ensures leaves { IfSome result (λ _. (s : State) → stands_for self.now s
+            → stands_for self.now (left s (Read _group _offset _len))) }
+        ensures len { IfSome result (λ bytes. length bytes.now ≡ _len) }
+    {
+        None
+    }
 
     /// Writes the bytes.
     fn write(&mut self, group: u32, offset: u32, bytes: &[u8]) -> Result<(), Code>

@@ -16,9 +16,10 @@ const MAX_LEN: u64 = 2_000_000;
 
 // The greatest length of the reply to a sum of n parts, or the code that refuses the sum.
 #[tactic(auto, unfolding(spec_machine::specs::Sums::sum_refusal))]
-pub(crate) fn accepted_len(form: Form, n: u32, read_len: u32, bytes: &[u8]) -> Result<usize, Code>
+pub(crate) fn accepted_len(form: Form, n: u32, read_len: u32, bytes: &[u8]) -> Result<u32, Code>
     ensures code { refused_by result ≡ refusal_in (sum_in form n bytes.now) n (length bytes.now) read_len }
     ensures runs { IfOk result (λ _. IsAccepted (sum_in form n bytes.now) n (length bytes.now) read_len) }
+    ensures len { IfOk result (λ len. len ≡ (sum_in form n bytes.now).reply_len) }
 {
     if n > MAX_PARTS {
         return Err(Code::C706);
@@ -30,5 +31,5 @@ pub(crate) fn accepted_len(form: Form, n: u32, read_len: u32, bytes: &[u8]) -> R
     if reply > read_len as u64 || reply > MAX_LEN {
         return Err(Code::C705);
     }
-    Ok(reply as usize)
+    Ok(reply as u32)
 }

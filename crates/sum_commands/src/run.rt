@@ -6,7 +6,7 @@ ghost use Rattle.spec_formats.specs.Groups.{sum_read};
 ghost use Rattle.spec_formats.specs.Ranges.{greatest_len};
 ghost use Rattle.spec_machine.specs.Sums.{MAX_PARTS};
 ghost use Rattle.spec_machine.specs.MoreSums.{sum_delete};
-ghost use Rattle.sum_commands.specs.Forms.{HasParts, Replies, front_width, parts_of};
+ghost use Rattle.sum_commands.specs.Forms.{HasParts, Replies, front_width, all_asked, parts_of};
 ghost use Rattle.sum_commands.specs.Served.{StandsForSome};
 ghost use Rattle.sum_commands.specs.Stops.{StopsAmong, KeepsFront};
 ghost use Rattle.sum_commands.specs.SumCommand.{sum_of, refusal_in, refused_by, sum_reply, left_by_sum};
@@ -14,6 +14,7 @@ ghost use Rattle.sum_commands.specs.SumCommand.{sum_of, refusal_in, refused_by, 
 use crate::PartService;
 use crate::form::Form;
 use crate::heads::{Rest, behind_first, bytes_behind};
+use crate::lent::put_reads;
 use crate::refusals::accepted_len;
 use crate::room::put_zeros;
 use crate::running::run_first;
@@ -87,14 +88,45 @@ pub fn run_sum<P: PartService>(
     }
 }
 
-// Appends the reply of n parts, which has so many bytes at most: the room of the results, which is filled in part by part,
-// and the data.
+// Appends the reply of n parts, which has so many bytes at most.
 fn put_reply<P: PartService>(
     alloc: Global,
     service: &mut P,
     rest: Rest<'_>,
     n: u32,
-    len: usize,
+    len: u32,
+    out: &mut Octets,
+) -> Result<(), NoMemory>
+    requires few { n ≤ MAX_PARTS }
+    requires parts { HasParts rest.form n rest.heads.now rest.written.now }
+    requires len { len ≡ front_width rest.form * n + all_asked rest.form n rest.heads.now }
+    requires some { StandsForSome P.stands_for service.old }
+    ensures ok { OnOk result ((s : P.State) → P.stands_for service.old s
+        → Replies P.stands_for P.given P.left rest.entry.form n rest.entry.heads.now rest.entry.written.now
+        s service.new out.old out.new) }
+    ensures wants { OnErr result ((s : P.State) → P.stands_for service.old s → StopsAmong P.stands_for P.left P.may_leave
+        (parts_of rest.entry.form n rest.entry.heads.now rest.entry.written.now) s service.new) }
+    ensures no_memory { OnErr result (Extends out.old out.new) }
+{
+    let fronts = rest.form.fronts(n);
+    out.reserve(alloc, rest.form.sure_len(fronts, len as usize))?;
+    // Most sums are of plain reads whose bytes are lent.
+    if let Form::Reads = rest.form {
+        if put_reads(alloc, &*service, rest.heads, n, len, out)? {
+            return Ok(());
+        }
+    }
+    put_parts(alloc, service, rest, n, out)
+}
+
+// The same part by part: the room of the results, which is filled in, and behind it the data. Apart from the code of the caller, so
+// that the loop has the registers for itself.
+#[inline(never)]
+fn put_parts<P: PartService>(
+    alloc: Global,
+    service: &mut P,
+    rest: Rest<'_>,
+    n: u32,
     out: &mut Octets,
 ) -> Result<(), NoMemory>
     requires few { n ≤ MAX_PARTS }
@@ -108,7 +140,6 @@ fn put_reply<P: PartService>(
     ensures no_memory { OnErr result (Extends out.old out.new) }
 {
     let fronts = rest.form.fronts(n);
-    out.reserve(alloc, rest.form.sure_len(fronts, len))?;
     put_zeros(alloc, out, fronts)?;
     let start = out.len() - fronts as usize;
     // Plain reads have a loop of their own, which tests no form.

@@ -274,7 +274,7 @@ loop-taken-preserved g c = elim c.match-turn.branch [
     wire_later = le_trans c.loop-taken.invariant.wire_later c.turn.ensures.later;
     wanted = le_trans c.loop-taken.invariant.wanted c.turn.ensures.wanted;
   }
-  | in-Tick-2+in-Saved w ↦ rw (w.store-is, w.disk-is, w.mark-2.ensures.nothing, w.saved-is, w.left-is) record {
+  | in-Tick-2+in-Saved w ↦ rw (w.store-is, w.disk-is, w.mark-in-Saved.ensures.nothing, w.saved-is, w.left-is) record {
     so_far = keeps_saved c.args.every g.M.Persistent.body_of g.M.Persistent.steps g.M.Persistent.noted g.D.Disk.contents g.D.Disk.may_leave g.D.Disk.moment g.D.Disk.left_since
         (Also c.args.every g.M.Persistent.body_of g.M.Persistent.steps g.M.Persistent.noted g.D.Disk.contents g.D.Disk.may_leave g.D.Disk.moment g.D.Disk.left_since g.D.Disk.marked (g.W.Wire.state c.args.wire.now).history c.args.disk.now c.loop-taken.disk c.args.store.now) (Also c.args.every g.M.Persistent.body_of g.M.Persistent.steps g.M.Persistent.noted g.D.Disk.contents g.D.Disk.may_leave g.D.Disk.moment g.D.Disk.left_since g.D.Disk.marked (g.W.Wire.state c.args.wire.now).history c.args.disk.now w.save_body.new.disk c.args.store.now)
         (g.M.Persistent.serves c.args.served.now) (g.M.Persistent.serves c.loop-taken.served) (g.M.Persistent.serves c.turn.new.self)
@@ -285,7 +285,7 @@ loop-taken-preserved g c = elim c.match-turn.branch [
         (g.M.Persistent.serves c.args.served.now) (g.M.Persistent.serves c.loop-taken.served) (g.M.Persistent.serves c.turn.new.self)
         (g.W.Wire.state c.args.wire.now).history (g.W.Wire.state c.loop-taken.wire).history (g.W.Wire.state c.turn.new.wire).history c.loop-taken._taken c.loop-taken.left
         c.args.disk.now c.loop-taken.disk w.save_body.new.disk c.args.store.now c.loop-taken.store w.save_body.new.store c.loop-taken.saved c.loop-taken.invariant.so_far w.in-Saved.ensures.saved w.in-Saved.ensures.ready
-        (λ marks told. (rw w.mark-2.ensures.nothing at w.mark-2.ensures.marks) marks (w.in-Saved.ensures.marks marks told)));
+        (λ marks told. (rw w.mark-in-Saved.ensures.nothing at w.mark-in-Saved.ensures.marks) marks (w.in-Saved.ensures.marks marks told)));
     ready = w.in-Saved.ensures.ready;
     few = omega (arith, c.loop-taken.invariant.few);
     untold = λ e. w.in-Saved.ensures.untold (c.loop-taken.invariant.untold e);

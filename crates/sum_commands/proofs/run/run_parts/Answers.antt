@@ -4,7 +4,7 @@ use Rattle.sum_commands.specs.Packing.{front_of, data_of}
 use Rattle.sum_commands.proofs.StopLemmas.{parts_of-next, stops-here, stops-later, on_err}
 use Rattle.sum_commands.proofs.HeadLemmas.{times-step}
 use Rattle.sum_commands.proofs.LaidLemmas.{laid-next, longer-next, kept-next, kept-extends}
-use Rattle.sum_commands.proofs.RunningLemmas.{continues-first, replies}
+use Rattle.sum_commands.proofs.RunningLemmas.{continues-first, continues-next, replies}
 use Rattle.sum_commands.proofs.PartLemmas.{IsBehind, parts-step, parts-next, runs-next, front-len}
 use Rattle.sum_commands.proofs.run.run_parts.Goals as goal
 
@@ -88,27 +88,8 @@ loop-preserved g c =
       parts = parts-next _ _ _ _ _ _ _ _ more behind c.loop.invariant.parts;
       continues = λ s stands.
           let so_far = c.loop.invariant.continues s stands in
-          let this = c.in_ok-run_first.ensures.ok so_far.now so_far.stands in
-          let front = front_of form (given so_far.now r) in
-          let added = data_of form r (given so_far.now r) in
-          let long : length front ≡ front_width form = front-len form (given so_far.now r) in
-          let fits : length front ≤ length so_far.room = omega (arith, so_far.left, all, long) in
-          record {
-            now = leaves so_far.now r;
-            stands = this.state;
-            fronts = so_far.fronts ++ front;
-            room = drop (length front) so_far.room;
-            more = so_far.more ++ added;
-            laid = laid-next _ so_far.fronts so_far.room so_far.more c.loop.at _ c.loop.out front added _ so_far.laid fits
-                (omega (arith, c.front-at.ensures, long)) this.bytes;
-            left = omega (arith, length-drop (length front) so_far.room, so_far.left, all, long, same_left);
-            runs = λ v f o rest. so_far.runs v f o
-                (runs-next stands_for given leaves _ _ _ _ _ _ _ _ r so_far.now _ v _ _ _ _ _ _ more behind refl
-                (record { state = this.state; front = refl; bytes = refl; asked = omega (arith, this.asked, length-append so_far.more added) }) rest);
-            stops = λ v later. so_far.stops v
-                (stops-later stands_for leaves g.P.PartService.may_leave _ r _ so_far.now v
-                (parts_of-next _ _ _ _ _ _ _ _ r more behind refl) later);
-          };
+          continues-next stands_for given leaves g.P.PartService.may_leave _ _ _ _ s _ form _ k heads written _ _ c.loop.at _ c.loop.out _ _ _ _
+          more behind (omega (arith, c.front-at.ensures)) so_far (c.in_ok-run_first.ensures.ok so_far.now so_far.stands);
       some = record { state = leaves some.state r; stands = one.state };
       room = omega (arith, c.loop.invariant.room, all, same_left, longer, c.front-at.ensures);
       small = omega (arith, c.loop.invariant.small, all, same_left, c.front-at.ensures);

@@ -1,6 +1,6 @@
 use Rattle.sum_commands.specs.Stops.{Stops}
 use Rattle.sum_commands.proofs.StopLemmas.{on_err}
-use Rattle.sum_commands.proofs.run.put_reply.Goals as goal
+use Rattle.sum_commands.proofs.run.put_parts.Goals as goal
 
 pub returns-in_err-put_zeros-clause-wants : goal.returns-in_err-put_zeros-clause-wants
 returns-in_err-put_zeros-clause-wants g c = on_err c.from_residual-in_err-put_zeros.result (λ s stands. Stops stands)
