@@ -139,9 +139,9 @@ def long_ones(program, folder):
 
 
 def with_types(ports):
-    """A description with many types, of which each port has one symbol."""
-    members = ",\n".join(f"  {{ name = \"member_{n}\", type = \"DINT\" }}" for n in range(100))
-    types = "".join(f"[[type]]\nname = \"Type_{n}\"\nmember = [\n{members}\n]\n" for n in range(300))
+    """A description with many types, whose members have long names; each port has a symbol of one of them."""
+    members = ",\n".join(f"  {{ name = \"member_{n}_{'x' * 200}\", type = \"DINT\" }}" for n in range(100))
+    types = "".join(f"[[type]]\nname = \"Type_{n}\"\nmember = [\n{members}\n]\n" for n in range(150))
     each = "".join(f"[[port]]\nport = {851 + n}\nname = \"A\"\nmajor = 1\nminor = 1\nbuild = 1\ndata = 400\n[[port.symbol]]\nname = \"x\"\ntype = \"Type_7\"\n"
                    "area = \"data\"\noffset = 0\n" for n in range(ports))
     return f"schema = 1\nnet = \"{NET}\"\n[[route]]\nnet = \"{ME}\"\nrights = \"write\"\n{types}{each}"
