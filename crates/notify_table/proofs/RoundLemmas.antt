@@ -1,6 +1,6 @@
 -- The checks of a round.
 use Rattle.std.proofs.Common.{◌≡◌, ◌≢◌, ℕ, zero, suc, ◌+◌, ◌-◌, ◌<◌, ◌≤◌, max, List, [], ◌∷◌, ◌++◌, length, map, take, drop}
-use Rattle.std.proofs.Common.{Bool, cond, nat_eq, get_or, set, Some, Option, refl, sym, ap, ◌∙◌, subst, arith, inl, inr}
+use Rattle.std.proofs.Common.{Bool, true, false, cond, nat_eq, IsTrue, IsSomeAnd, IfSome, get_or, set, Some, Option, refl, sym, ap, ◌∙◌, subst, arith, inl, inr}
 use Rattle.std.specs.List.{All, filter, insert, remove}
 use Rattle.std.specs.List.Sorted.{IsNonDecreasing, IsNonDecreasingBy, IsPermutation, IsStrictlyIncreasing}
 use Rattle.std.proofs.lemmas.Bool.{cases_eq, cases_lt}
@@ -11,19 +11,24 @@ use Rattle.std.proofs.lemmas.List.Elements.{All-take, All-drop, All-append, All-
 use Rattle.std.proofs.lemmas.List.Sums.{length-filter}
 use Rattle.std.proofs.lemmas.List.Sorted.{All-permutation, IsNonDecreasingBy-from_all_adjacent, IsPermutation-append_comm, IsPermutation-refl}
 use Rattle.std.proofs.lemmas.List.Sorted.{length_permutation, sum_by-IsPermutation}
+use Rattle.std.proofs.lemmas.List.Edits.{length-remove}
 use Rattle.slab.specs.Slab.{Slab, get, slab_len, Updates}
 use Rattle.spec_machine.specs.WatchedRanges.{Watched}
-use Rattle.spec_machine.specs.Watches.{Watch, is_due}
+use Rattle.spec_machine.specs.Watches.{Watch, is_due, is_sent, after_check}
 use Rattle.notify_table.specs.declared.turn.Turn.{Turn}
-use Rattle.notify_table.specs.Table.{WatchTable, IsWatchable, due_handles, handle_of, is_numbered}
-use Rattle.notify_table.specs.Turns.{AreInTurn, HasHandle, turn_rank, handle_of_turn, is_turn_due}
-use Rattle.notify_table.specs.Schedules.{watch_at, Keeps, IsKept, key_of, OncePer, AreScheduled}
-use Rattle.notify_table.specs.InPlace.{checked_turn, IsCheckedTurn, RiseTogether, IsBehind, GoRound, AreInRound}
+use Rattle.notify_table.specs.declared.spec.Spec.{Spec}
+use Rattle.notify_table.specs.declared.round.Round.TheInside.{Inside}
+use Rattle.notify_table.specs.Specs.{new_watch, before_checks}
+use Rattle.notify_table.specs.Table.{WatchTable, IsWatchable, Checked, due_handles, handle_of, is_numbered, table_after, watched_len}
+use Rattle.notify_table.specs.Turns.{AreInTurn, HasHandle, turn_rank, handle_of_turn, is_turn_due, next_moment}
+use Rattle.notify_table.specs.Schedules.{watch_at, nth_watch, Keeps, IsKept, key_of, OncePer, AreScheduled}
+use Rattle.notify_table.specs.Rounds.{RoundState, HasNext, next_handle, next_watch, round_after}
+use Rattle.notify_table.specs.InPlace.{checked_turn, IsCheckedTurn, RiseUpTo, RiseTogether, IsBehind, GoRound, AreInRound, IsRound, round_of}
 use Rattle.notify_table.proofs.Filtered.{OncePer-others, OncePer-remove, OncePer-insert, All-remove, map-remove, length-insert_one, All-insert}
 use Rattle.notify_table.specs.Numbered.{AreGranted, HasNumber, table_from}
 use Rattle.notify_table.proofs.NumberedLemmas.{by_number-same}
-use Rattle.notify_table.proofs.TableLemmas.{handles_sorted}
-use Rattle.notify_table.proofs.ScheduleLemmas.{due_watches, placed, still_kept}
+use Rattle.notify_table.proofs.TableLemmas.{IsFound, found_at, handles_sorted, checked_granted, checked_table}
+use Rattle.notify_table.proofs.ScheduleLemmas.{due_watches, nth_is, placed, still_kept, Keeps-checked}
 use Rattle.notify_table.proofs.TurnLemmas.{no_turn}
 
 -- ---- the order
@@ -47,6 +52,26 @@ rises_between now ts i (suc j) d rises le below =
           let before = rises_between now ts i j d rises (omega arith) (omega arith) in
           omega (arith, last, before)
     ]
+
+-- one more turn rises
+pub one_more_rises : (ts : List Turn) (i : ℕ) (last next : Turn) → RiseUpTo ts i → 0 < i → i < length ts → last ≡ get_or ts (i - 1) last
+    → next ≡ get_or ts i next → last.handle < next.handle → last.cycle ≤ next.cycle → RiseUpTo ts (i + 1)
+one_more_rises ts i last next rises some within last_is next_is handle cycle k d below =
+    elim (cases_eq (k + 1) i) [
+      | inl same ↦
+          let before : k ≡ i - 1 = omega (arith, same) in
+          let low : get_or ts k d ≡ last = rw before (get_or_default ts (i - 1) d last (omega (arith, within)) ∙ sym last_is) in
+          let high : get_or ts (k + 1) d ≡ next = rw same (get_or_default ts i d next within ∙ sym next_is) in
+          rw (low, high) (handle, cycle)
+      | inr other ↦ rises k d (omega (arith, other, below))
+    ]
+
+-- the first so many rise together
+pub risen : (ts : List Turn) (i due : ℕ) → due ≤ length ts → due ≤ i → RiseUpTo ts i → RiseTogether (take due ts)
+risen ts i due within reached rises k d below =
+    let long = length-take-le due ts within in
+    rw (get_or-take due ts k d (omega (arith, long, below)), get_or-take due ts (k + 1) d (omega (arith, long, below)))
+    (rises k d (omega (arith, long, below, reached)))
 
 -- the first so many go behind the others
 pub rounds : (now due : ℕ) (ts : List Turn) → AreInTurn ts → due ≤ length ts → RiseTogether (take due ts) → IsBehind now due ts → GoRound now due ts
@@ -150,8 +175,8 @@ module _ (old new : Slab (Watch Watched)) (ts : List Turn) (now due made : ℕ) 
   checked_watches ws view round next t_is key updates =
       let within : made < length ts = omega (arith, round.within) in
       let apart = apart_of round.apart within t_is in
-      rw (set_is ts made u within) (placed old new w (remove ts made) made u (rw key updates) (rw key apart))
-      ∙ rw (map-remove (watch_at old) ts made, view) refl
+      rw (set_is ts made u within, ← view, ← map-remove (watch_at old) ts made)
+      (placed old new w (remove ts made) made u (rw key updates) (rw key apart))
 
 -- and no handle
 pub same_handles : (ts : List Turn) (n i : ℕ) (u t : Turn) → u.handle ≡ t.handle → t ≡ get_or ts i t → i < length ts
@@ -168,7 +193,7 @@ short_swap (x ∷ xs) (y ∷ ys) short = absurd (omega (arith, short))
 
 -- the first k go behind the others
 module _ (ws : List (Watch Watched)) (n k : ℕ) where
-  turned : List (Watch Watched)
+  abbrev turned : List (Watch Watched)
   turned = drop k ws ++ take k ws
 
   turned_permuted : IsPermutation ws turned
@@ -255,3 +280,133 @@ round_handles records ts n now due scheduled granted front rises =
     strictly hs rise = IsNonDecreasingBy-from_all_adjacent (λ x. x) hs
         (λ k d below. let step = rise k below in
         rw (get_or_default hs k d 0 (omega (arith, below)), get_or_default hs (k + 1) d 0 below) (omega (arith, step)))
+
+-- ---- the notification that is next
+
+-- from when on a check is due again
+next_after_check : (now : ℕ) (bytes : List ℕ) (v : Watch Watched) → next_moment (after_check now bytes v) ≡ now + max v.cycle 1
+next_after_check now bytes v = by_sent (is_sent bytes v)
+  where
+    by_sent : (sent : Bool) → next_moment (cond sent (record v { last = Some now; sent = bytes }) (record v { last = Some now })) ≡ now + max v.cycle 1
+    by_sent true = refl
+    by_sent false = refl
+
+module _ (r : Inside) (t : Turn) (round : IsRound r) (next : HasNext (round_of r)) (t_is : t ≡ get_or r.turns.items r.made t) where
+  abbrev ts : List Turn
+  ts = r.turns.items
+
+  abbrev ws : List (Watch Watched)
+  ws = map (watch_at r.records) r.turns.items
+
+  before_due : r.made < r.due
+  before_due = omega (arith, next, length-map (take r.due ts) handle_of_turn, length-take-le r.due ts round.turns.within)
+
+  within_all : r.made < length ts
+  within_all = let due = before_due in omega (arith, due, round.turns.within)
+
+  keeps : IsKept r.records t
+  keeps = subst (IsKept r.records) (sym t_is) (All-get_or (IsKept r.records) ts r.made t within_all round.turns.kept)
+
+  nth : nth_watch ws r.made ≡ watch_at r.records t
+  nth = nth_is r.records ts ws r.made t refl within_all t_is
+
+  turn_handle : next_handle (round_of r) ≡ t.handle
+  turn_handle =
+      let long = length-take-le r.due ts round.turns.within in
+      get_or-map handle_of_turn (take r.due ts) r.made t 0 (omega (arith, long, before_due))
+      ∙ ap handle_of_turn (get_or-take r.due ts r.made t before_due ∙ sym t_is)
+
+  pub next_numbered : (watch_at r.records t).handle ≡ next_handle (round_of r)
+  next_numbered = keeps.handle_is ∙ sym turn_handle
+
+  next_found : IsFound ws r.granted (next_handle (round_of r)) r.made
+  next_found = found_at ws r.granted (next_handle (round_of r)) r.made round.granted
+      (omega (arith, within_all, length-map ts (watch_at r.records))) (ap handle_of nth ∙ next_numbered)
+
+  pub next_live : next_watch (round_of r) ≡ Some (watch_at r.records t)
+  next_live = next_found.live ∙ ap (λ (w : Watch Watched). let o : Option (Watch Watched) = Some w in o) nth
+
+  pub next_spec : (spec : Spec) → new_watch (watch_at r.records t).handle spec ≡ before_checks (watch_at r.records t)
+      → IsSomeAnd (next_watch (round_of r)) (λ w. new_watch (next_handle (round_of r)) spec ≡ before_checks w)
+  next_spec spec is =
+      subst (λ (o : Option (Watch Watched)). IsSomeAnd o (λ w. new_watch (next_handle (round_of r)) spec ≡ before_checks w)) (sym next_live)
+      (subst (λ h. new_watch h spec ≡ before_checks (watch_at r.records t)) next_numbered is)
+
+  -- where its bytes are these
+  module _ (bytes : List ℕ)
+      (asked : IsSomeAnd (next_watch (round_of r)) (λ w. IsTrue (is_due r.moment w) × (length bytes ≡ watched_len w.watched))) where
+    next_asked : (is_due r.moment (watch_at r.records t) ≡ true) × (length bytes ≡ watched_len (watch_at r.records t).watched)
+    next_asked = subst (λ (o : Option (Watch Watched)). IsSomeAnd o (λ w. IsTrue (is_due r.moment w) × (length bytes ≡ watched_len w.watched))) next_live asked
+
+    pub next_len : length bytes ≡ watched_len (watch_at r.records t).watched
+    next_len = next_asked.1
+
+    pub next_sent : (sent : Bool) → sent ≡ is_sent bytes (watch_at r.records t) → IfSome (next_watch (round_of r)) (λ w. sent ≡ is_sent bytes w)
+    next_sent sent is = subst (λ (o : Option (Watch Watched)). IfSome o (λ w. sent ≡ is_sent bytes w)) (sym next_live) is
+
+    abbrev after : Watch Watched
+    after = after_check r.moment bytes (watch_at r.records t)
+
+    -- what is left of the records and the turns
+    module _ (new : Slab (Watch Watched)) (u : Turn) (key : u.key ≡ t.key) (handle : u.handle ≡ t.handle) (cycle : u.cycle ≡ t.cycle)
+        (moment : u.next ≡ next_moment after) (updates : Updates r.records new (key_of t) (Some after)) (no_more : slab_len new ≡ slab_len r.records) where
+      left_watches : map (watch_at new) (set ts r.made u) ≡ insert (remove ws r.made) r.made (after_check r.moment bytes (nth_watch ws r.made))
+      left_watches =
+          checked_watches r.records new ts r.moment r.due r.made t u after ws refl round.turns before_due t_is key updates
+          ∙ ap (λ (w : Watch Watched). insert (remove ws r.made) r.made (after_check r.moment bytes w)) (sym nth)
+
+      pub next_turns : AreInRound new (set ts r.made u) r.moment r.due (r.made + 1)
+      next_turns =
+          checked_in_round r.records new ts r.moment r.due r.made t u after round.turns before_due t_is key handle cycle
+          (moment ∙ next_after_check r.moment bytes (watch_at r.records t)
+          ∙ ap (λ n. r.moment + max n 1) (sym keeps.cycle_is ∙ sym cycle))
+          updates no_more (Keeps-checked r.moment bytes (get r.records t.key) t u keeps handle cycle moment)
+
+      pub next_granted : AreGranted (map (watch_at new) (set ts r.made u)) r.granted
+      next_granted =
+          rw left_watches (checked_granted ws r.granted (next_handle (round_of r)) r.moment bytes r.made r.made
+          (omega (arith, length-remove ws r.made next_found.within, next_found.within)) round.granted next_found)
+
+      next_table : table_from (map (watch_at new) (set ts r.made u)) r.granted
+          ≡ table_after (table_from ws r.granted) (Checked (next_handle (round_of r)) r.moment bytes)
+      next_table =
+          ap (λ (l : List (Watch Watched)). table_from l r.granted) left_watches
+          ∙ checked_table ws r.granted (next_handle (round_of r)) r.moment bytes r.made r.made next_found
+          (ap (λ (w : Watch Watched). is_due r.moment w) nth ∙ next_asked.0)
+
+      pub next_round : (let s : RoundState = record {
+        table = table_from (map (watch_at new) (set ts r.made u)) r.granted;
+        handles = map handle_of_turn (take r.due (set ts r.made u));
+        moment = r.moment;
+        made = r.made + 1;
+      } in s) ≡ round_after bytes (round_of r)
+      next_round =
+          ap (λ (x : WatchTable). let s : RoundState = record {
+            table = x;
+            handles = map handle_of_turn (take r.due (set ts r.made u));
+            moment = r.moment;
+            made = r.made + 1;
+          } in s) next_table
+          ∙ ap (λ (hs : List ℕ). let s : RoundState = record {
+            table = table_after (table_from ws r.granted) (Checked (next_handle (round_of r)) r.moment bytes);
+            handles = hs;
+            moment = r.moment;
+            made = r.made + 1;
+          } in s) (same_handles ts r.due r.made u t handle t_is within_all)
+
+-- where all checks were made, each of the first turns was checked
+pub all_made : (r : Inside) (s : RoundState) → round_of r ≡ s → IsRound r → s.made ≡ length s.handles
+    → AreInRound r.records r.turns.items r.moment r.due r.due
+all_made r s view round made =
+    let as_made = ap (λ (x : RoundState). x.made) view in
+    let handles = ap (λ (x : RoundState). length x.handles) view in
+    let all : r.made ≡ r.due =
+    omega (
+      arith,
+      as_made,
+      handles,
+      made,
+      length-map (take r.due r.turns.items) handle_of_turn,
+      length-take-le r.due r.turns.items round.turns.within,
+    ) in
+    subst (λ n. AreInRound r.records r.turns.items r.moment r.due n) all round.turns

@@ -18,11 +18,14 @@ checked_turn now t = record t { next = now + max t.cycle 1 }
 abbrev pub IsCheckedTurn : ℕ → Turn → Type 0
 IsCheckedTurn now t = t.next ≡ now + max t.cycle 1
 
--- handles rise, and cycles do not fall
-abbrev pub RiseTogether : List Turn → Type 0
-RiseTogether turns = (k : ℕ) (d : Turn) → k + 1 < length turns
+-- up to a place handles rise, and cycles do not fall
+abbrev pub RiseUpTo : List Turn → ℕ → Type 0
+RiseUpTo turns n = (k : ℕ) (d : Turn) → k + 1 < n
     → ((slice_index_or turns k d).handle < (slice_index_or turns (k + 1) d).handle)
     × ((slice_index_or turns k d).cycle ≤ (slice_index_or turns (k + 1) d).cycle)
+
+abbrev pub RiseTogether : List Turn → Type 0
+RiseTogether turns = RiseUpTo turns (length turns)
 
 -- the first turn, once it is checked, comes behind all others that do not stand among the first so many
 abbrev pub IsBehind : ℕ → ℕ → List Turn → Type 0

@@ -28,7 +28,10 @@ fn rise_together(turns: &VecDeque<Turn>, due: usize) -> bool
     let mut last = turns[0];
     for i in 1..due {
         let turn = turns[i];
-        if turn.handle <= last.handle || turn.cycle < last.cycle {
+        if turn.handle <= last.handle {
+            return false;
+        }
+        if turn.cycle < last.cycle {
             return false;
         }
         last = turn;

@@ -92,6 +92,12 @@ pub record IsOpened (r : RoundState) : Type 0 where
   pub table : IsTable r.table
   pub none : r.made ≡ 0
 
+-- one check more was made
+pub record IsNextRound (old new : RoundState) : Type 0 where
+  pub handles : new.handles ≡ old.handles
+  pub moment : new.moment ≡ old.moment
+  pub made : new.made ≡ old.made + 1
+
 -- the samples of all that is due
 abbrev pub samples_found : ℕ → World → List (Watch Watched) → List AddressedSample
 samples_found now w watches = flat_map (λ (v : Watch Watched). samples_of now (found_in w v) v) watches

@@ -11,7 +11,7 @@ ghost use Rattle.notify_table.specs.Table.{watch_of_handle, watched_len, due_han
 ghost use Rattle.notify_table.specs.Rounds.{HasNext, next_handle, next_watch};
 ghost use Rattle.port_device.specs.Holds.{HoldsPorts};
 ghost use Rattle.session.specs.Checks.{bytes_found, IsReadable, AreReadable, IsCheck, AreChecked, samples_found, table_checked};
-ghost use Rattle.session.specs.Checks.{IsOpened};
+ghost use Rattle.session.specs.Checks.{IsOpened, IsNextRound};
 ghost use Rattle.session.specs.NoteGroups.{no_groups};
 ghost use Rattle.session.specs.NoteFrames.{produced_of, IsNoteFrame};
 
@@ -82,7 +82,7 @@ fn check_in_place(
     requires none { groups.old ≡ no_groups }
     ensures checked { OnOk result ((w : World) → HoldsPorts w ports.now
         → AreChecked w round.old.moment round.old.handles round.old.table round.new.table groups.new.groups) }
-    ensures made { OnOk result (round.new ≡ record round.old { table = round.new.table; made = length round.old.handles }) }
+    ensures made { OnOk result (round.new.made ≡ length round.new.handles) }
 {
     for _ in 0..round.len() {
         check_next(alloc, round, ports, groups)?;
@@ -103,7 +103,7 @@ fn check_next(
     requires few { groups.old.added < 512 }
     ensures check { OnOk result ((w : World) → HoldsPorts w ports.now
         → IsCheck w round.old.moment (next_handle round.old) round.old.table groups.old.groups round.new.table groups.new.groups) }
-    ensures made { round.new ≡ record round.old { table = round.new.table; made = round.old.made + 1 } }
+    ensures made { IsNextRound round.old round.new }
     ensures added { groups.new.added ≤ groups.old.added + 1 }
 {
     let spec = round.spec();
@@ -127,7 +127,7 @@ fn check_small(
     requires few { groups.old.added < 512 }
     ensures check { OnOk result ((w : World) → HoldsPorts w ports.now
         → IsCheck w round.old.moment (next_handle round.old) round.old.table groups.old.groups round.new.table groups.new.groups) }
-    ensures made { round.new ≡ record round.old { table = round.new.table; made = round.old.made + 1 } }
+    ensures made { IsNextRound round.old round.new }
     ensures added { groups.new.added ≤ groups.old.added + 1 }
 {
     let spec = round.spec();
@@ -166,7 +166,7 @@ fn check_found(
     requires few { groups.old.added < 512 }
     ensures check { OnOk result ((w : World) → bytes.now ≡ bytes_found w (port_numbered spec.now.port w.plant.ports) (watched_meant spec.now.watched)
         → IsCheck w round.old.moment (next_handle round.old) round.old.table groups.old.groups round.new.table groups.new.groups) }
-    ensures made { round.new ≡ record round.old { table = round.new.table; made = round.old.made + 1 } }
+    ensures made { IsNextRound round.old round.new }
     ensures added { groups.new.added ≤ groups.old.added + 1 }
 {
     let handle = round.handle();
