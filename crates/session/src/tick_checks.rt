@@ -84,7 +84,7 @@ fn check_in_place(
         → AreChecked w round.old.moment round.old.handles round.old.table round.new.table groups.new.groups) }
     ensures made { OnOk result (round.new.made ≡ length round.new.handles) }
 {
-    for _ in 0..round.len() {
+    for _i in 0..round.len() {
         check_next(alloc, round, ports, groups)?;
     }
     Ok(())

@@ -7,7 +7,7 @@ pub returns-in_ok-add-clause-check : goal.returns-in_ok-add-clause-check
 returns-in_ok-add-clause-check c = λ w found.
     check_is w c.args.round.now.moment (next_handle c.args.round.now) c.args.round.now.table c.check.new.self.table c.args.groups.now.groups
     c.add.new.self.groups c.args.spec.now c.args.bytes.now true c.requires.spec c.requires.due found c.if-check.ensures.sent
-    (ap (λ (r : RoundState). r.table) c.check.ensures.new) (rw c.handle.ensures at c.in_ok-add.ensures.groups)
+    (ap (λ (r : RoundState). r.table) c.check.ensures.new) (rw c.handle-handle.ensures at c.in_ok-add.ensures.groups)
 
 pub returns-else-check-clause-check : goal.returns-else-check-clause-check
 returns-else-check-clause-check c = λ w found.
