@@ -8,6 +8,8 @@ PROGRAM is `ads` or `adsd`, which is known by its name; the words go to it, as i
 
 The plant and the requests are those of bench/serve.py. Eight connections each send 32 requests of a kind at once and wait for all replies; that is a round. Each kind is
 run for 4 rounds and for 20, and the difference of both counts, over the requests of 16 rounds, is what a request costs: the start, the handles and most ticks fall out.
+The kind "sample" is other: each connection has 512 notifications of a symbol that changes at each tick, and a sample is counted, of a run of 8 ticks and one of 40. Its
+clocks go, so that ticks come.
 Copies of the C library and its malloc are in the count. Every reply's length and result are looked at; bytes are compared by serve.py.
 """
 import argparse
@@ -28,7 +30,8 @@ from random_runs import toml_of  # noqa: E402
 
 CONNECTIONS, DEPTH, ROUNDS = 8, 32, (4, 20)
 KINDS = {"state": "s", "read of 4 bytes": "r", "by handle": "h", "write by group": "w", "write by handle": "W", "sum of 100 reads": "S",
-         "mixture": "rswhrhsWrhrwshrSWhrs"}
+         "mixture": "rswhrhsWrhrwshrSWhrs", "sample": ""}
+SAMPLE = "sample"
 
 
 def frames(k, asked, first_id):
@@ -101,6 +104,59 @@ def counted(program, kinds, rounds, more, env=None):
     return log
 
 
+def taken_samples(conn, most):
+    """Takes frames off a connection until so many samples came, or it ends; how many came."""
+    text, came = b"", 0
+    while came < most:
+        more = conn.recv(1 << 20)
+        if not more:
+            break
+        text += more
+        while len(text) >= 6 and len(text) >= (end := 6 + int.from_bytes(text[2:6], "little")):
+            if text[22:24] == bytes([8, 0]):
+                came += int.from_bytes(text[54:58], "little")
+            elif any(text[30:34]) or any(text[38:42]):
+                sys.exit(f"a reply with an error: {text[:end].hex()}")
+            text = text[end:]
+    return came
+
+
+def counted_samples(program, ticks, more):
+    """The file of callgrind for about so many ticks, and how many samples were sent."""
+    port = free_port()
+    log = f"callgrind.samples.{ticks}"
+    command = ["valgrind", "--tool=callgrind", f"--callgrind-out-file={log}", *words_of(program, port, more)]
+    with subprocess.Popen(command, stdout=subprocess.PIPE, stderr=subprocess.DEVNULL) as server, contextlib.ExitStack() as stack:
+        if server.stdout.readline() != b"listening\n":
+            sys.exit("the server does not listen")
+        conns = [stack.enter_context(socket.create_connection(("127.0.0.1", port))) for _ in range(CONNECTIONS)]
+        asked = [(6, serve.words(0x4040, serve.RAMP, 2, 4, 0, 0) + bytes(16))] * serve.NOTES
+        for k, conn in enumerate(conns):
+            conn.sendall(frames(k, asked, 1))
+        came = 0
+        for most in (serve.NOTES, serve.NOTES * ticks):
+            came += sum(taken_samples(conn, most) for conn in conns)
+        server.send_signal(signal.SIGTERM)
+        came += sum(taken_samples(conn, 2 ** 64) for conn in conns)
+    return log, came
+
+
+def print_samples(program, top, more):
+    """What a sample costs, and the functions that cost most of it."""
+    (few, first), (many, second) = (counted_samples(program, ticks, more) for ticks in (8, 40))
+    print(f"| {SAMPLE} | {(total(many) - total(few)) / (second - first):,.0f} |", flush=True)
+    print_top(few, many, second - first, top)
+
+
+def print_top(few, many, asked, top):
+    """The functions that cost most."""
+    if top:
+        before, after = by_function(few), by_function(many)
+        cost = {name: (after[name] - before.get(name, 0)) / asked for name in after}
+        for function in sorted(cost, key=cost.get, reverse=True)[:top]:
+            print(f"    {cost[function]:8.0f}  {function[:140]}")
+
+
 def total(log):
     return int(re.search(r"^(?:summary|totals): (\d+)", pathlib.Path(log).read_text(), re.M)[1])
 
@@ -118,13 +174,12 @@ def print_table(program, kinds, top, more, still=False):
         pathlib.Path("plant.toml").write_text(toml_of(serve.plant(0, serve.SYMBOLS)))
         env = still_clock(room) if still else None
         for name, letters in kinds.items():
+            if name == SAMPLE:
+                print_samples(program, top, more)
+                continue
             few, many = (counted(program, letters, rounds, more, env) for rounds in ROUNDS)
             print(f"| {name} | {(total(many) - total(few)) / asked:,.0f} |", flush=True)
-            if top:
-                before, after = by_function(few), by_function(many)
-                cost = {name: (after[name] - before.get(name, 0)) / asked for name in after}
-                for function in sorted(cost, key=cost.get, reverse=True)[:top]:
-                    print(f"    {cost[function]:8.0f}  {function[:140]}")
+            print_top(few, many, asked, top)
 
 
 def main():

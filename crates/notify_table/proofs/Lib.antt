@@ -6,3 +6,4 @@ pub mod NumberedLemmas
 pub mod TableLemmas
 pub mod CallerLemmas
 pub mod TickLemmas
+mod RoundLemmas

@@ -178,19 +178,26 @@ any_capacity records capacity ts scheduled = record {
   apart = scheduled.apart;
 }
 
--- a checked notification keeps its handle
+-- a checked notification keeps its handle and its cycle
 pub Keeps-checked : (now : ℕ) (bytes : List ℕ) (slot : Option (Watch Watched)) (t u : Turn) → Keeps slot t → handle_of_turn u ≡ handle_of_turn t
-    → u.next ≡ next_moment (after_check now bytes (watch_in slot)) → Keeps (Some (after_check now bytes (watch_in slot))) u
-Keeps-checked now bytes slot t u keeps handle next = record {
+    → u.cycle ≡ t.cycle → u.next ≡ next_moment (after_check now bytes (watch_in slot)) → Keeps (Some (after_check now bytes (watch_in slot))) u
+Keeps-checked now bytes slot t u keeps handle cycle next = record {
   there = refl;
-  handle_is = kept (is_sent bytes (watch_in slot)) ∙ keeps.handle_is ∙ sym handle;
+  handle_is = same_handle (is_sent bytes (watch_in slot)) ∙ keeps.handle_is ∙ sym handle;
   next_is = next;
+  cycle_is = cycle ∙ keeps.cycle_is ∙ sym (same_cycle (is_sent bytes (watch_in slot)));
 }
   where
-    kept : (sent : Bool) → (cond sent (record (watch_in slot) { last = Some now; sent = bytes }) (record (watch_in slot) { last = Some now })).handle
-        ≡ (watch_in slot).handle
-    kept true = refl
-    kept false = refl
+    checked : Bool → Watch Watched
+    checked sent = cond sent (record (watch_in slot) { last = Some now; sent = bytes }) (record (watch_in slot) { last = Some now })
+
+    same_handle : (sent : Bool) → (checked sent).handle ≡ (watch_in slot).handle
+    same_handle true = refl
+    same_handle false = refl
+
+    same_cycle : (sent : Bool) → (checked sent).cycle ≡ (watch_in slot).cycle
+    same_cycle true = refl
+    same_cycle false = refl
 
 -- a notification is due where its turn is
 due_as_moment : (now cycle : ℕ) (last : Option ℕ) → is_due_after now cycle last ≡ nat_le (moment_after last cycle) now

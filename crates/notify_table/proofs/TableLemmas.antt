@@ -76,25 +76,28 @@ pub record IsFound (watches : List (Watch Watched)) (granted handle place : ℕ)
   pub listed : filter (is_numbered handle) (by_number handle_of granted watches) ≡ nth_watch watches place ∷ []
   pub live : watch_of_handle handle (table_from watches granted) ≡ Some (nth_watch watches place)
 
-pub found : (ws : List (Watch Watched)) (n h i : ℕ) → AreGranted ws n → position (is_numbered h) ws ≡ Some i → IsFound ws n h i
-found ws n h i granted at_place =
-    let there = position-Some (is_numbered h) ws i no_watch at_place in
-    let same : (nth_watch ws i).handle ≡ h = eqb-true _ _ there.1 in
+pub found_at : (ws : List (Watch Watched)) (n h i : ℕ) → AreGranted ws n → i < length ws → (nth_watch ws i).handle ≡ h → IsFound ws n h i
+found_at ws n h i granted within same =
     let apart : All (λ (w : Watch Watched). w.handle ≢ h) (remove ws i) =
-    λ k d below e. OncePer-others handle_of ws i no_watch granted.once there.0 k d below (e ∙ sym same) in
+    λ k d below e. OncePer-others handle_of ws i no_watch granted.once within k d below (e ∙ sym same) in
     let one : filter (is_numbered h) ws ≡ nth_watch ws i ∷ [] =
-    filter_one (is_numbered h) ws i no_watch there.0 there.1 (λ k d below. ne_eqb _ _ (apart k d below)) in
+    filter_one (is_numbered h) ws i no_watch within (eq-eqb _ _ same) (λ k d below. ne_eqb _ _ (apart k d below)) in
     let all : filter (is_numbered h) (by_number handle_of n ws) ≡ nth_watch ws i ∷ [] =
     by_number-filter handle_of (is_numbered h) n ws ∙ ap (by_number handle_of n) one
-    ∙ by_number-one handle_of n (nth_watch ws i) (All-get_or (HasNumber handle_of n) ws i no_watch there.0 granted.within) in
+    ∙ by_number-one handle_of n (nth_watch ws i) (All-get_or (HasNumber handle_of n) ws i no_watch within granted.within) in
     record {
-      within = there.0;
+      within = within;
       numbered = same;
       others = apart;
       alone = one;
       listed = all;
       live = find-one (is_numbered h) (by_number handle_of n ws) (nth_watch ws i) all;
     }
+
+pub found : (ws : List (Watch Watched)) (n h i : ℕ) → AreGranted ws n → position (is_numbered h) ws ≡ Some i → IsFound ws n h i
+found ws n h i granted at_place =
+    let there = position-Some (is_numbered h) ws i no_watch at_place in
+    found_at ws n h i granted there.0 (eqb-true _ _ there.1)
 
 module _ (ws : List (Watch Watched)) (n h : ℕ) where
   missing_listed : position (is_numbered h) ws ≡ None → filter (is_numbered h) (by_number handle_of n ws) ≡ []

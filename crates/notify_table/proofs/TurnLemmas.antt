@@ -12,6 +12,9 @@ use Rattle.notify_table.proofs.Filtered.{filter_none, filter_behind}
 use Rattle.notify_table.specs.declared.turn.Turn.{Turn}
 use Rattle.notify_table.specs.Turns.{AreInTurn, AllDue, HasHandle, is_turn_due, handle_of_turn, turn_rank, IsPlaceOf}
 
+pub no_turn : Turn
+no_turn = record { next = 0; handle = 0; cycle = 0; key = 0 }
+
 -- a turn that stands behind one that is not due is not due
 none_due_behind : (now : ℕ) (turns : List Turn) (i : ℕ) (d : Turn) → AreInTurn turns → i < length turns
     → is_turn_due now (get_or turns i d) ≡ false → All (λ t. is_turn_due now t ≡ false) (drop i turns)
@@ -54,21 +57,25 @@ due_parted now turns in_turn i j d before within due =
     let now_due = leb-true _ _ due in
     le-leb _ _ (omega arith)
 
--- those that are due end at this place
-pub due_until : (now : ℕ) (turns : List Turn) (i : ℕ) (d : Turn) → AreInTurn turns → i ≤ length turns
-    → IsPartitionPoint (λ t. is_turn_due now t ≡ true) (λ t. is_turn_due now t ≡ false) turns i
-    → i ≡ length (filter (is_turn_due now) turns)
-due_until now turns i d in_turn within point = elim (cases_lt i (length turns)) [
-  | inl inside ↦ sym (length-take-le i turns within)
-      ∙ sym (ap (λ (ts : List Turn). length ts) (due_before now turns i d in_turn inside due (point.1 i d (omega arith) inside)))
-  | inr past ↦ sym (length-take-le i turns within) ∙ sym (ap (λ (ts : List Turn). length ts) (due_all now turns i past due))
-]
-  where
-    due : AllDue now (take i turns)
-    due k e below =
-        let short = length-take-le i turns within in
-        let first : k < i = omega (arith, short, below) in
-        rw (get_or-take i turns k e first) (point.0 k e (omega arith) first)
+-- those that are due stand before this place
+module _ (now : ℕ) (turns : List Turn) (i : ℕ) (d : Turn) (in_turn : AreInTurn turns) (within : i ≤ length turns) where
+  pub due_front : IsPartitionPoint (λ t. is_turn_due now t ≡ true) (λ t. is_turn_due now t ≡ false) turns i
+      → take i turns ≡ filter (is_turn_due now) turns
+  due_front point = elim (cases_lt i (length turns)) [
+    | inl inside ↦ sym (due_before now turns i d in_turn inside due (point.1 i d (omega arith) inside))
+    | inr past ↦ sym (due_all now turns i past due)
+  ]
+    where
+      due : AllDue now (take i turns)
+      due k e below =
+          let short = length-take-le i turns within in
+          let first : k < i = omega (arith, short, below) in
+          rw (get_or-take i turns k e first) (point.0 k e (omega arith) first)
+
+  -- and so many are they
+  pub due_until : IsPartitionPoint (λ t. is_turn_due now t ≡ true) (λ t. is_turn_due now t ≡ false) turns i
+      → i ≡ length (filter (is_turn_due now) turns)
+  due_until point = sym (length-take-le i turns within) ∙ ap (λ (ts : List Turn). length ts) (due_front point)
 
 -- the handle of one more turn
 pub handles_more : (turns : List Turn) (i : ℕ) (d : Turn) (handles : List ℕ) → i < length turns

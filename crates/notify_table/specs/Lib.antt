@@ -6,3 +6,5 @@ pub mod Schedules
 pub mod Numbered
 pub mod Reloads
 pub mod Sent
+pub mod Rounds
+pub mod InPlace

@@ -39,6 +39,7 @@ pub record Keeps (slot : Option (Watch Watched)) (t : Turn) : Type 0 where
   pub there : IsSome slot
   pub handle_is : (watch_in slot).handle ≡ t.handle
   pub next_is : t.next ≡ next_moment (watch_in slot)
+  pub cycle_is : t.cycle ≡ (watch_in slot).cycle
 
 abbrev pub IsKept : Slab (Watch Watched) → Turn → Type 0
 IsKept records t = Keeps (get records t.key) t

@@ -1,9 +1,9 @@
 //! One notification, with the bytes that it last sent.
 
-ghost use Rattle.std.specs.Prelude.{◌≡◌, ◌<◌, ◌==◌, length, IfOk, IfSome, option_map};
+ghost use Rattle.std.specs.Prelude.{◌≡◌, ◌<◌, ◌==◌, ◌||◌, not, is_some, length, IfOk, IfSome, option_map};
 ghost use Rattle.std.specs.List.{list_any};
 ghost use Rattle.symbol_table.specs.Moves.{moved_span};
-ghost use Rattle.spec_machine.specs.Watches.{is_sent, after_check};
+ghost use Rattle.spec_machine.specs.Watches.{is_sent, sends_by_mode, after_check};
 ghost use Rattle.spec_machine.specs.WatchedRanges.{InArea, kept_own};
 ghost use Rattle.index_groups.specs.Access.{range_meant};
 ghost use Rattle.notify_table.specs.Specs.{watched_meant, new_watch, before_checks};
@@ -76,16 +76,15 @@ impl Record {
     }
 
     // A check at a moment: whether its bytes are to be sent. They are kept where they are.
+    #[inline(always)]
     pub fn check(&mut self, now: u64, bytes: &[u8]) -> bool
         requires { length bytes.now ≡ watched_len self.old.watched }
         ensures sent { result ≡ is_sent bytes.now self.old }
         ensures new { self.new ≡ after_check now bytes.now self.old }
     {
-        let sent = self.sends(bytes);
+        let same = self.sent.renew(bytes);
+        let sent = self.sends(same);
         self.last = Some(now);
-        if sent {
-            self.sent.put(bytes);
-        }
         sent
     }
 
@@ -115,12 +114,14 @@ impl Record {
         }
     }
 
-    fn sends(&self, bytes: &[u8]) -> bool
-        ensures { result ≡ is_sent bytes.now self.now }
+    // Whether a check sends its bytes, where they are or are not the same as those that stand here.
+    #[inline(always)]
+    fn sends(&self, same: bool) -> bool
+        ensures { result ≡ (not (is_some self.now.last) || sends_by_mode self.now.mode same) }
     {
         match self.last {
             None => true,
-            Some(_) => self.spec.mode == Mode::Cycle || !self.sent.is(bytes),
+            Some(_) => self.spec.mode == Mode::Cycle || !same,
         }
     }
 }

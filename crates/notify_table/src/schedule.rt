@@ -1,16 +1,21 @@
 //! The live notifications of one connection, in the order in which their checks become due.
 
 ghost use Rattle.std.specs.Prelude.{◌≡◌, ℕ, ◌+◌, ◌<◌, ◌≤◌, [], map, filter, length, insert, remove, position};
-ghost use Rattle.std.specs.Prelude.{nat_eq, IsSome, IfSome, Some, IsTrue, All, option_map, IfOk, OnOk, OnErr};
+ghost use Rattle.std.specs.Prelude.{nat_eq, IsSome, IfSome, Some, IsTrue, All, option_map, IfOk, IfErr, OnOk, OnErr};
+ghost use Rattle.std.specs.List.Sorted.{IsStrictlyIncreasing};
 ghost use Rattle.slab.specs.Slab.{get, slab_len, Updates};
 ghost use Rattle.spec_machine.specs.Watches.{is_due, is_sent, after_check, watch_after_reload, watches_after_reload};
 ghost use Rattle.notify_table.specs.Specs.{watched_meant, new_watch, before_checks};
 ghost use Rattle.notify_table.specs.Table.{watched_len, CanBeWatched, handle_of, is_numbered};
 ghost use Rattle.notify_table.specs.Turns.{next_moment, handle_of_turn};
-ghost use Rattle.notify_table.specs.Schedules.{watch_under, watch_at, nth_watch, IsKept, IsSettled};
+ghost use Rattle.notify_table.specs.Schedules.{watch_under, watch_at, nth_watch, AreScheduled, IsKept, IsSettled};
+ghost use Rattle.notify_table.specs.Numbered.{AreGranted, table_from};
+ghost use Rattle.notify_table.specs.Rounds.{round_at};
 ghost use Rattle.notify_table.specs.Reloads.{watched_after, is_ended, end_of, ended_meant};
 
+use crate::going_round::go_round;
 use crate::record::Record;
+use crate::round::Round;
 use crate::turn::{Turn, count_due, due_turns, put_turn, take_turn};
 use crate::{Ended, Spec, Watched};
 use ads_base::{NoMemory, Steps};
@@ -44,6 +49,14 @@ impl Model for Schedule {
 }
 
 impl Schedule {
+    // Of the records and the turns of a round all of whose checks were made.
+    pub fn of_parts(records: Slab<Record>, turns: VecDeque<Turn>) -> Schedule
+        requires { AreScheduled records turns.items }
+        ensures { result ≡ map (watch_at records) turns.items }
+    {
+        Schedule { records, turns }
+    }
+
     pub fn new(alloc: Global) -> Schedule
         ensures { result ≡ [] }
     {
@@ -72,6 +85,7 @@ impl Schedule {
         let turn = Turn {
             next: 0,
             handle,
+            cycle: spec.cycle,
             key,
         };
         put_turn(&mut self.turns, turn);
@@ -114,6 +128,7 @@ impl Schedule {
         let turn = Turn {
             next,
             handle: turn.handle,
+            cycle: turn.cycle,
             key: turn.key,
         };
         put_turn(&mut self.turns, turn);
@@ -139,6 +154,29 @@ impl Schedule {
         ensures { result ≡ length (map handle_of (filter (λ w. is_due now w) self.now)) }
     {
         count_due(&self.turns, now)
+    }
+
+    // The round of those that are due at a moment, where at least one is, their handles rise in the order of their turns, and
+    // after their checks they go behind the others as they stand. Else the schedule as it was.
+    pub fn into_round(self, granted: u32, now: u64) -> Result<Round, Schedule>
+        requires { AreGranted self granted }
+        ensures round { IfOk result (λ round. round ≡ round_at now (table_from self granted)) }
+        ensures rising { IfOk result (λ round. IsStrictlyIncreasing round.handles) }
+        ensures same { IfErr result (λ schedule. schedule ≡ self) }
+    {
+        let Schedule { records, turns } = self;
+        let due = count_due(&turns, now);
+        if due == 0 || !go_round(&turns, due, now) {
+            return Err(Schedule { records, turns });
+        }
+        Ok(Round {
+            records,
+            turns,
+            granted,
+            moment: now,
+            due,
+            made: 0,
+        })
     }
 
     // The handles of the notifications that a reload ends, in the order of their turns.
@@ -214,7 +252,7 @@ fn is_first(turns: &VecDeque<Turn>, handle: u32) -> bool
     }
 }
 
-fn spec_of(records: &Slab<Record>, key: usize) -> Spec
+pub(crate) fn spec_of(records: &Slab<Record>, key: usize) -> Spec
     requires { IsSome (get records.now key) }
     ensures { new_watch (watch_under records.now key).handle result ≡ before_checks (watch_under records.now key) }
 {
@@ -225,7 +263,13 @@ fn spec_of(records: &Slab<Record>, key: usize) -> Spec
 }
 
 // Checks the notification of a key: whether its bytes are to be sent, and from when on it is due again.
-fn check_record(records: &mut Slab<Record>, key: usize, now: u64, bytes: &[u8]) -> (bool, u128)
+#[inline(always)]
+pub(crate) fn check_record(
+    records: &mut Slab<Record>,
+    key: usize,
+    now: u64,
+    bytes: &[u8],
+) -> (bool, u128)
     requires there { IsSome (get records.old key) }
     requires len { length bytes.now ≡ watched_len (watch_under records.old key).watched }
     ensures sent { result.0 ≡ is_sent bytes.now (watch_under records.old key) }

@@ -1,6 +1,6 @@
 //! The bytes that a notification last sent.
 
-ghost use Rattle.std.specs.Prelude.{◌≡◌, ◌≤◌, length, bytes_eq, IfOk};
+ghost use Rattle.std.specs.Prelude.{◌≡◌, length, take, bytes_eq, IfOk};
 
 use ads_base::NoMemory;
 use std::alloc::Global;
@@ -45,51 +45,71 @@ impl SentBytes {
         })
     }
 
-    pub fn as_slice(&self) -> &[u8]
-        ensures { result.now ≡ self.now }
-    {
-        if self.len <= FEW {
-            &self.few[..self.len]
-        } else {
-            self.many.as_slice()
-        }
-    }
-
-    // Whether it holds these bytes.
-    pub fn is(&self, bytes: &[u8]) -> bool
-        ensures { result ≡ bytes_eq bytes.now self.now }
-    {
-        are_same(bytes, self.as_slice())
-    }
-
-    // As many other bytes.
-    pub fn put(&mut self, bytes: &[u8])
+    // As many bytes take the place of those that it holds: whether they are the same.
+    #[inline(always)]
+    pub fn renew(&mut self, bytes: &[u8]) -> bool
         requires { length bytes.now ≡ length self.old }
-        ensures { self.new ≡ bytes.now }
+        ensures same { result ≡ bytes_eq bytes.now self.old }
+        ensures new { self.new ≡ bytes.now }
+    {
+        // Two, four and eight are compared and moved in one step.
+        if let Some(two) = bytes.as_array::<2>() {
+            return renew_two(&mut self.few, *two);
+        }
+        if let Some(four) = bytes.as_array::<4>() {
+            return renew_four(&mut self.few, *four);
+        }
+        if let Some(eight) = bytes.as_array::<8>() {
+            return renew_eight(&mut self.few, *eight);
+        }
+        self.renew_others(bytes)
+    }
+
+    // The same of any number of bytes, apart from the code of the caller.
+    #[inline(never)]
+    fn renew_others(&mut self, bytes: &[u8]) -> bool
+        requires { length bytes.now ≡ length self.old }
+        ensures same { result ≡ bytes_eq bytes.now self.old }
+        ensures new { self.new ≡ bytes.now }
     {
         if self.len <= FEW {
-            put_few(&mut self.few[..self.len], bytes);
-        } else {
-            self.many.as_mut_slice().copy_from_slice(bytes);
+            return renew_slice(&mut self.few[..self.len], bytes);
         }
+        renew_slice(self.many.as_mut_slice(), bytes)
     }
 }
 
-// Whether two runs of bytes are the same. Two and four are compared in place, where any number of them is a call.
-fn are_same(bytes: &[u8], others: &[u8]) -> bool
-    ensures { result ≡ bytes_eq bytes.now others.now }
+fn renew_two(few: &mut [u8; FEW], two: [u8; 2]) -> bool
+    ensures same { result ≡ bytes_eq two (take 2 few.old) }
+    ensures new { take 2 few.new ≡ two }
 {
-    if let Some(two) = bytes.as_array::<2>() {
-        if let Some(other) = others.as_array::<2>() {
-            return *two == *other;
-        }
-    }
-    if let Some(four) = bytes.as_array::<4>() {
-        if let Some(other) = others.as_array::<4>() {
-            return are_same_four(*four, *other);
-        }
-    }
-    bytes == others
+    let [b0, b1] = two;
+    let same = two == [few[0], few[1]];
+    few[0] = b0;
+    few[1] = b1;
+    same
+}
+
+fn renew_four(few: &mut [u8; FEW], four: [u8; 4]) -> bool
+    ensures same { result ≡ bytes_eq four (take 4 few.old) }
+    ensures new { take 4 few.new ≡ four }
+{
+    let [b0, b1, b2, b3] = four;
+    let same = are_same_four(four, [few[0], few[1], few[2], few[3]]);
+    few[0] = b0;
+    few[1] = b1;
+    few[2] = b2;
+    few[3] = b3;
+    same
+}
+
+fn renew_eight(few: &mut [u8; FEW], eight: [u8; FEW]) -> bool
+    ensures same { result ≡ bytes_eq eight few.old }
+    ensures new { few.new ≡ eight }
+{
+    let same = are_same_eight(eight, *few);
+    *few = eight;
+    same
 }
 
 fn are_same_four(bytes: [u8; 4], others: [u8; 4]) -> bool
@@ -98,22 +118,20 @@ fn are_same_four(bytes: [u8; 4], others: [u8; 4]) -> bool
     u32::from_le_bytes(bytes) == u32::from_le_bytes(others)
 }
 
-// As many other bytes. Two, four and eight are moved in one step.
-fn put_few(few: &mut [u8], bytes: &[u8])
-    requires { length bytes.now ≡ length few.old }
-    ensures { few.new ≡ bytes.now }
+fn are_same_eight(bytes: [u8; 8], others: [u8; 8]) -> bool
+    ensures { result ≡ bytes_eq bytes others }
 {
-    if let Some(two) = bytes.as_array::<2>() {
-        few.copy_from_slice(two.as_slice());
-        return;
+    u64::from_le_bytes(bytes) == u64::from_le_bytes(others)
+}
+
+fn renew_slice(held: &mut [u8], bytes: &[u8]) -> bool
+    requires { length bytes.now ≡ length held.old }
+    ensures same { result ≡ bytes_eq bytes.now held.old }
+    ensures new { held.new ≡ bytes.now }
+{
+    if bytes == &*held {
+        return true;
     }
-    if let Some(four) = bytes.as_array::<4>() {
-        few.copy_from_slice(four.as_slice());
-        return;
-    }
-    if let Some(eight) = bytes.as_array::<8>() {
-        few.copy_from_slice(eight.as_slice());
-        return;
-    }
-    few.copy_from_slice(bytes);
+    held.copy_from_slice(bytes);
+    false
 }

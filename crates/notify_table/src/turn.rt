@@ -1,7 +1,7 @@
 //! The order in which checks become due.
 
 ghost use Rattle.std.specs.Prelude.{◌≡◌, ℕ, ◌+◌, ◌<◌, ◌≤◌, map, filter, length, insert, nat_lt, IfOk, IsTrue};
-ghost use Rattle.std.specs.Prelude.{OnOk, remove, slice_index_or};
+ghost use Rattle.std.specs.Prelude.{OnOk, remove, slice_index_or, take};
 ghost use Rattle.std.specs.VecDeque.{deque_len, deque_capacity};
 ghost use Rattle.notify_table.specs.Turns.{AreInTurn, IsPlaceOf, turn_rank, is_turn_due, handle_of_turn};
 
@@ -16,11 +16,13 @@ pub(crate) struct Turn {
     // The moment from which on the check is due.
     pub next: u128,
     pub handle: u32,
+    // The time between two checks, as in the record.
+    pub cycle: u32,
     pub key: usize,
 }
 
 // Whether one turn comes before another: at an earlier moment, or at the same with a lesser handle.
-fn is_before(t: Turn, u: Turn) -> bool
+pub(crate) fn is_before(t: Turn, u: Turn) -> bool
     ensures { result ≡ nat_lt (turn_rank t) (turn_rank u) }
 {
     if t.next == u.next {
@@ -65,6 +67,7 @@ pub(crate) fn put_turn(turns: &mut VecDeque<Turn>, turn: Turn)
     let copy = Turn {
         next: turn.next,
         handle: turn.handle,
+        cycle: turn.cycle,
         key: turn.key,
     };
     put_between(turns, copy);
@@ -169,7 +172,8 @@ pub(crate) fn due_turns<L: Ledger>(
 // How many turns are due: they stand in front, so the place behind the last is found by halving.
 pub(crate) fn count_due(turns: &VecDeque<Turn>, now: u64) -> usize
     requires { AreInTurn turns.now.items }
-    ensures { result ≡ length (filter (is_turn_due now) turns.now.items) }
+    ensures count { result ≡ length (filter (is_turn_due now) turns.now.items) }
+    ensures front { take result turns.now.items ≡ filter (is_turn_due now) turns.now.items }
 {
     let now = u128::from(now);
     turns.partition_point(|turn| turn.next <= now)

@@ -1,22 +1,25 @@
 //! The notifications of one connection.
 
 ghost use Rattle.std.specs.Prelude.{◌≡◌, ◌+◌, ◌<◌, ◌≤◌, ◌↔◌, ◌==◌, not, false, filter, map, All, length};
-ghost use Rattle.std.specs.Prelude.{option_map, IsTrue, IsOk, IsErr, IsSomeAnd, IfSome, IfOk, IfErr, OnOk, OnErr};
+ghost use Rattle.std.specs.Prelude.{option_map, IfNone, IsTrue, IsOk, IsErr, IsSomeAnd, IfSome, IfOk, IfErr, OnOk, OnErr};
 ghost use Rattle.std.specs.List.Sorted.{IsStrictlyIncreasing};
 ghost use Rattle.spec_machine.specs.Watches.{is_due, is_sent, ended_watches};
 ghost use Rattle.notify_table.specs.Specs.{watched_meant, new_watch, before_checks};
 ghost use Rattle.notify_table.specs.Table.{watched_len, CanBeWatched, no_watches, is_full, is_live};
 ghost use Rattle.notify_table.specs.Table.{watch_of_handle, due_handles, IsTable};
 ghost use Rattle.notify_table.specs.Table.{table_after, Added, Deleted, Checked, Reloaded};
+ghost use Rattle.notify_table.specs.Rounds.{round_at};
 ghost use Rattle.notify_table.specs.Reloads.{watched_after, end_of, ended_meant};
 ghost use Rattle.notify_table.specs.Numbered.{IsLive, end_of_handle};
 
+use crate::round::Round;
 use crate::schedule::Schedule;
 use crate::{Ended, EndedList, Handles32, Spec, WatchFull};
 use ads_base::{NoMemory, Steps};
 use return_codes::Code;
 use std::alloc::Global;
 use std::marker::Model;
+use std::mem;
 use std::sync::ledger::Ledger;
 use symbol_table::Moves;
 
@@ -128,6 +131,35 @@ impl Watches {
         let mut handles = self.schedule.due(alloc, now, steps)?;
         handles.sort_unstable();
         Ok(Handles32::from_vec(handles))
+    }
+
+    /// Gives the notifications away for the checks of those that are due at a moment, where at least one is due and their
+    /// handles rise in the order in which they became due. None other is looked at, and no list is made. `close` takes them
+    /// back; until then there are none here.
+    pub fn open(&mut self, alloc: Global, now: u64) -> Option<Round>
+        ensures round { IfSome result (λ round. round ≡ round_at now self.old) }
+        ensures rising { IfSome result (λ round. IsStrictlyIncreasing round.handles) }
+        ensures table { IsTable self.old }
+        ensures none { IfNone result (self.new ≡ self.old) }
+    {
+        let schedule = mem::replace(&mut self.schedule, Schedule::new(alloc));
+        match schedule.into_round(self.granted, now) {
+            Ok(round) => Some(round),
+            Err(schedule) => {
+                self.schedule = schedule;
+                None
+            }
+        }
+    }
+
+    /// Takes the notifications back after all checks.
+    pub fn close(&mut self, round: Round)
+        requires { round.made ≡ length round.handles }
+        ensures { self.new ≡ round.table }
+    {
+        let (schedule, granted) = round.into_schedule();
+        self.schedule = schedule;
+        self.granted = granted;
     }
 
     /// How many notifications are due at a moment. None is looked at but by halving.

@@ -18,12 +18,13 @@ use Rattle.notify_table.specs.declared.spec.Spec.{Spec}
 use Rattle.notify_table.specs.Specs.{watched_meant, new_watch, before_checks, address_of}
 use Rattle.notify_table.specs.Table.{WatchTable, IsTable, watched_len, watch_of_handle, is_numbered, table_after, Checked}
 use Rattle.notify_table.specs.Table.{handle_of, due_handles}
+use Rattle.notify_table.specs.Rounds.{RoundState, round_after}
 use Rattle.notify_table.proofs.CallerLemmas.{due_is_live, rises_tail, above_first}
 use Rattle.notify_table.proofs.TickLemmas.{checked_among, checked_none, checked_one_more, found_among, checked_all, not_before}
 use Rattle.port_device.specs.Holds.{HoldsPorts}
 use Rattle.port_device.specs.PortMemory.{PortsMemory}
 use Rattle.session.specs.Checks.{bytes_found, IsInFound, found_in, samples_for, samples_among, samples_found, table_checked, IsInPort, IsReadable, AreReadable}
-use Rattle.session.specs.Checks.{IsCheck, AreChecked}
+use Rattle.session.specs.Checks.{IsCheck, AreChecked, IsNextRound}
 use Rattle.session.specs.NoteGroups.{GroupText, groups_with, groups_after, grouped_text, addressed}
 
 -- what holds of each holds of the one that is found
@@ -51,6 +52,24 @@ spec_is_short handle t s table asked =
         let e : new_watch handle s ≡ before_checks v = cc in
         let watched : watched_meant s.watched ≡ v.watched = ap (λ (u : Watch Watched). u.watched) e in
         rw watched few.1
+
+-- the same of one that is found
+pub found_is_short : (handle : ℕ) (t : WatchTable) (s : Spec) → IsTable t
+    → IsSomeAnd (watch_of_handle handle t) (λ v. new_watch handle s ≡ before_checks v) → watched_len (watched_meant s.watched) ≤ 2048
+found_is_short handle t s table is = spec_is_short handle t s table (by_watch (watch_of_handle handle t) is)
+  where
+    by_watch : (o : Option (Watch Watched)) → IsSomeAnd o (λ v. new_watch handle s ≡ before_checks v)
+        → Some (new_watch handle s) ≡ option_map before_checks o
+    by_watch None e = absurd e
+    by_watch (Some v) e = ap (λ (u : Watch Watched). let o : Option (Watch Watched) = Some u in o) e
+
+-- one check more of a round
+pub next_made : (bytes : List ℕ) (old new : RoundState) → new ≡ round_after bytes old → IsNextRound old new
+next_made bytes old new is = record {
+  handles = ap (λ (r : RoundState). r.handles) is;
+  moment = ap (λ (r : RoundState). r.moment) is;
+  made = ap (λ (r : RoundState). r.made) is;
+}
 
 -- what was added as this can be read
 pub spec_is_readable : (ports : PortsMemory) (now handle : ℕ) (t : WatchTable) (s : Spec)

@@ -1,5 +1,6 @@
 -- The checks of a tick, where what is watched is told by ranges and a port's own bytes. Private: no public clause cites this file.
 use Rattle.std.specs.Prelude.{◌≡◌, ℕ, ◌+◌, ◌<◌, ◌≤◌, List, [], map, flat_map, All, Option, Some, None, Result, Ok, Err, IfSome}
+use Rattle.std.specs.List.Sorted.{IsStrictlyIncreasing}
 use Rattle.spec_plant.specs.Description.{Sizes, size_in}
 use Rattle.spec_plant.specs.Named.{port_numbered}
 use Rattle.spec_plant.specs.World.{PlantPort}
@@ -9,7 +10,8 @@ use Rattle.spec_machine.specs.Reach.{addressed_by_range}
 use Rattle.spec_machine.specs.Watches.{Watch, AddressedSample, samples_of, checked_watch}
 use Rattle.spec_machine.specs.World.{World, own_names, OWN_SIZE}
 use Rattle.spec_machine.specs.WatchedRanges.{Watched, InArea, Own}
-use Rattle.notify_table.specs.Table.{WatchTable, watch_of_handle, table_after, Checked}
+use Rattle.notify_table.specs.Table.{WatchTable, IsTable, due_handles, watch_of_handle, table_after, Checked}
+use Rattle.notify_table.specs.Rounds.{RoundState}
 use Rattle.notify_table.proofs.TickLemmas.{checked_among}
 use Rattle.port_device.specs.Holds.{HoldsPorts}
 use Rattle.port_device.specs.PortMemory.{PortsMemory}
@@ -82,6 +84,19 @@ samples_among now w t handles = flat_map (λ h. samples_for now (found_in w) (wa
 pub record AreChecked (w : World) (now : ℕ) (handles : List ℕ) (old new : WatchTable) (made : List GroupText) : Type 0 where
   pub watches : new ≡ record old { watches = map (checked_among now (found_in w) handles) old.watches }
   pub groups : made ≡ grouped_text (samples_among now w old handles)
+
+-- a round before its first check
+pub record IsOpened (r : RoundState) : Type 0 where
+  pub due : r.handles ≡ due_handles r.moment r.table
+  pub rising : IsStrictlyIncreasing r.handles
+  pub table : IsTable r.table
+  pub none : r.made ≡ 0
+
+-- one check more was made
+pub record IsNextRound (old new : RoundState) : Type 0 where
+  pub handles : new.handles ≡ old.handles
+  pub moment : new.moment ≡ old.moment
+  pub made : new.made ≡ old.made + 1
 
 -- the samples of all that is due
 abbrev pub samples_found : ℕ → World → List (Watch Watched) → List AddressedSample

@@ -117,6 +117,7 @@ fn are_same(a: AmsAddr, b: AmsAddr) -> bool
 }
 
 // Appends a sample. After want of memory a part of it may stand there.
+#[inline(always)]
 fn put_sample(alloc: Global, handle: u32, bytes: &[u8], out: &mut Octets) -> Result<(), NoMemory>
     requires { length bytes.now ≤ 2048 }
     ensures ok { OnOk result (out.new ≡ out.old ++ sample_bytes (sample handle bytes.now)) }

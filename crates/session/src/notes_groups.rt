@@ -47,6 +47,7 @@ impl NoteGroups {
     }
 
     /// Adds a sample. After want of memory the groups are not used again.
+    #[inline(always)]
     pub fn add(
         &mut self,
         alloc: Global,
@@ -74,6 +75,7 @@ impl NoteGroups {
         self.groups.iter().position(|group| group.is_for(port, to))
     }
 
+    #[inline(never)]
     fn begin(
         &mut self,
         alloc: Global,

@@ -13,10 +13,10 @@ invariant_of-self-in_err-key c =
 pub invariant_of-self-2 : goal.invariant_of-self-2
 invariant_of-self-2 c =
     added_scheduled c.self.inside.records c.insert.new.self c.self.inside.turns.items c.put_turn.new.turns.items c.put_turn.ensures.put.0
-    (record { next = 0; handle = c.args.handle; key = c.in_ok-key.key }) c.in_ok-record.record c.self.invariant
+    (record { next = 0; handle = c.args.handle; cycle = c.args.spec.cycle; key = c.in_ok-key.key }) c.in_ok-record.record c.self.invariant
     c.in_ok-key.ensures.was_vacant c.in_ok-key.ensures.updates c.in_ok-key.ensures.len
     (put_into _ _ _ _ _ c.reserve.ensures.items c.put_turn.ensures.put.2)
-    (rw c.in_ok-record.ensures (record { there = refl; handle_is = refl; next_is = refl })) c.put_turn.ensures.in_turn
+    (rw c.in_ok-record.ensures (record { there = refl; handle_is = refl; next_is = refl; cycle_is = refl })) c.put_turn.ensures.in_turn
 
 pub returns-clause-ok : goal.returns-clause-ok
 returns-clause-ok c = (
@@ -31,6 +31,6 @@ returns-clause-ok c = (
   ),
   rw (← c.in_ok-record.ensures) (added_watches c.self.inside.records c.insert.new.self c.self.inside.turns.items c.put_turn.new.turns.items
       c.put_turn.ensures.put.0
-      (record { next = 0; handle = c.args.handle; key = c.in_ok-key.key }) c.in_ok-record.record c.args.self.now c.self.view_is c.self.invariant
+      (record { next = 0; handle = c.args.handle; cycle = c.args.spec.cycle; key = c.in_ok-key.key }) c.in_ok-record.record c.args.self.now c.self.view_is c.self.invariant
       c.in_ok-key.ensures.was_vacant c.in_ok-key.ensures.updates (put_into _ _ _ _ _ c.reserve.ensures.items c.put_turn.ensures.put.2)),
 )

@@ -8,4 +8,4 @@ returns c =
       ← c.self.view_is,
       due_watches c.args.now c.self.inside.records c.self.inside.turns.items c.self.invariant.kept,
       length-map,
-    ) c.count_due.ensures
+    ) c.count_due.ensures.count

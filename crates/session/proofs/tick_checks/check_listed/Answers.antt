@@ -4,7 +4,7 @@ use Rattle.session.specs.Checks.{samples_found}
 use Rattle.session.specs.NoteGroups.{frame_of_group}
 use Rattle.session.proofs.NotesGrouped.{frames_of_groups}
 use Rattle.session.proofs.TickChecks.{all_checked, on_ok_always}
-use Rattle.session.proofs.tick_checks.check_due.Goals as goal
+use Rattle.session.proofs.tick_checks.check_listed.Goals as goal
 
 pub returns-clause-watches : goal.returns-clause-watches
 returns-clause-watches c = on_ok_always c.into_frames.result (λ w holds.
