@@ -2,23 +2,24 @@
 use Rattle.std.proofs.Common.{◌≡◌, ℕ, ◌≤◌, List, refl, sym, ◌∙◌}
 use Rattle.std.specs.Prelude.{Option, Some}
 use Rattle.ads_outside.specs.WireState.{WireState}
-use Rattle.spec_machine.specs.Moves.{EventStep}
+use Rattle.spec_machine.specs.Moves.{EventStep, state_after}
 use Rattle.ads_served.specs.Standing as served
 use Rattle.ads_served.specs.Standing.{Noting}
 use Rattle.spec_store.specs.Disk.{LeavesOnly}
-use Rattle.spec_store.specs.Slots.{Standing}
+use Rattle.spec_store.specs.Slots.{Standing, standing_of}
+use Rattle.spec_store.specs.Runs.{IsOneOf}
 use Rattle.persist_store.proofs.Moments.{started, weaker, joins}
 use Rattle.persist_store.specs.Steps.{IsAt, Passes}
 use Rattle.persist_store.specs.Store.{StoreState, IsReady}
 use Rattle.keep_loop.specs.declared.keep_end.KeepEnd.{KeepEnd}
 use Rattle.keep_loop.specs.declared.keep_end.KeepEnd.TheVariants as keep
 use Rattle.keep_loop.specs.declared.kept_on.KeptOn.{KeptOn}
-use Rattle.keep_loop.specs.Bodies.{BodyOf}
+use Rattle.keep_loop.specs.Bodies.{BodyOf, saves_in}
 use Rattle.keep_loop.specs.Keeping.{AllButLast, AfterKeep, FileStandsFor, StandsAfterSaves, StandsAtEnd}
-use Rattle.keep_loop.specs.KeepingOn.{FileHolds, KeepsOn, ServesAndKeeps}
+use Rattle.keep_loop.specs.KeepingOn.{FileHolds, KeepsOn, LooksAt, ServesAndKeeps, body_standing, moves_served}
 use Rattle.keep_loop.specs.Looking.{FileSoFar}
 use Rattle.keep_loop.specs.Saving.{LeavesEach, StaysTold}
-use Rattle.keep_loop.specs.KeepingOn.{Begun}
+use Rattle.keep_loop.specs.KeepingOn.{Begun, StoodOnce}
 
 module _ {D : Type 0} (contents : D → Option (List ℕ)) (may_leave : D → List ℕ → Type 0) (moment : D → ℕ) (left_since : D → ℕ → List ℕ → Type 0)
     (counts : (d : D) (t : ℕ) (c : List ℕ) → t ≤ moment d → may_leave d c → left_since d t c) where
@@ -32,7 +33,8 @@ module _ {D : Type 0} (contents : D → Option (List ℕ)) (may_leave : D → Li
 
   pub left_quiet : (old mid new : D) (standing : Option Standing) (saves : List (List ℕ)) → LeavesEach contents moment left_since old mid standing saves
       → Quiet mid new → LeavesEach contents moment left_since old new standing saves
-  left_quiet old mid new standing saves left quiet = λ file told. only_quiet old mid new _ (left file told) quiet
+  left_quiet old mid new standing saves left quiet = λ file told.
+      only_quiet old mid new (λ c. IsOneOf standing saves (standing_of c)) (left file told) quiet
 
   pub told_quiet : (old mid new : D) → StaysTold contents old mid → Quiet mid new → StaysTold contents old new
   told_quiet old mid new told quiet = λ file here. let now = told file here in (now.0, quiet.same ∙ now.1)
@@ -88,7 +90,7 @@ module _ {D : Type 0} (contents : D → Option (List ℕ)) (may_leave : D → Li
       → Quiet mid new → FileSoFar contents may_leave moment left_since old new standing begun
   file_quiet old mid new standing begun f quiet = record {
     told = told_quiet old mid new f.told quiet;
-    left = λ file told. only_quiet old mid new _ (f.left file told) quiet;
+    left = λ file told. only_quiet old mid new (λ c. StoodOnce standing begun (standing_of c)) (f.left file told) quiet;
     leaves = λ file told c left. f.leaves file told c (quiet.stop c left);
   }
 
@@ -108,8 +110,9 @@ module _ {D : Type 0} (contents : D → Option (List ℕ)) (may_leave : D → Li
     over = k.over;
     each = λ whole.
         let s = k.each whole in
-        record { are = s.are; within = s.within; stands = after_quiet old mid new standing _ quiet s.stands };
-    left = λ file told. only_quiet old mid new _ (k.left file told) quiet;
+        let saves = saves_in (body_standing standing) k.looked in
+        record { are = s.are; within = s.within; stands = after_quiet old mid new standing saves quiet s.stands };
+    left = λ file told. only_quiet old mid new (λ c. StoodOnce standing k.begun (standing_of c)) (k.left file told) quiet;
     leaves = λ file told c left. k.leaves file told c (quiet.stop c left);
     holds = λ kept file told. holds_quiet mid new last quiet (k.holds kept file told);
   }
@@ -121,7 +124,10 @@ module _ {D : Type 0} (contents : D → Option (List ℕ)) (may_leave : D → Li
       → ServesAndKeeps r every body_of step noted old_serves new_serves contents may_leave moment left_since old new standing wire wire_new limit
   serves_quiet r every body_of step noted old_serves new_serves old mid new standing wire wire_new limit k quiet = record {
     serve = k.serve;
-    keeps = λ x over. keeps_on_quiet r _ _ old mid new standing (k.keeps x over) quiet;
+    keeps = λ x over.
+        let moves = moves_served r.ended step noted old_serves new_serves wire wire_new limit k.serve in
+        keeps_on_quiet r (LooksAt r.ended every body_of step x.running.state moves) (body_of (state_after step x.running.state moves).world)
+        old mid new standing (k.keeps x over) quiet;
   }
 
 -- nothing was called

@@ -40,7 +40,7 @@ returns-in-Done-clause-ends g c = λ x stands unused.
     c.in-Done.ensures.keeps x stands unused
     (λ play marks told. script_marked g.M.Persistent.body_of g.M.Persistent.steps x.running.state c.args.script c.new-wire.result
     c.keep_turns-ended.new.wire c.into_log-log.result (g.D.Disk.contents c.args.disk.now) c.args.store.now.standing
-    (g.D.Disk.marked c.keep_turns-ended.new.disk) marks wire play (c.in-Done.ensures.marks x (over_unused _ _ x stands unused) marks told))
+    (g.D.Disk.marked c.keep_turns-ended.new.disk) marks wire play (c.in-Done.ensures.marks x (over_unused (g.M.Persistent.serves c.args.served.now) _ x stands unused) marks told))
 
 pub returns-in-Done-clause-left : goal.returns-in-Done-clause-left
 returns-in-Done-clause-left g c = λ x stands unused.
