@@ -1,6 +1,6 @@
 -- The numbers of the connections that are due, by their places and by their numbers.
 use Rattle.std.proofs.Common.{◌≡◌, ◌≢◌, ◌⊎◌, ℕ, zero, suc, ◌+◌, ◌<◌, List, [], ◌∷◌, ◌++◌, length, get_or, Bool}
-use Rattle.std.proofs.Common.{false, cond, nat_eq, refl, sym, ap, ◌∙◌, subst, inl, inr, arith}
+use Rattle.std.proofs.Common.{true, false, cond, nat_eq, refl, sym, ap, ◌∙◌, subst, inl, inr, arith}
 use Rattle.std.specs.Prelude.{Option, Some, None, option_map, slice_get, take, filter, is_some, ◌||◌, min, max}
 use Rattle.std.specs.List.{IsDistinct}
 use Rattle.std.specs.Map.{keys_of, values_of}
@@ -15,7 +15,7 @@ use Rattle.ams_relay.specs.declared.peer.Peer.{Peer}
 use Rattle.ams_relay.specs.Peers.{Peers, peer_in, read_in, IsPlace, offer_of_peer}
 use Rattle.ams_relay.specs.declared.router.Router.{Router}
 use Rattle.ams_relay.specs.Holds.{Holds}
-use Rattle.ams_relay.specs.Touched.{AreDistinct, is_due_peer, due_in, OthersIdle, AreIdleBut, number_if_due, numbers_due}
+use Rattle.ams_relay.specs.Touched.{AreDistinct, IsSomeDue, is_due_peer, due_in, OthersIdle, AreIdleBut, number_if_due, numbers_due}
 use Rattle.ams_relay.proofs.EntryLemmas.{value_there}
 use Rattle.spec_connections.specs.Entries.{IsEntry}
 use Rattle.spec_connections.proofs.EntryLemmas.{entry_of_key, keys_length}
@@ -254,3 +254,7 @@ leaves_out r x numbers h due =
     (sym (due distinct h.idle ∙ numbers_by_number r.peers.entries distinct
     ∙ filter-same (λ m. due_in m r.peers.entries) (is_due x) (keys_of r.peers.entries) (λ m. due_is m r x h)
     ∙ ap (filter (is_due x)) h.peers.numbers)) (leaves_out_idle x)
+
+-- one that is due stands at this place
+pub some_due : (es : Peers) (i : ℕ) (p : Peer) → slice_get (values_of es) i ≡ Some p → is_due_peer p ≡ true → IsSomeDue es
+some_due es i p there due = record { place = i; peer = p; there = there; due = due }

@@ -129,6 +129,7 @@ impl Router {
         Touched::Two(a, b)
     }
 
+    #[tactic(auto, using(crate::proofs::DueLemmas::some_due))]
     fn settled_all(&self) -> Touched
         ensures idle { OthersIdle result self.now.peers.entries }
         ensures due { AreDue result self.now.peers.entries }
