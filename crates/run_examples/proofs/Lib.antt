@@ -1,0 +1,5 @@
+mod StatusExamples
+mod TaskExamples
+mod ReadingExamples
+mod VerdictExamples
+mod MigrationExamples
