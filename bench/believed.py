@@ -50,7 +50,7 @@ PARTS = (
 # traits whose implementation in the programs is proved
 PROVED = {"Sources"}
 # types whose cases are what a program may do, each read where it is first done
-CHOICES = {"Verdict", "ServedMachine"}
+CHOICES = {"Verdict", "ServedMachine", "Status"}
 
 WORD = re.compile(r"[^\W\d][\w'-]*(?:\.[^\W\d][\w'-]*)*|[◌⟦][^\s,{}]*")
 USE = re.compile(r"(pub )?(?:ghost )?use ([\w.:]+?)(?:[.:]+\{([^}]*)\})?(?: as (\w+))?;?\s*$")
@@ -180,6 +180,15 @@ class Page:
                 self.items[case.group(1)] = Item(self, case.group(1), range(from_there, last))
                 from_there = last
 
+    def read_variants(self, name, at, end):
+        """A choice of the code, and each of its cases by itself, with the comment above it."""
+        cases = [(k, found.group(1)) for k in range(at + 1, end) if (found := re.match(r"    (\w+)", self.lines[k]))]
+        for k, case in cases:
+            self.cases.add(case)
+            self.items[case] = Item(self, case, range(with_comment(self.lines, k), k + 1))
+        away = {line for _, case in cases for line in self.items[case].lines}
+        self.items[name].leave([line for line in self.items[name].lines if line not in away])
+
     def read_code(self):
         for at, line in enumerate(self.lines):
             found = RUST.match(line)
@@ -191,6 +200,8 @@ class Page:
                                                      for k in range(with_comment(self.lines, m), m + 1)), end - 1]
                     self.items["calls of " + name] = Item(self, "calls of " + name, [k for k in range(first, end) if k not in seen])
                 self.items[name] = Item(self, name, seen)
+                if name in CHOICES:
+                    self.read_variants(name, at, end)
         for at, line in enumerate(self.lines):
             found = re.match(r"impl(?:<.*?>)? Model for (\w+)", line)
             if found and found.group(1) in self.items:

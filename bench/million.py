@@ -17,6 +17,8 @@ import tempfile
 
 HERE = pathlib.Path(__file__).resolve().parent
 DATA = HERE.parent / "crates/cases_run/data"
+# How often cases_run tries each run.
+TIMES = 2
 
 
 def spent(program, folder, run):
@@ -26,9 +28,9 @@ def spent(program, folder, run):
     before = resource.getrusage(resource.RUSAGE_CHILDREN)
     done = subprocess.run([program, str(folder)], stdout=subprocess.PIPE, text=True)
     after = resource.getrusage(resource.RUSAGE_CHILDREN)
-    if done.returncode or done.stdout != "runs as wanted 1, differing 0, unreadable 0\n":
+    if done.returncode or done.stdout != "runs as wanted 1, differing 0, unreadable 0\n" * TIMES:
         raise SystemExit(f"million.py: status {done.returncode}, {done.stdout[:400]!r}")
-    return after.ru_utime + after.ru_stime - before.ru_utime - before.ru_stime
+    return (after.ru_utime + after.ru_stime - before.ru_utime - before.ru_stime) / TIMES
 
 
 def main():

@@ -1,6 +1,9 @@
-"""The program itself, as processes over real files: a store and a recording that a second start goes on with, and the number of each status."""
+"""The programs themselves, as processes over real files: a store and a recording that a second start goes on with, the number of each status, what is long, and what
+is taken of memory and of the processor."""
 import os
+import resource
 import shutil
+import socket
 import subprocess
 import tempfile
 
@@ -21,6 +24,17 @@ def ran(program, folder, *words, stdin=None, seconds=60):
 def write_of(data):
     """A frame that writes 8 bytes to data offset 72."""
     return f"000034000000{ADDRESSES}0300040014000000000000000100000040400000" + "48000000" + "08000000" + data
+
+
+def frame(command, number, payload):
+    """A frame of that client, in hexadecimal digits."""
+    ams = bytes.fromhex(ADDRESSES) + b"".join(n.to_bytes(size, "little") for n, size in ((command, 2), (4, 2), (len(payload), 4), (0, 4), (number, 4))) + payload
+    return (bytes(2) + len(ams).to_bytes(4, "little") + ams).hex()
+
+
+def asks(at, length, *data):
+    """The payload of a read or a write of the data area."""
+    return b"".join(n.to_bytes(4, "little") for n in (0x4040, at, length)) + b"".join(data)
 
 
 def put(folder, name, text):
@@ -72,6 +86,119 @@ def ends(program, folder):
     return len(asked) + 1
 
 
+def daemon_ends(program, folder):
+    """The number that the daemon ends with is that of docs/DAEMON.md. Of a program that was named alone it is not tried."""
+    daemon = os.path.join(os.path.dirname(program), "..", "..", "adsd", "out", "adsd")
+    if not os.path.exists(daemon):
+        return 0
+    put(folder, "many.toml", "description = \"plant.toml\"\nstore = \"nowhere/store\"\n")
+    put(folder, "wrong.toml", "description = \"plant.toml\"\nlisten = 7\n")
+    asked = [(0, ("--version",)), (1, ()), (1, ("--no-such-option",)), (1, ("wrong.toml",)), (2, ("overlap.toml",)), (4, ("nowhere.toml",)), (14, ("many.toml",))]
+    for wanted, words in asked:
+        it = subprocess.run([daemon, *words], cwd=folder, stdin=subprocess.DEVNULL, stdout=subprocess.PIPE, stderr=subprocess.PIPE, timeout=60)
+        see(it.returncode == wanted, f"adsd {' '.join(words)}: status {it.returncode} in place of {wanted}: {it.stdout[-200:]!r} {it.stderr[-200:]!r}")
+    return len(asked)
+
+
+# A body of one entry with a name of one byte has 21 bytes beside its value, and 1,048,576 at most.
+MOST = 1_048_555
+LONG = f"""schema = 1
+net = "{NET}"
+[[route]]
+net = "{ME}"
+rights = "control"
+[[port]]
+port = 851
+name = "Long"
+major = 1
+minor = 1
+build = 1
+data = 1048576
+[[port.symbol]]
+name = "x"
+type = "ARRAY [1..{MOST}] OF BYTE"
+area = "data"
+offset = 0
+persistent = true
+"""
+
+
+def long_ones(program, folder):
+    """A piece of megabytes is taken like any other, and a body of the greatest size is saved and read again."""
+    first, then = bytes(n % 251 for n in range(MOST)), bytes(n % 241 for n in range(MOST))
+    piece = frame(3, 1, asks(0, MOST, first)) + frame(2, 2, asks(0, MOST)) + frame(3, 3, asks(0, MOST, then))
+    put(folder, "long.toml", LONG)
+    put(folder, "long.script", f"open 1\nbytes 1 {piece}\ntick 1\n")
+    put(folder, "again.script", f"open 1\nbytes 1 {frame(2, 1, asks(0, MOST))}\n")
+    out, status = ran(program, folder, "keep", "long.toml", "long.script", "long.store")
+    lines = out.splitlines()
+    see(status == 0 and lines[-1] == "saved 1", f"keep of a long piece: {out[-200:]!r}, status {status}")
+    see(len(lines) > 3 and lines[1].endswith(first.hex()), "keep: the long piece is not answered by what it wrote")
+    out, status = ran(program, folder, "keep", "long.toml", "again.script", "long.store")
+    see(status == 0 and out.splitlines()[0].endswith(then.hex()), f"keep again: the long body is not what was written, {out[-200:]!r}, status {status}")
+
+
+def with_types(ports):
+    """A description with many types, of which each port has one symbol."""
+    members = ",\n".join(f"  {{ name = \"member_{n}\", type = \"DINT\" }}" for n in range(100))
+    types = "".join(f"[[type]]\nname = \"Type_{n}\"\nmember = [\n{members}\n]\n" for n in range(300))
+    each = "".join(f"[[port]]\nport = {851 + n}\nname = \"A\"\nmajor = 1\nminor = 1\nbuild = 1\ndata = 400\n[[port.symbol]]\nname = \"x\"\ntype = \"Type_7\"\n"
+                   "area = \"data\"\noffset = 0\n" for n in range(ports))
+    return f"schema = 1\nnet = \"{NET}\"\n[[route]]\nnet = \"{ME}\"\nrights = \"write\"\n{types}{each}"
+
+
+def memory_of(server, word):
+    """What a server holds of memory (VmRSS), or held at most (VmHWM), in bytes."""
+    with open(f"/proc/{server.process.pid}/status", encoding="ascii") as lines:
+        return next(int(line.split()[1]) * 1024 for line in lines if line.startswith(f"{word}:"))
+
+
+def shares_types(program, folder):
+    """The types of a description stand once, however many ports it has."""
+    held = []
+    for ports in (1, 16):
+        put(folder, f"types_{ports}.toml", with_types(ports))
+        with Served(program, os.path.join(folder, f"types_{ports}.toml")) as server:
+            held.append(memory_of(server, "VmHWM"))
+    see(held[1] < held[0] + (16 << 20), f"16 ports take {held[1]:,} bytes, where one takes {held[0]:,}: the types are copied")
+
+
+def gives_room_back(program, folder):
+    """What waited for a connection gives its room back once it was taken."""
+    burst = bytes.fromhex("".join(frame(2, n, asks(0, 1_000_000)) for n in range(1, 5)))
+    with Served(program, os.path.join(folder, "long.toml")) as server:
+        held = []
+        for _ in range(24):
+            peer = socket.create_connection(server.to.split(":"), 10)
+            held.append(peer)
+            peer.sendall(burst)
+            left = 4 * 1_000_046
+            while left:
+                left -= len(peer.recv(1 << 20))
+        took = memory_of(server, "VmRSS")
+        for peer in held:
+            peer.close()
+    see(took < 64 << 20, f"24 connections, which took 4 MB each, hold {took:,} bytes")
+
+
+def used(program, folder, *words):
+    """What a process prints, and the seconds of the processor that it took."""
+    before = resource.getrusage(resource.RUSAGE_CHILDREN)
+    out, status = ran(program, folder, *words)
+    after = resource.getrusage(resource.RUSAGE_CHILDREN)
+    see(status == 0, f"ads {' '.join(words)}: status {status}")
+    return out, after.ru_utime + after.ru_stime - before.ru_utime - before.ru_stime
+
+
+def reads_much_at_once(program, folder):
+    """A client reads what comes in large pieces, not byte by byte."""
+    local, took = used(program, folder, "get", "x", "--local", "long.toml", "--me", ME)
+    with Served(program, os.path.join(folder, "long.toml")) as server:
+        came, spent = used(program, folder, "get", "x", *server.words())
+    see(came == local, f"get over a socket prints {came[:80]!r}, in the same process {local[:80]!r}")
+    see(spent < 0.3 + 3 * took, f"get of a megabyte over a socket takes {spent:.2f} s of a processor, {took:.2f} s in the same process")
+
+
 def serves(program):
     """A server answers a process of the same program over loopback."""
     with Served(program, PLANT) as server:
@@ -85,5 +212,10 @@ def tried(program, _size):
         keeps(program, folder)
         records(program, folder)
         count = ends(program, folder)
+        count += daemon_ends(program, folder)
+        long_ones(program, folder)
+        shares_types(program, folder)
+        gives_room_back(program, folder)
+        reads_much_at_once(program, folder)
     serves(program)
-    return f"a store and a recording go on at a second start; {count} endings by their numbers; a server and a client as processes"
+    return f"a store and a recording go on at a second start; {count} endings by their numbers; long pieces and bodies; room; a server and a client as processes"

@@ -29,6 +29,7 @@ mod tick_clock;
 mod turn;
 mod vanished;
 mod wall_clock;
+mod words;
 mod written;
 
 pub use allowed_net::{AllowedNet, allows, mapped_is_ipv4};
@@ -38,3 +39,4 @@ pub use real_link::RealLink;
 pub use real_sink::RealSink;
 pub use real_wire::RealWire;
 pub use standard::hold_standard_descriptors;
+pub use words::words_of_process;

@@ -1,5 +1,5 @@
 -- A wire in memory.
-use Rattle.std.specs.Prelude.{ℕ, ◌+◌, List, [], ◌∷◌, ◌++◌, length, take, drop, min, slice_get, Bool, true}
+use Rattle.std.specs.Prelude.{ℕ, ◌+◌, List, [], ◌∷◌, ◌++◌, length, take, min, slice_get, Bool, true}
 use Rattle.std.specs.Prelude.{false, Option, Some, None, if◌then◌else◌, nat_lt, ◌&&◌, not}
 use Rattle.ads_outside.specs.declared.event.Event.{Event}
 use Rattle.ads_outside.specs.declared.listening.Listening.{Listening}
@@ -14,7 +14,7 @@ use Rattle.ads_outside.specs.declared.shut.Shut.TheVariants as shut
 use Rattle.ads_outside.specs.declared.started.Started.{Started}
 use Rattle.ads_outside.specs.declared.started.Started.TheVariants as started
 use Rattle.ads_outside.specs.FailingCalls.{FailingCalls, none_made, fails_next, fails_later, called, faulted}
-use Rattle.ads_outside.specs.Opened.{opened_in, are_new}
+use Rattle.ads_outside.specs.Opened.{opened_in}
 use Rattle.ads_outside.specs.Rose.{raised}
 use Rattle.ads_outside.specs.Streams.{none_taken, streams_after}
 use Rattle.ads_outside.specs.WireState.{WireState}
@@ -72,10 +72,6 @@ unlogged s = record s { history = record s.history { log = None } }
 -- what a wire in memory tells that takes runs
 abbrev pub state_of_runs : HeldWire → WireState
 state_of_runs w = unlogged (state_of_held w)
-
--- the events that are left open numbers that were not opened before
-abbrev pub opens_new : HeldWire → Bool
-opens_new w = are_new (drop w.given w.events) (opened_in w.log)
 
 -- what is answered, want of memory aside
 abbrev pub started_of : HeldWire → Started

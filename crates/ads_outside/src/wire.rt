@@ -2,7 +2,7 @@
 
 ghost use Rattle.std.specs.Prelude.{◌≡◌, ◌≤◌, ◌<◌, ◌^◌, length};
 
-use crate::{Next, Offer, Shut, Started};
+use crate::{Event, Next, Offer, Shut, Started};
 
 /// Connections and a clock: events come from it, and connections take bytes. It may tell its log and what it was
 /// started with; real sockets do not.
@@ -40,6 +40,12 @@ pub trait Wire {
         ensures kept { kept self.new ≡ kept self.old }
         ensures later { (state self.old).faults ≤ (state self.new).faults }
         ensures wanted { (state self.old).wants ≤ (state self.new).wants };
+
+    /// Takes an event back that was served, so that its room can be used again. Nothing else changes.
+    fn take_back(&mut self, _event: Event)
+        ensures same { state self.new ≡ state self.old }
+        ensures kept { kept self.new ≡ kept self.old }
+    {}
 
     /// Offers bytes to a connection.
     fn offer(&mut self, conn: u32, bytes: &[u8]) -> Offer

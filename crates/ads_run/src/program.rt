@@ -52,7 +52,7 @@ pub fn run_program<T: Threads + Sync, F: Files, W: Wire, L: Link, S: Sink, D: Di
         RunsBy (verdict_of program_waves (words_behind_name words) first second) (Rose (F.state files.old).faults (F.state files.new).faults) result
         (uses (S.state out.old) (S.state out.new) (W.state wire.old).history (W.state wire.new).history
         (link_used L.tells L.state link.old link.new)
-        (disk_used D.contents D.may_leave D.moment D.left_since D.fault_count disk.old disk.new)
+        (disk_used D.contents D.may_leave D.moment D.left_since D.marked D.fault_count disk.old disk.new)
         (keeper_used K.state keeper.old keeper.new))) }
 
     // The words: usage exactly where they are no command, want of memory and a failed writing aside.
@@ -90,7 +90,7 @@ pub fn run_program<T: Threads + Sync, F: Files, W: Wire, L: Link, S: Sink, D: Di
     ensures cause { HasCause (asked_task (words_behind_name words)) result
         (uses (S.state out.old) (S.state out.new) (W.state wire.old).history (W.state wire.new).history
         (link_used L.tells L.state link.old link.new)
-        (disk_used D.contents D.may_leave D.moment D.left_since D.fault_count disk.old disk.new)
+        (disk_used D.contents D.may_leave D.moment D.left_since D.marked D.fault_count disk.old disk.new)
         (keeper_used K.state keeper.old keeper.new)) }
 
     // Where nothing failed, the run ends as its verdict says; a service is done, or took all its events; a play over a store is
@@ -98,12 +98,12 @@ pub fn run_program<T: Threads + Sync, F: Files, W: Wire, L: Link, S: Sink, D: Di
     ensures complete { NothingFailed (F.state files.old) (F.state files.new)
         (uses (S.state out.old) (S.state out.new) (W.state wire.old).history (W.state wire.new).history
         (link_used L.tells L.state link.old link.new)
-        (disk_used D.contents D.may_leave D.moment D.left_since D.fault_count disk.old disk.new)
+        (disk_used D.contents D.may_leave D.moment D.left_since D.marked D.fault_count disk.old disk.new)
         (keeper_used K.state keeper.old keeper.new))
         → OverFiles (F.state files.old).held (λ first second. IsOwnEnd (verdict_of program_waves (words_behind_name words) first second) result
         (uses (S.state out.old) (S.state out.new) (W.state wire.old).history (W.state wire.new).history
         (link_used L.tells L.state link.old link.new)
-        (disk_used D.contents D.may_leave D.moment D.left_since D.fault_count disk.old disk.new)
+        (disk_used D.contents D.may_leave D.moment D.left_since D.marked D.fault_count disk.old disk.new)
         (keeper_used K.state keeper.old keeper.new))) }
 
     // What `migrate` prints where it is done: the description under schema 2, of which the rules say the same.
@@ -137,7 +137,7 @@ fn run_signals<T: Threads + Sync, F: Files, W: Wire, L: Link, S: Sink, D: Disk, 
     ensures runs { IfOk result (λ s. RunsWith program_waves (words_behind_name words) s (F.state files.old) (F.state files.new)
         (uses (S.state out.old) (S.state out.new) (W.state wire.old).history (W.state wire.new).history
         (link_used L.tells L.state link.old link.new)
-        (disk_used D.contents D.may_leave D.moment D.left_since D.fault_count disk.old disk.new)
+        (disk_used D.contents D.may_leave D.moment D.left_since D.marked D.fault_count disk.old disk.new)
         (keeper_used K.state keeper.old keeper.new))) }
     ensures unreadable { words ≡ Err ErrorKind.OutOfMemory → IsErr result }
     ensures usage { IfOk result (λ s. s ≡ Status.Usage → asked_task (words_behind_name words) ≡ None) }
@@ -163,7 +163,7 @@ fn run_signals<T: Threads + Sync, F: Files, W: Wire, L: Link, S: Sink, D: Disk, 
     ensures cause { IfOk result (λ s. HasCause (asked_task (words_behind_name words)) s
         (uses (S.state out.old) (S.state out.new) (W.state wire.old).history (W.state wire.new).history
         (link_used L.tells L.state link.old link.new)
-        (disk_used D.contents D.may_leave D.moment D.left_since D.fault_count disk.old disk.new)
+        (disk_used D.contents D.may_leave D.moment D.left_since D.marked D.fault_count disk.old disk.new)
         (keeper_used K.state keeper.old keeper.new))) }
     ensures no_memory { OnErr result ((files.new ≡ files.old) × (wire.new ≡ wire.old) × (link.new ≡ link.old) × (out.new ≡ out.old)
         × (disk.new ≡ disk.old) × (keeper.new ≡ keeper.old)) }

@@ -78,7 +78,7 @@ pub fn run<T: Threads + Sync, F: Files, W: Wire, L: Link, S: Sink, D: Disk, K: K
         RunsBy (verdict_of (G.waves signals) (map string_bytes words.now) first second) (Rose (F.state files.old).faults (F.state files.new).faults) result
         (uses (S.state out.old) (S.state out.new) (W.state wire.old).history (W.state wire.new).history
         (link_used L.tells L.state link.old link.new)
-        (disk_used D.contents D.may_leave D.moment D.left_since D.fault_count disk.old disk.new)
+        (disk_used D.contents D.may_leave D.moment D.left_since D.marked D.fault_count disk.old disk.new)
         (keeper_used K.state keeper.old keeper.new))) }
 
     // The words: usage exactly where they are no command, want of memory and a failed writing aside.
@@ -117,7 +117,7 @@ pub fn run<T: Threads + Sync, F: Files, W: Wire, L: Link, S: Sink, D: Disk, K: K
     ensures cause { HasCause (asked_task (map string_bytes words.now)) result
         (uses (S.state out.old) (S.state out.new) (W.state wire.old).history (W.state wire.new).history
         (link_used L.tells L.state link.old link.new)
-        (disk_used D.contents D.may_leave D.moment D.left_since D.fault_count disk.old disk.new)
+        (disk_used D.contents D.may_leave D.moment D.left_since D.marked D.fault_count disk.old disk.new)
         (keeper_used K.state keeper.old keeper.new)) }
 
     // Where nothing failed, the run ends as its verdict says; a service is done, or took all its events; a play over a store is
@@ -125,12 +125,12 @@ pub fn run<T: Threads + Sync, F: Files, W: Wire, L: Link, S: Sink, D: Disk, K: K
     ensures complete { NothingFailed (F.state files.old) (F.state files.new)
         (uses (S.state out.old) (S.state out.new) (W.state wire.old).history (W.state wire.new).history
         (link_used L.tells L.state link.old link.new)
-        (disk_used D.contents D.may_leave D.moment D.left_since D.fault_count disk.old disk.new)
+        (disk_used D.contents D.may_leave D.moment D.left_since D.marked D.fault_count disk.old disk.new)
         (keeper_used K.state keeper.old keeper.new))
         → OverFiles (F.state files.old).held (λ first second. IsOwnEnd (verdict_of (G.waves signals) (map string_bytes words.now) first second) result
         (uses (S.state out.old) (S.state out.new) (W.state wire.old).history (W.state wire.new).history
         (link_used L.tells L.state link.old link.new)
-        (disk_used D.contents D.may_leave D.moment D.left_since D.fault_count disk.old disk.new)
+        (disk_used D.contents D.may_leave D.moment D.left_since D.marked D.fault_count disk.old disk.new)
         (keeper_used K.state keeper.old keeper.new))) }
 
     // What `migrate` prints where it is done: the description under schema 2, of which the rules say the same.
@@ -176,7 +176,7 @@ fn run_words<
         RunsBy (verdict_of (G.waves signals) (map string_bytes words.now) first second) (Rose (F.state files.old).faults (F.state files.new).faults) result
         (uses (S.state out.old) (S.state out.new) (W.state wire.old).history (W.state wire.new).history
         (link_used L.tells L.state link.old link.new)
-        (disk_used D.contents D.may_leave D.moment D.left_since D.fault_count disk.old disk.new)
+        (disk_used D.contents D.may_leave D.moment D.left_since D.marked D.fault_count disk.old disk.new)
         (keeper_used K.state keeper.old keeper.new))) }
     ensures no_command { asked_task (map string_bytes words.now) ≡ None
         → PrintsEnding (line_alone Status.Usage) result (S.state out.old) (S.state out.new) }
@@ -226,7 +226,7 @@ fn run_task<T: Threads + Sync, F: Files, W: Wire, L: Link, S: Sink, D: Disk, K: 
         RunsBy (verdict_of_task (G.waves signals) (Some task.now) first second) (Rose (F.state files.old).faults (F.state files.new).faults) result
         (uses (S.state out.old) (S.state out.new) (W.state wire.old).history (W.state wire.new).history
         (link_used L.tells L.state link.old link.new)
-        (disk_used D.contents D.may_leave D.moment D.left_since D.fault_count disk.old disk.new)
+        (disk_used D.contents D.may_leave D.moment D.left_since D.marked D.fault_count disk.old disk.new)
         (keeper_used K.state keeper.old keeper.new))) }
     ensures reads { ReadsFiles (Some task.now) result (F.state files.old).names (F.state files.new).names }
     ensures held { (F.state files.new).held ≡ (F.state files.old).held }

@@ -1,16 +1,15 @@
 //! The run of the daemon over the words of its process and the real outside.
 
-ghost use Rattle.std.specs.Prelude.{◌≡◌};
+ghost use Rattle.std.specs.Prelude.{◌≡◌, drop};
 ghost use Rattle.std.specs.Process.{exit_status};
 ghost use Rattle.run_tasks.specs.StatusTable.{number_of};
 
 use crate::serving::serve_setup;
-use ads_edge::{RealFiles, RealSink, hold_standard_descriptors};
+use ads_edge::{RealFiles, RealSink, hold_standard_descriptors, words_of_process};
 use ads_outside::Sink;
 use daemon_edge::ErrSink;
 use daemon_run::{Prepared, prepare};
 use run_tasks::{Status, end_without_memory};
-use std::env;
 use std::io::ErrorKind;
 use std::process::ExitCode;
 use std::thread::Threads;
@@ -44,16 +43,10 @@ pub fn exit_code(status: &Status) -> ExitCode
     ExitCode::from(status.number())
 }
 
-// The words of the process, the program's name first.
-fn words_of_process(rt: &HostRuntime) -> Result<Vec<String>, ErrorKind> {
-    match env::args(rt) {
-        Ok(args) => args.collect(rt.alloc()).map_err(|_| ErrorKind::OutOfMemory),
-        Err(error) => Err(error.kind()),
-    }
-}
-
 // The words behind the program's name.
-fn behind_name(all: &[String]) -> &[String] {
+fn behind_name(all: &[String]) -> &[String]
+    ensures { result.now ≡ drop 1 all.now }
+{
     if all.is_empty() { all } else { &all[1..] }
 }
 

@@ -31,6 +31,7 @@ pub struct Header {
 }
 
 /// The header of an AMS packet, and all bytes behind it. `None` under 32 bytes.
+#[inline(always)]
 pub fn read(ams: &[u8]) -> Option<(Header, &[u8])>
     ensures too_short { IsNone result ↔ (length ams.now < 32) }
     ensures text { IfSome result (λ (h, payload). ams.now ≡ header_bytes (ams_header_of h) ++ payload.now) }
@@ -40,7 +41,17 @@ pub fn read(ams: &[u8]) -> Option<(Header, &[u8])>
     if ams.len() < 32 {
         return None;
     }
-    let header = Header {
+    Some((header_in(ams), &ams[32..]))
+}
+
+/// The header of an AMS packet, which has 32 bytes at least.
+#[inline(always)]
+pub fn header_in(ams: &[u8]) -> Header
+    requires { 32 ≤ length ams.now }
+    ensures text { ams.now ≡ header_bytes (ams_header_of result) ++ payload_of ams.now }
+    ensures header { header_of ams.now ≡ Some (ams_header_of result) }
+{
+    Header {
         target: address_from(ams, 0),
         source: address_from(ams, 8),
         command: get16(ams, 16),
@@ -48,11 +59,11 @@ pub fn read(ams: &[u8]) -> Option<(Header, &[u8])>
         len: get32(ams, 20),
         error: get32(ams, 24),
         id: get32(ams, 28),
-    };
-    Some((header, &ams[32..]))
+    }
 }
 
 // The address at a place.
+#[inline(always)]
 fn address_from(ams: &[u8], at: usize) -> AmsAddr
     requires { at + 8 ≤ length ams.now }
     ensures { address_of result ≡ address_at at ams.now }
@@ -72,6 +83,7 @@ fn address_from(ams: &[u8], at: usize) -> AmsAddr
 }
 
 /// Writes the header's 32 bytes.
+#[inline(always)]
 pub fn put(h: &Header, out: &mut [u8])
     requires { length out.old ≡ 32 }
     ensures { out.new ≡ header_bytes (ams_header_of h.now) }
@@ -90,6 +102,7 @@ pub fn put(h: &Header, out: &mut [u8])
 }
 
 // NetId 6, port 2.
+#[inline(always)]
 fn address_array(a: &AmsAddr) -> [u8; 8]
     ensures { result ≡ address_bytes (address_of a.now) }
 {
@@ -99,6 +112,7 @@ fn address_array(a: &AmsAddr) -> [u8; 8]
 }
 
 /// The header of the answer: the addresses exchanged, command and invoke id kept, the flags of a response.
+#[inline(always)]
 pub fn answer_of(h: &Header, error: u32, len: u32) -> Header
     ensures { ams_header_of result ≡ response_header (ams_header_of h.now) error len }
 {

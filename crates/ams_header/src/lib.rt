@@ -3,4 +3,4 @@
 
 mod header;
 
-pub use header::{Header, answer_of, put, read};
+pub use header::{Header, answer_of, header_in, put, read};

@@ -1,7 +1,7 @@
 -- Which connections may have something to be offered, or are to be shut: those that were touched. All others are idle.
-use Rattle.std.specs.Prelude.{◌≡◌, ◌≢◌, ℕ, zero, suc, List, [], ◌∷◌, ◌++◌, Bool, false, ◌||◌, if◌then◌else◌, Option, Some, None, nat_eq, slice_get}
+use Rattle.std.specs.Prelude.{◌≡◌, ◌≢◌, ℕ, zero, suc, List, [], ◌∷◌, ◌++◌, Bool, true, false, ◌||◌, if◌then◌else◌, Option, Some, None, nat_eq, slice_get}
 use Rattle.std.specs.List.{IsDistinct}
-use Rattle.std.specs.Map.{keys_of}
+use Rattle.std.specs.Map.{keys_of, values_of}
 use Rattle.ams_relay.specs.declared.peer.Peer.{Peer}
 use Rattle.ams_relay.specs.declared.touched.Touched.{Touched}
 use Rattle.ams_relay.specs.declared.touched.Touched.TheVariants.{Nothing, One, Two, All}
@@ -28,6 +28,20 @@ due_in n es = read_in is_due_peer false (peer_in n es)
 -- nothing is offered to the other connections, and none of them is to be shut
 abbrev pub OthersIdle : Touched → Peers → Type 0
 OthersIdle touched es = (n : ℕ) → IsUntouched touched n → due_in n es ≡ false
+
+-- a connection that is due stands at some place
+pub record IsSomeDue (es : Peers) : Type 0 where
+  pub place : ℕ
+  pub peer : Peer
+  pub there : slice_get (values_of es) place ≡ Some peer
+  pub due : is_due_peer peer ≡ true
+
+-- those that are touched are due; one at least, where all are touched
+abbrev pub AreDue : Touched → Peers → Type 0
+AreDue Nothing es = Unit {0}
+AreDue (One a) es = due_in a es ≡ true
+AreDue (Two a b) es = (due_in a es ≡ true) × (due_in b es ≡ true)
+AreDue All es = IsSomeDue es
 
 -- the number that stands at a place, if it is due
 abbrev pub number_if_due : Option (ℕ × Peer) → List ℕ

@@ -1,7 +1,7 @@
 //! The connections that are to be served: something is offered to them, or they are to be shut.
 
 ghost use Rattle.std.specs.Prelude.{◌≡◌, ◌++◌, ℕ, false, length, slice_get, IfOk, OnOk};
-ghost use Rattle.ams_relay.specs.Touched.{AreDistinct, OthersIdle, AreIdleBut, due_in, number_if_due, numbers_due};
+ghost use Rattle.ams_relay.specs.Touched.{AreDistinct, AreDue, OthersIdle, AreIdleBut, due_in, number_if_due, numbers_due};
 
 use crate::router::Router;
 use crate::touched::Touched;
@@ -88,12 +88,14 @@ impl Router {
     pub(crate) fn settle(&mut self)
         ensures same { self.new ≡ record self.old { touched = self.new.touched } }
         ensures idle { OthersIdle self.old.touched self.old.peers.entries → OthersIdle self.new.touched self.old.peers.entries }
+        ensures due { AreDue self.new.touched self.new.peers.entries }
     {
         self.touched = self.settled();
     }
 
     fn settled(&self) -> Touched
-        ensures { OthersIdle self.now.touched self.now.peers.entries → OthersIdle result self.now.peers.entries }
+        ensures idle { OthersIdle self.now.touched self.now.peers.entries → OthersIdle result self.now.peers.entries }
+        ensures due { AreDue result self.now.peers.entries }
     {
         match self.touched {
             Touched::Nothing => Touched::Nothing,
@@ -104,7 +106,8 @@ impl Router {
     }
 
     fn settled_one(&self, a: u32) -> Touched
-        ensures { AreIdleBut a a self.now.peers.entries → OthersIdle result self.now.peers.entries }
+        ensures idle { AreIdleBut a a self.now.peers.entries → OthersIdle result self.now.peers.entries }
+        ensures due { AreDue result self.now.peers.entries }
     {
         if self.is_due(a) {
             Touched::One(a)
@@ -114,7 +117,8 @@ impl Router {
     }
 
     fn settled_two(&self, a: u32, b: u32) -> Touched
-        ensures { AreIdleBut a b self.now.peers.entries → OthersIdle result self.now.peers.entries }
+        ensures idle { AreIdleBut a b self.now.peers.entries → OthersIdle result self.now.peers.entries }
+        ensures due { AreDue result self.now.peers.entries }
     {
         if !self.is_due(a) {
             return self.settled_one(b);
@@ -126,7 +130,8 @@ impl Router {
     }
 
     fn settled_all(&self) -> Touched
-        ensures { OthersIdle result self.now.peers.entries }
+        ensures idle { OthersIdle result self.now.peers.entries }
+        ensures due { AreDue result self.now.peers.entries }
     {
         for i in 0..self.peers.len() {
             if self.peers[i].is_due() {

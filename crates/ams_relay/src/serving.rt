@@ -5,6 +5,7 @@ ghost use Rattle.ads_outside.specs.declared.moves.Move.TheVariants as move;
 ghost use Rattle.spec_machine.specs.Running.{OpensNew};
 ghost use Rattle.ams_relay.specs.Peers.{AreHere};
 ghost use Rattle.ams_relay.specs.Relays.{RelayRunning, HoldsRunning, running_after_event};
+ghost use Rattle.ams_relay.specs.Touched.{AreDue};
 
 use crate::Relay;
 use crate::router::Router;
@@ -103,6 +104,16 @@ impl Router {
         ensures here { OnOk result (AreHere self.old.peers.entries → AreHere self.new.peers.entries) }
     {
         self.settle();
+        self.take_settled(alloc, event)
+    }
+
+    // The same, once it is known which connections are idle: an event costs what it touches, and not what was served before it.
+    fn take_settled(&mut self, alloc: Global, event: &Event) -> Result<(), NoMemory>
+        requires settled { AreDue self.old.touched self.old.peers.entries }
+        ensures follows { OnOk result ((x : RelayRunning) → AreHere self.old.peers.entries → HoldsRunning self.old x → OpensNew x event.now
+            → HoldsRunning self.new (running_after_event x event.now)) }
+        ensures here { OnOk result (AreHere self.old.peers.entries → AreHere self.new.peers.entries) }
+    {
         match event {
             Event::Opened(number) => self.open(alloc, *number),
             Event::Piece(number, bytes) => self.piece(alloc, *number, bytes.as_slice()),

@@ -17,9 +17,12 @@ use Rattle.sample_store.specs.Keeper.{KeeperState, Counts}
 use Rattle.run_tasks.specs.declared.status.Status.{Status}
 use Rattle.run_tasks.specs.declared.status.Status.TheVariants as status
 use Rattle.run_tasks.specs.BeforeRun.{IsBeforeRun}
-use Rattle.run_tasks.specs.Prints.{PutsMemoryLine}
+use Rattle.run_tasks.specs.Ending.{line_alone}
+use Rattle.run_tasks.specs.Prints.{PutsMemoryLine, PrintsEnding}
 use Rattle.call_run.specs.Recording.{PrintsRecorded, EndsRecorded, EndsRecording, LeavesLink, BehindOpening}
 use Rattle.call_run.specs.CallUses.{LinkUse, KeeperUse, used}
+use Rattle.call_run.proofs.AloneLemmas.{nothing_before, prints_from}
+use Rattle.call_run.proofs.SilentLemmas.{IsRecord}
 use Rattle.call_run.proofs.CallLemmas.{answer_not_before, not_before}
 
 never_falls : (out : SinkState) (keeper : KeeperState) → IsLater (outlets out keeper) (outlets out keeper)
@@ -34,20 +37,34 @@ never_recorded x s out out_new told state keeper is line = record {
   called = inl (record { begins = record { same = refl; silent = refl; told = λ o log h. h }; untouched = refl });
   later = never_falls out keeper;
   prints = (is, line);
+  alone = λ e. cc;
 }
+
+alone_by : {O : Type 0} (x : Calling) → IsRecord x.call → (answer : Result RecordEnd NoMemory) (s : Status) (out between out_new : SinkState)
+    (told tells : O → List LinkMove → Type 0) (old new : LinkState) (keeper keeper_new : KeeperState)
+    → AfterRecord answer x told tells old new (outlets out keeper) (outlets between keeper_new) → IsLater (outlets out keeper) (outlets between keeper_new)
+    → PrintsRecorded answer s between out_new → answer ≡ Ok recorded.KeeperFault → PrintsEnding (line_alone status.KeeperFault) s out out_new
+alone_by x recording (Ok recorded.KeeperFault) s out between out_new told tells old new keeper keeper_new called later printed is =
+    prints_from (line_alone status.KeeperFault) s out between out_new
+    (nothing_before x recording told tells old new out between keeper keeper_new called) later.sink printed
+alone_by x recording (Ok (recorded.Loop e)) s out between out_new told tells old new keeper keeper_new called later printed is = cc
+alone_by x recording (Err e) s out between out_new told tells old new keeper keeper_new called later printed is = cc
 
 -- the recording that was made is the one that was asked for
 pub recorded_ends : {O : Type 0} (x y : Calling) (answer : Result RecordEnd NoMemory) (s : Status) (out between out_new : SinkState)
-    (told tells : O → List LinkMove → Type 0) (old new : LinkState) (keeper keeper_new : KeeperState) → y ≡ x
+    (told tells : O → List LinkMove → Type 0) (old new : LinkState) (keeper keeper_new : KeeperState) → y ≡ x → IsRecord x.call
     → AfterRecord answer y told tells old new (outlets out keeper) (outlets between keeper_new) → IsLater (outlets out keeper) (outlets between keeper_new)
     → PrintsRecorded answer s between out_new → EndsRecorded x s out out_new (used told tells old new) keeper keeper_new
-recorded_ends x y answer s out between out_new told tells old new keeper keeper_new same called later printed = record {
-  answer = answer;
-  between = between;
-  called = subst (λ z. AfterRecord answer z told tells old new (outlets out keeper) (outlets between keeper_new)) same called;
-  later = later;
-  prints = printed;
-}
+recorded_ends x y answer s out between out_new told tells old new keeper keeper_new same recording called later printed =
+    let here = subst (λ z. AfterRecord answer z told tells old new (outlets out keeper) (outlets between keeper_new)) same called in
+    record {
+      answer = answer;
+      between = between;
+      called = here;
+      later = later;
+      prints = printed;
+      alone = alone_by x recording answer s out between out_new told tells old new keeper keeper_new here later printed;
+    }
 
 -- a link that was not called
 pub leaves_link : {O : Type 0} (told : O → List LinkMove → Type 0) (state : LinkState) → LeavesLink (used told told state state)

@@ -131,6 +131,7 @@ local_recorded x fits to y s old new out out_new keeper keeper_new same told e =
       (outlets e.between keeper_new)) same e.called);
   later = e.later;
   prints = e.prints;
+  alone = e.alone;
 }
 
 local_opened : (x : ℕ → LocalCalling) → ((n : ℕ) → FitsCalling (x n)) → (to : List ℕ) (y : ℕ → Calling) (answer : KeeperOpen) (s : Status)

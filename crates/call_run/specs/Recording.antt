@@ -49,6 +49,8 @@ pub record EndsRecorded {O : Type 0} (x : Calling) (s : Status) (out out_new : S
   pub called : AfterRecord answer x link.told link.tells link.old link.new (outlets out keeper) (outlets between keeper_new)
   pub later : IsLater (outlets out keeper) (outlets between keeper_new)
   pub prints : PrintsRecorded answer s between out_new
+  -- where the keeper failed, that line stands alone
+  pub alone : answer ≡ Ok recorded.KeeperFault → PrintsEnding (line_alone status.KeeperFault) s out out_new
 
 -- However its answers are cut, the recording ends so, and all its rows were put. It ends by no timeout, and never for a text that is no
 -- value, since it sets none.
@@ -92,6 +94,8 @@ pub record EndsLocalRecorded (x : LocalCalling) (s : Status) (out out_new : Sink
   pub called : AfterLocalRecord answer x (outlets out keeper) (outlets between keeper_new)
   pub later : IsLater (outlets out keeper) (outlets between keeper_new)
   pub prints : PrintsRecorded answer s between out_new
+  -- where the keeper failed, that line stands alone
+  pub alone : answer ≡ Ok recorded.KeeperFault → PrintsEnding (line_alone status.KeeperFault) s out out_new
 
 -- the link was not called
 pub record LeavesLink {O : Type 0} (link : LinkUse O) : Type 0 where

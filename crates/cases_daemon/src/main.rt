@@ -12,5 +12,5 @@ use run_sheets::main_of;
 use std::process::ExitCode;
 
 fn main(rt: HostRuntime) -> ExitCode {
-    main_of(&rt, &rt, &Adsd)
+    main_of(&rt, &rt, &[Adsd])
 }

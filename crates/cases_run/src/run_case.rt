@@ -8,7 +8,8 @@ use ads_outside::{Files, Link, LinkMove, MemFiles, MemLink, MemSink, MemWire, Mo
 use ads_run::{Status, run, run_program};
 use persist_store::{Disk, MemDisk};
 use run_sheets::{
-    Came, Fault, Given, LinkCase, Runs, StoreCase, WireCase, log_text, open_new, rows_of, talk_of,
+    CaseWire, Came, Fault, Given, LinkCase, Runs, StoreCase, WireCase, log_text, open_new, rows_of,
+    talk_of,
 };
 use sample_store::{Keeper, MapKeeper};
 use signals::Signal;
@@ -18,29 +19,46 @@ use std::thread::Threads;
 
 /// The program `ads`.
 #[derive(Clone, Copy, Debug)]
-pub struct Ads;
+pub struct Ads {
+    /// Its wire takes frames in runs.
+    pub takes_runs: bool,
+}
 
 impl Runs for Ads {
+    fn takes_runs(&self) -> bool {
+        self.takes_runs
+    }
+
     fn run_case<T: Threads + Sync>(
         &self,
         threads: &T,
         alloc: Global,
         given: Given,
     ) -> Result<Came, Fault> {
-        run_case(threads, alloc, given)
+        run_case(threads, alloc, given, self.takes_runs)
     }
 }
 
 // Runs the words that are given over the files, the wire, the link and the stores.
-fn run_case<T: Threads + Sync>(threads: &T, alloc: Global, given: Given) -> Result<Came, Fault> {
+fn run_case<T: Threads + Sync>(
+    threads: &T,
+    alloc: Global,
+    given: Given,
+    takes_runs: bool,
+) -> Result<Came, Fault> {
     if !open_new(alloc, given.wire.events.as_slice())? {
         return Err(Fault::Off("two connections have one number"));
     }
-    run_given(threads, alloc, given)
+    run_given(threads, alloc, given, takes_runs)
 }
 
 // The same, where no two connections have one number.
-fn run_given<T: Threads + Sync>(threads: &T, alloc: Global, given: Given) -> Result<Came, Fault>
+fn run_given<T: Threads + Sync>(
+    threads: &T,
+    alloc: Global,
+    given: Given,
+    takes_runs: bool,
+) -> Result<Came, Fault>
     requires { IsTrue (are_new given.wire.events []) }
 {
     let Given {
@@ -76,7 +94,8 @@ fn run_given<T: Threads + Sync>(threads: &T, alloc: Global, given: Given) -> Res
         rows: _rows,
     } = stores;
     let mut files = MemFiles::new(alloc, files, failing_reads);
-    let mut wire = MemWire::new(alloc, events, failing_calls, cuts);
+    let wire = MemWire::new(alloc, events, failing_calls, cuts);
+    let mut wire = CaseWire::new(wire, takes_runs);
     let mut link = MemLink::new(alloc, link_events, link_fails);
     let mut sink = MemSink::with_parts(alloc, failing_puts, parts);
     let mut disk = MemDisk::new(alloc, file, failing_disk, stop);

@@ -7,14 +7,16 @@ use Rattle.ads_outside.specs.WireState.{WireHistory}
 use Rattle.signals.specs.Wave.{Wave}
 use Rattle.spec_machine.specs.Moves.{state_after}
 use Rattle.spec_machine.specs.Profile.{Profile}
-use Rattle.spec_server.specs.Server.{server, server_start_in}
+use Rattle.spec_server.specs.Server.{server, start_in}
 use Rattle.spec_store.specs.Disk.{LeavesOnly}
 use Rattle.spec_store.specs.Slots.{Standing, standing_of}
 use Rattle.persist_store.proofs.Moments.{weaker, joins, started}
 use Rattle.server_core.specs.Served.{served}
+use Rattle.persist_store.specs.Marks.{Mark, MarksStay}
 use Rattle.keep_loop.specs.Keeping.{FileStandsFor}
 use Rattle.keep_loop.specs.declared.kept_on.KeptOn.{KeptOn}
 use Rattle.keep_loop.specs.KeepingOn.{Begun, FileHolds, KeepsOn, LooksAt, SavedEach, StoodOnce}
+use Rattle.keep_loop.specs.Marking.{HoldsWhole, MarksRun, MarksMore, comes_to_end}
 use Rattle.keep_play.specs.KeptDisk.{DiskUse, FileStands, disk_used}
 use Rattle.keep_play.specs.KeptSaves.{body_standing, body_of_world, description_kept}
 use Rattle.run_tasks.specs.declared.status.Status.{Status}
@@ -24,6 +26,7 @@ use Rattle.run_tasks.specs.EndsOr.{EndsOr, WantsMemory}
 use Rattle.run_tasks.specs.Prints.{PrintsEnding}
 use Rattle.file_run.specs.FileOutcomes.{at_start_in}
 use Rattle.file_run.specs.Serving.{CannotRun, EndsService}
+use Rattle.file_run.proofs.PromiseLemmas.{holds_accepted}
 use Rattle.file_run.proofs.ServiceLemmas.{server_promises}
 use Rattle.daemon_run.specs.Kept.{EndsKept, HoldsBody, KeepsBodies, RunsKept, SavesEach}
 use Rattle.daemon_run.specs.Plant.{Plant, Serving, service_of, serves_plant, serving}
@@ -43,9 +46,9 @@ rose_later : (a b c : ℕ) → a ≤ b → Rose b c → Rose a c
 rose_later a b c le rose = omega (arith, le, rose)
 
 module _ {D : Type 0} (contents : D → Option (List ℕ)) (may_leave : D → List ℕ → Type 0) (moment : D → ℕ) (left_since : D → ℕ → List ℕ → Type 0)
-    (faults : D → ℕ) where
+    (marked : D → List Mark → Type 0) (faults : D → ℕ) where
   abbrev pub Used : D → D → DiskUse
-  Used old new = disk_used contents may_leave moment left_since faults old new
+  Used old new = disk_used contents may_leave moment left_since marked faults old new
 
   stands_for : (old new : D) (standing : Option Standing) → FileStandsFor contents may_leave new standing → FileStands (Used old new) standing
   stands_for old new standing f = record { file = f.now; told = f.here.told; only = f.here.only; stands = f.standing_is }
@@ -92,14 +95,14 @@ module _ {D : Type 0} (contents : D → Option (List ℕ)) (may_leave : D → Li
 
   -- the store was opened, and the plant was served
   runs_kept : (profile : Profile) (waves : List Wave) (store : List ℕ) (every : ℕ) (x : Plant) (standing : Option Standing) (old mid new : D) (s : Status)
-      (between out_new : SinkState) (wire wire_new : WireHistory) → contents mid ≡ contents old → faults old ≤ faults mid
+      (between out_new : SinkState) (wire wire_new : WireHistory) → contents mid ≡ contents old → faults old ≤ faults mid → MarksStay marked old mid
       → (r : RunsOn every (at_start_in profile (description_kept x.description standing) waves) standing s between out_new
-      contents may_leave moment left_since faults mid new wire wire_new)
+      contents may_leave moment left_since marked faults mid new wire wire_new)
       → RunsKept (serving profile waves (Some store) every) x standing r.keeps.begun s between out_new (Used old new) wire wire_new
   unfolding served
-  runs_kept profile waves store every x standing old mid new s between out_new wire wire_new same later r =
+  runs_kept profile waves store every x standing old mid new s between out_new wire wire_new same later stay r =
       let d = description_kept x.description standing in
-      let s0 = server_start_in profile d waves in
+      let s0 = start_in profile d waves in
       record {
         kept = r.kept;
         moves = r.moves;
@@ -111,19 +114,24 @@ module _ {D : Type 0} (contents : D → Option (List ℕ)) (may_leave : D → Li
           most = r.wire.most;
           promises = server_promises r.kept.ended profile d waves r.moves r.wire.turns r.wire.offers;
         };
+        over_accepted = holds_accepted profile d waves r.moves;
         bodies = bodies_kept old mid new r.kept (LooksAt r.kept.ended every body_of_world server s0 r.moves)
             (body_of_world (state_after server s0 r.moves).world) standing same later r.keeps r.failed;
+        marks = λ marks told.
+            let P : Option (List ℕ) → Type 0 = λ file. MarksMore (marked new) marks
+            (MarksRun (comes_to_end r.kept.ended) every body_of_world server s0 (HoldsWhole r.kept.counts file standing) wire wire_new) in
+            subst P same (r.marks marks (stay marks told));
         prints = r.prints;
       }
 
   -- the store was opened, and the wire started or not
   pub kept_opened : (profile : Profile) (waves : List Wave) (store : List ℕ) (every : ℕ) (x : Plant) (standing : Option Standing) (old mid new : D) (s : Status)
       (out out_new : SinkState) (wire wire_new : WireHistory) → contents mid ≡ contents old → LeavesOnly moment left_since old mid (may_leave old)
-      → faults old ≤ faults mid → ((file : List ℕ) → contents old ≡ Some file → standing ≡ standing_of file)
+      → faults old ≤ faults mid → MarksStay marked old mid → ((file : List ℕ) → contents old ≡ Some file → standing ≡ standing_of file)
       → EndsOn every x.start (at_start_in profile (description_kept x.description standing) waves) standing s out out_new
-      contents may_leave moment left_since faults mid new wire wire_new
+      contents may_leave moment left_since marked faults mid new wire wire_new
       → EndsKept (serving profile waves (Some store) every) x s out out_new (Used old new) wire wire_new
-  kept_opened profile waves store every x standing old mid new s out out_new wire wire_new same opened later stood (inl (still, cannot)) =
+  kept_opened profile waves store every x standing old mid new s out out_new wire wire_new same opened later stay stood (inl (still, cannot)) =
       let P : D → Type 0 = λ d. LeavesOnly moment left_since old d (may_leave old) in
       record {
         standing = standing;
@@ -132,7 +140,7 @@ module _ {D : Type 0} (contents : D → Option (List ℕ)) (may_leave : D → Li
         left = λ file told c left. inl ((subst P (sym still) opened).each c left);
         ends = inl (refl, inr cannot);
       }
-  kept_opened profile waves store every x standing old mid new s out out_new wire wire_new same opened later stood (inr h) = record {
+  kept_opened profile waves store every x standing old mid new s out out_new wire wire_new same opened later stay stood (inr h) = record {
     standing = standing;
     stood = stood;
     begun = h.runs.keeps.begun;
@@ -140,7 +148,7 @@ module _ {D : Type 0} (contents : D → Option (List ℕ)) (may_leave : D → Li
     ends = inr (record {
       between = h.between;
       told = h.told;
-      runs = runs_kept profile waves store every x standing old mid new s h.between out_new _ wire_new same later h.runs;
+      runs = runs_kept profile waves store every x standing old mid new s h.between out_new _ wire_new same later stay h.runs;
     });
   }
 

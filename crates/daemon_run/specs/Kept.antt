@@ -1,27 +1,31 @@
 -- What a plant that was served over a store saved, and what it printed.
-use Rattle.std.specs.Prelude.{◌≡◌, ◌⊎◌, ◌<◌, ℕ, List, [], true, nat_lt, if◌then◌else◌, Option, Some, None}
+use Rattle.std.specs.Prelude.{◌≡◌, ◌⊎◌, ◌<◌, ℕ, List, [], length, true, nat_lt, if◌then◌else◌, Option, Some, None}
 use Rattle.ads_outside.specs.declared.moves.Move.{Move}
 use Rattle.ads_outside.specs.Rose.{Rose}
 use Rattle.ads_outside.specs.SinkState.{SinkState}
 use Rattle.ads_outside.specs.WireState.{WireHistory, listened}
+use Rattle.spec_plant.specs.Accepted.{IsAccepted}
 use Rattle.spec_machine.specs.Moves.{state_after}
 use Rattle.spec_server.specs.Server.{server}
 use Rattle.spec_store.specs.Disk.{Only}
 use Rattle.spec_store.specs.Slots.{Standing, standing_of, standing_body}
+use Rattle.persist_store.specs.Marks.{Mark}
 use Rattle.keep_loop.specs.Bodies.{saves_in}
 use Rattle.keep_loop.specs.declared.kept_on.KeptOn.{KeptOn}
 use Rattle.keep_loop.specs.declared.save_counts.SaveCounts.{SaveCounts}
 use Rattle.keep_loop.specs.declared.save_end.SaveEnd.{SaveEnd}
 use Rattle.keep_loop.specs.declared.save_end.SaveEnd.TheVariants as save
 use Rattle.keep_loop.specs.KeepingOn.{Begun, MayStand, StoodOnce, AreSomeOf, bodies_begun, all_done, done_in, IsWhole, is_kept, IsAnyOver, LooksAt}
+use Rattle.keep_loop.specs.Marking.{HoldsWhole, MarksRun, MarksMore, comes_to_end}
 use Rattle.keep_play.specs.KeptDisk.{DiskUse}
 use Rattle.keep_play.specs.KeptPlay.{AllSaved}
-use Rattle.keep_play.specs.KeptSaves.{body_standing, body_of_world}
+use Rattle.keep_play.specs.KeptSaves.{body_standing, body_of_world, description_kept}
 use Rattle.run_tasks.specs.declared.status.Status.{Status}
 use Rattle.run_tasks.specs.declared.status.Status.TheVariants as status
 use Rattle.run_tasks.specs.Ending.{Ending, line_alone}
 use Rattle.run_tasks.specs.Prints.{PrintsEnding}
 use Rattle.run_tasks.specs.Service.{counts_after}
+use Rattle.file_run.specs.Promises.{HoldsAcceptedIn}
 use Rattle.file_run.specs.Serving.{MakesMoves, PrintsAt, CannotRun, TellsAndRuns}
 use Rattle.daemon_run.specs.Plant.{Plant, Serving, service_of, plant_kept, start_kept}
 use Rattle.daemon_run.specs.Printed.{ending_so}
@@ -80,8 +84,14 @@ pub record RunsKept (h : Serving) (x : Plant) (standing : Option Standing) (begu
   pub kept : KeptOn
   pub moves : List Move
   pub wire : MakesMoves (service_of h (plant_kept standing x)) kept.ended moves old new
+  -- that description need not be one that a text writes: where it is accepted, its writes and handles are held
+  pub over_accepted : IsAccepted (description_kept x.description standing) (length h.waves)
+      → HoldsAcceptedIn h.profile (description_kept x.description standing) h.waves moves
   pub bodies : KeepsBodies kept (LooksAt kept.ended h.every body_of_world server (start_kept h standing x) moves)
       (body_of_world (state_after server (start_kept h standing x) moves).world) disk standing begun
+  -- behind which moves each of them was looked at, as may be told of the disk
+  pub marks : (marks : List Mark) → disk.marked marks → MarksMore disk.marked_new marks
+      (MarksRun (comes_to_end kept.ended) h.every body_of_world server (start_kept h standing x) (HoldsWhole kept.counts disk.file standing) old new)
   pub prints : PrintsAt kept.ended (ending_kept kept (counts_after (service_of h (plant_kept standing x)).machine moves)) s out out_new
 
 -- the store could not be opened, and that is told

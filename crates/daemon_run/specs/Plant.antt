@@ -7,7 +7,7 @@ use Rattle.spec_machine.specs.Client.{Client}
 use Rattle.spec_machine.specs.MachineState.{MachineState}
 use Rattle.spec_machine.specs.Profile.{Profile}
 use Rattle.spec_machine.specs.World.{World}
-use Rattle.spec_server.specs.Server.{server_start_in}
+use Rattle.spec_server.specs.Server.{start_in}
 use Rattle.spec_store.specs.Slots.{Standing}
 use Rattle.keep_play.specs.KeptSaves.{description_kept}
 use Rattle.run_tasks.specs.Service.{Service, OfServer}
@@ -47,7 +47,7 @@ plant_kept standing x = record { start = x.start; description = description_kept
 
 -- its state before any move
 abbrev pub start_kept : Serving → Option Standing → Plant → MachineState World Client
-start_kept h standing x = server_start_in h.profile (description_kept x.description standing) h.waves
+start_kept h standing x = start_in h.profile (description_kept x.description standing) h.waves
 
 -- the verdict on a plant's file, with this name, that listens there: its server is served, or the file decides
 abbrev pub verdict_on : Serving → List ℕ → List ℕ → Option (List ℕ) → Verdict

@@ -59,7 +59,7 @@ pub fn run_plant<
         PlantBy (serving (profile_of profile) (G.waves signals) store.now every) (disk.new ≡ disk.old)
         (verdict_on (serving (profile_of profile) (G.waves signals) store.now every) description.now listen.now (bytes_of held description.now))
         (Rose (F.state files.old).faults (F.state files.new).faults) result (S.state out.old) (S.state out.new)
-        (disk_used D.contents D.may_leave D.moment D.left_since D.fault_count disk.old disk.new)
+        (disk_used D.contents D.may_leave D.moment D.left_since D.marked D.fault_count disk.old disk.new)
         (W.state wire.old).history (W.state wire.new).history) }
     ensures done { result ≡ Status.Done → (W.state wire.new).history.ends ≡ raised (W.state wire.old).history.ends }
     ensures no_disk { store.now ≡ None → disk.new ≡ disk.old }

@@ -63,7 +63,7 @@ pub(crate) fn keep_read<
     requires every { 1 ≤ every }
     ensures ends { EndsKept (serving (profile_of profile) (G.waves signals) (Some store.now) every)
         (plant_of name.now listen.now read.bytes (description_of read.description)) result (S.state out.old) (S.state out.new)
-        (disk_used D.contents D.may_leave D.moment D.left_since D.fault_count disk.old disk.new)
+        (disk_used D.contents D.may_leave D.moment D.left_since D.marked D.fault_count disk.old disk.new)
         (W.state wire.old).history (W.state wire.new).history }
     ensures status { IsOfPlant result }
     ensures opens { OpensOnly (D.names disk.old) (D.names disk.new) store.now }
@@ -116,7 +116,7 @@ fn keep_opened<
     ensures ends { EndsOn every (record { listen = listen.now; name = name.now; first = read.bytes })
         (at_start_in (profile_of profile) (description_kept (description_of read.description) store.old.standing) (G.waves signals))
         store.old.standing result (S.state out.old) (S.state out.new)
-        D.contents D.may_leave D.moment D.left_since D.fault_count disk.old disk.new (W.state wire.old).history (W.state wire.new).history }
+        D.contents D.may_leave D.moment D.left_since D.marked D.fault_count disk.old disk.new (W.state wire.old).history (W.state wire.new).history }
     ensures status { IsOfPlant result }
     ensures later { D.fault_count disk.old ≤ D.fault_count disk.new }
     ensures opens { OpensOnly (D.names disk.old) (D.names disk.new) file.now }
@@ -180,7 +180,7 @@ fn keep_posted<
     ensures ends { (x : Standing World Client) → StandsAnew (StandsAt posted.old.core) x
         → EndsOn every (record { listen = listen.now; name = name.now; first = first.now }) x
         store.old.standing result (S.state out.old) (S.state out.new)
-        D.contents D.may_leave D.moment D.left_since D.fault_count disk.old disk.new (W.state wire.old).history (W.state wire.new).history }
+        D.contents D.may_leave D.moment D.left_since D.marked D.fault_count disk.old disk.new (W.state wire.old).history (W.state wire.new).history }
     ensures status { IsOfPlant result }
     ensures later { D.fault_count disk.old ≤ D.fault_count disk.new }
     ensures opens { OpensOnly (D.names disk.old) (D.names disk.new) file.now }
@@ -221,7 +221,7 @@ fn run_kept<
     requires open { store.old.shut ≡ false }
     ensures ends { (x : Standing World Client) → StandsAnew (StandsAt posted.old.core) x
         → RunsOn every x store.old.standing result (S.state out.old) (S.state out.new)
-        D.contents D.may_leave D.moment D.left_since D.fault_count disk.old disk.new (W.state wire.old).history (W.state wire.new).history }
+        D.contents D.may_leave D.moment D.left_since D.marked D.fault_count disk.old disk.new (W.state wire.old).history (W.state wire.new).history }
     ensures status { IsOfPlant result }
     ensures later { D.fault_count disk.old ≤ D.fault_count disk.new }
     ensures opens { OpensOnly (D.names disk.old) (D.names disk.new) file.now }

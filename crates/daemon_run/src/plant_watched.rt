@@ -61,7 +61,7 @@ pub fn run_watched<
         PlantBy (serving (profile_of profile) (G.waves signals) store.now every) (disk.new ≡ disk.old)
         (verdict_on (serving (profile_of profile) (G.waves signals) store.now every) description.now listen.now (bytes_of held description.now))
         (Rose (F.state files.old).faults (F.state files.new).faults) result (S.state out.old) (S.state out.new)
-        (disk_used D.contents D.may_leave D.moment D.left_since D.fault_count disk.old disk.new)
+        (disk_used D.contents D.may_leave D.moment D.left_since D.marked D.fault_count disk.old disk.new)
         (with_ends wire.old.ends (W.state wire.old.wire).history) (with_ends wire.new.ends (W.state wire.new.wire).history)) }
     ensures by_stop { result ≡ Status.Done → 0 < P.asked wire.new.stop + (W.state wire.new.wire).history.ends }
     ensures no_disk { store.now ≡ None → disk.new ≡ disk.old }

@@ -14,7 +14,7 @@ use Rattle.toml.specs.Data.{members_depth}
 use Rattle.toml.proofs.Blanks.{below, below_from, greater_from}
 use Rattle.toml.proofs.Filled.{AllAbove}
 use Rattle.spec_rules.specs.Fields.{only_keys, required, or_absent, optional, maybe, items_in, array_of, table_of, tables_of}
-use Rattle.spec_rules.specs.Written.{WrittenRoute, WrittenMember, WrittenValue, WrittenType, WrittenSymbol, WrittenPort, Document}
+use Rattle.spec_rules.specs.Written.{WrittenRoute, WrittenMember, EnumValue, WrittenType, WrittenSymbol, WrittenPort, Document}
 use Rattle.spec_rules.specs.Tables.{route_in, member_in, value_in, structure_in, enumeration_in, type_in}
 use Rattle.spec_rules.specs.Tables.{symbol_keys, symbol_in, port_keys, port_in, is_two, document_keys}
 use Rattle.spec_rules.specs.Tables.{document_in}
@@ -208,7 +208,7 @@ member_fits n t x s h =
       ),
     )
 
-value_fits : (n : ℕ) (t : Members) (x : WrittenValue) → members_are_sorted t ≡ true → value_in t ≡ Some x → TableFits n t
+value_fits : (n : ℕ) (t : Members) (x : EnumValue) → members_are_sorted t ≡ true → value_in t ≡ Some x → TableFits n t
 unfolding value_in
 value_fits n t x s h =
     let keys = codes "name" ∷ codes "number" ∷ [] in

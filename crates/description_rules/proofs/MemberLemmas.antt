@@ -10,7 +10,7 @@ use Rattle.spec_plant.specs.AcceptedTypes.{differ, is_short_identifier, is_comme
 use Rattle.spec_plant.specs.TypeTexts.{ElemText, PlainText, StringText, NamedText, TypeText, type_text_of, is_same_word}
 use Rattle.spec_rules.specs.Written.{WrittenMember, WrittenType, written_name, written_members}
 use Rattle.spec_rules.specs.Places.{first_wrong}
-use Rattle.spec_rules.specs.Shapes.{shape_of_text}
+use Rattle.spec_plant.specs.Shapes.{shape_of_text}
 use Rattle.spec_rules.specs.Described.{types_described}
 use Rattle.spec_rules.specs.TypeRules.{is_right_member, wrong_member_of}
 use Rattle.description_rules.specs.NameStarts.{IsAdded}

@@ -12,7 +12,7 @@ use Rattle.spec_plant.specs.Listed.{NamedType, type_name}
 use Rattle.spec_plant.specs.TypeTexts.{Ends, ElemText, PlainText, StringText, NamedText, TypeText, type_text_of, is_same_word}
 use Rattle.spec_rules.specs.Written.{WrittenType, WrittenStructure, WrittenEnumeration, written_name}
 use Rattle.spec_rules.specs.Described.{type_described, types_described, types_behind}
-use Rattle.spec_rules.specs.Shapes.{place_named, elem_at, elem_named, shape_with, shape_named, shape_of_text}
+use Rattle.spec_plant.specs.Shapes.{place_named, elem_at, elem_named, shape_with, shape_named, shape_of_text}
 use Rattle.description_rules.specs.TypeNames.{names_only, is_type_among}
 use Rattle.description_rules.proofs.Mapped.{list_any-map}
 

@@ -3,7 +3,7 @@ use Rattle.std.proofs.Common.{◌≡◌, ℕ, map, refl, inl, inr, nat_eq}
 use Rattle.std.specs.Prelude.{◌≢◌}
 use Rattle.std.proofs.lemmas.Bool.{cases_Bool, eqb-true}
 use Rattle.spec_plant.specs.Listed.{Array}
-use Rattle.spec_rules.specs.Shapes.{bound_between}
+use Rattle.spec_plant.specs.Shapes.{bound_between}
 use Rattle.type_layout.specs.Shapes.{elem_of}
 use Rattle.description_rules.specs.NamedShapes.{ends_read, shape_read}
 use Rattle.description_rules.specs.declared.named_shapes.NamedShape.{NamedShape}

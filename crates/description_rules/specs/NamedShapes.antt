@@ -2,7 +2,7 @@
 use Rattle.std.specs.Prelude.{List}
 use Rattle.spec_plant.specs.Listed.{Shape}
 use Rattle.spec_plant.specs.TypeTexts.{Ends}
-use Rattle.spec_rules.specs.Shapes.{shape_with}
+use Rattle.spec_plant.specs.Shapes.{shape_with}
 use Rattle.type_layout.specs.Shapes.{elem_of}
 use Rattle.type_layout.specs.ReadTexts.{ends_among}
 use Rattle.description_rules.specs.declared.named_shapes.NamedShape.{NamedShape}

@@ -1,6 +1,5 @@
 //! Members and enumerations, built from what a document writes.
 ghost use Rattle.std.specs.Prelude.{◌≡◌, ◌≤◌, length, map, option_map, unwrap_or, IfOk, IsSome};
-ghost use Rattle.spec_rules.specs.Described as described;
 ghost use Rattle.type_layout.specs.Shapes.{kind_of};
 ghost use Rattle.type_layout.specs.NamedTypes.{value_of, enumeration_of};
 ghost use Rattle.description_rules.specs.TypesLeft.{enumeration_described};
@@ -26,7 +25,7 @@ pub fn enumeration_of(alloc: Global, e: &WrittenEnumeration<'_>) -> Result<EnumT
 }
 
 fn values_of(alloc: Global, values: &[WrittenValue<'_>]) -> Result<EnumValues, NoMemory>
-    ensures { IfOk result (λ built. map value_of built ≡ map described.value_described (map value_view values.now)) }
+    ensures { IfOk result (λ built. map value_of built ≡ map value_view values.now) }
 {
     let mut built = ListOf::new(alloc);
     for value in values {
@@ -37,7 +36,7 @@ fn values_of(alloc: Global, values: &[WrittenValue<'_>]) -> Result<EnumValues, N
 }
 
 fn value_of(alloc: Global, value: &WrittenValue<'_>) -> Result<EnumValue, NoMemory>
-    ensures { IfOk result (λ v. value_of v ≡ described.value_described (value_view value.now)) }
+    ensures { IfOk result (λ v. value_of v ≡ value_view value.now) }
 {
     let name = Octets::copy_of(alloc, value.name)?;
     Ok(EnumValue {

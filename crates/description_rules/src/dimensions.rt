@@ -2,7 +2,7 @@
 ghost use Rattle.std.specs.Prelude.{◌≡◌, ◌≤◌, ◌^◌, [], map, nat_le, true, IfOk, OnOk};
 ghost use Rattle.spec_plant.specs.Sizes.{element_count};
 ghost use Rattle.spec_plant.specs.AcceptedTypes.{LIMIT};
-ghost use Rattle.spec_rules.specs.Shapes.{bound_between};
+ghost use Rattle.spec_plant.specs.Shapes.{bound_between};
 ghost use Rattle.type_layout.specs.Shapes.{bound_of, bounds_of, shape_of};
 ghost use Rattle.type_layout.specs.ReadTexts.{ends_of};
 ghost use Rattle.description_rules.specs.NamedShapes.{ends_read, shape_read};

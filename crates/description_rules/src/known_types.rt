@@ -4,7 +4,7 @@ ghost use Rattle.spec_plant.specs.Trees.{trees_of, elem_tree, tree_at, tree_of};
 ghost use Rattle.spec_plant.specs.AcceptedTypes.{is_small_shape};
 ghost use Rattle.spec_plant.specs.Sizes.{type_size};
 ghost use Rattle.std.specs.Option.{option_map_or};
-ghost use Rattle.spec_rules.specs.Shapes.{shape_of_text};
+ghost use Rattle.spec_plant.specs.Shapes.{shape_of_text};
 ghost use Rattle.spec_rules.specs.SymbolRules.{is_small};
 ghost use Rattle.spec_rules.specs.Described.{shape_described};
 ghost use Rattle.type_layout.specs.Shapes.{elem_of};

@@ -1,6 +1,6 @@
 //! The shapes that texts name.
 ghost use Rattle.std.specs.Prelude.{◌≡◌, length, option_map, IfSome};
-ghost use Rattle.spec_rules.specs.Shapes.{shape_of_text};
+ghost use Rattle.spec_plant.specs.Shapes.{shape_of_text};
 ghost use Rattle.spec_rules.specs.Described.{shape_described};
 ghost use Rattle.type_layout.specs.NamedTypes.{types_of};
 ghost use Rattle.description_rules.specs.KnownTypes.{IsKnown};
@@ -25,7 +25,7 @@ pub struct NamedShape {
 const NO_ENDS: Ends = Ends { low: 0, high: 0 };
 
 /// The shape that a text names. None exactly where it names none.
-#[tactic(auto, unfolding(spec_rules::specs::Shapes::shape_of_text))]
+#[tactic(auto, unfolding(spec_plant::specs::Shapes::shape_of_text))]
 pub fn named_shape(known: &KnownTypes, text: &[u8]) -> Option<NamedShape>
     requires { IsKnown known.now }
     ensures value { option_map shape_read result ≡ shape_of_text (types_of known.now.types) text.now }

@@ -2,7 +2,7 @@
 ghost use Rattle.std.specs.Prelude.{◌≡◌, ◌≤◌, ◌<◌, length, map, position, option_map, nat_le, not, IfSome, IfOk};
 ghost use Rattle.spec_plant.specs.Listed.{type_name, is_structure};
 ghost use Rattle.spec_plant.specs.TypeTexts as texts;
-ghost use Rattle.spec_rules.specs.Shapes.{place_named, elem_at, elem_named};
+ghost use Rattle.spec_plant.specs.Shapes.{place_named, elem_at, elem_named};
 ghost use Rattle.type_layout.specs.Shapes.{elem_of};
 ghost use Rattle.type_layout.specs.ReadTexts.{elem_text_of};
 ghost use Rattle.type_layout.specs.NamedTypes.{types_of, named_type_of};

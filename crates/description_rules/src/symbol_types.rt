@@ -3,7 +3,7 @@ ghost use Rattle.std.specs.Prelude.{◌≡◌, [], map, false};
 ghost use Rattle.std.specs.Option.{option_map_or};
 ghost use Rattle.spec_rules.specs.Written as rules;
 ghost use Rattle.spec_rules.specs.Places.{first_wrong};
-ghost use Rattle.spec_rules.specs.Shapes.{shape_of_text};
+ghost use Rattle.spec_plant.specs.Shapes.{shape_of_text};
 ghost use Rattle.spec_rules.specs.SymbolRules.{wrong_type, is_small};
 ghost use Rattle.type_layout.specs.NamedTypes.{types_of};
 ghost use Rattle.description_rules.specs.KnownTypes.{IsKnown};

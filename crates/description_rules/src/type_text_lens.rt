@@ -4,7 +4,7 @@ ghost use Rattle.std.specs.Fmt.{signed_decimal};
 ghost use Rattle.spec_plant.specs.Plain.{kind_name};
 ghost use Rattle.spec_plant.specs.Spelling.{type_text, bound_text, high_of, joined_by_comma};
 ghost use Rattle.spec_plant.specs.Trees.{trees_of, elem_tree, tree_at, tree_of};
-ghost use Rattle.spec_rules.specs.Shapes.{bound_between};
+ghost use Rattle.spec_plant.specs.Shapes.{bound_between};
 ghost use Rattle.spec_rules.specs.Described.{shape_described};
 ghost use Rattle.type_layout.specs.Shapes.{kind_of, elem_of};
 ghost use Rattle.type_layout.specs.ReadTexts.{ends_of};

@@ -19,7 +19,7 @@ route_view r = record { net = r.net.now; rights = r.rights.now }
 abbrev pub member_view : WrittenMember → rules.WrittenMember
 member_view m = record { name = m.name.now; type = m.kind.now; comment = m.comment.now }
 
-abbrev pub value_view : WrittenValue → rules.WrittenValue
+abbrev pub value_view : WrittenValue → rules.EnumValue
 value_view v = record { name = v.name.now; number = v.number }
 
 abbrev pub structure_view : WrittenStructure → rules.WrittenType

@@ -14,7 +14,7 @@ use std::alloc::Global;
 use toml::Table;
 
 impl<'a> FromTable<'a> for WrittenValue<'a> {
-    ghost Written = { rules.WrittenValue };
+    ghost Written = { rules.EnumValue };
 
     ghost written_in = { λ second. value_in };
 

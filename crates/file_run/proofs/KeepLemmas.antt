@@ -35,7 +35,7 @@ kept_ends : (x : Keeping) (played : Result KeptPlay NoMemory) (s : Status) (out 
     (saves : List (List ℕ)) → EndsKept x.description x.waves x.lines disk played standing saves → PrintsPlay played s out out_new
     → PrintsKept x s out out_new disk standing saves
 kept_ends x (Ok (kept.Done text)) s out out_new disk standing saves ends printed =
-    inl (ends.1, prints_same status.Done text (kept_text x.description x.waves x.lines standing) s out out_new ends.0 printed)
+    inl (ends.1, prints_same status.Done text (kept_text x.description x.waves x.lines standing) s out out_new ends.0 printed, ends.2)
 kept_ends x (Ok kept.StoreFault) s out out_new disk standing saves ends printed = inr (inr (inl (ends, printed)))
 kept_ends x (Ok kept.StoreLimit) s out out_new disk standing saves ends printed = inr (inl (ends, printed))
 kept_ends x (Err e) s out out_new disk standing saves ends printed = inr (inr (inr printed))

@@ -16,7 +16,7 @@ use Rattle.spec_relay.specs.RelayState.{relay_start}
 use Rattle.spec_relay.specs.RelayMoves.{relay_after_event}
 use Rattle.spec_relay.specs.RelayPromises.{RelayKeepsPromisesAt}
 use Rattle.spec_relay.proofs.PromiseLemmas as promised
-use Rattle.spec_server.specs.Server.{server, server_start_in}
+use Rattle.spec_server.specs.Server.{server, start_in}
 use Rattle.serve_loop.specs.TurnTaken.{AreTurnsOf}
 use Rattle.server_core.specs.Served.{served, served_step}
 use Rattle.server_core.specs.Serves.{CoreView, StandsAt}
@@ -40,19 +40,19 @@ unfolding connection_of
 core_anew core profile d waves stands = λ opened. record { stands = stands; numbers = λ n other. refl }
 
 turns_of : (profile : Profile) (d : Description) (waves : List Wave) (ms : List Move)
-    → AreTurnsOf served_step (at_start_in profile d waves).running ms → KeepsTurns server (server_start_in profile d waves) ms
+    → AreTurnsOf served_step (at_start_in profile d waves).running ms → KeepsTurns server (start_in profile d waves) ms
 unfolding served
 turns_of profile d waves ms are = record { turns = are.turns; whole = are.are; served = are.served }
 
-offers_of : (profile : Profile) (d : Description) (waves : List Wave) (ms : List Move) → AreOffers served_step (server_start_in profile d waves) ms
-    → AreOffers server (server_start_in profile d waves) ms
+offers_of : (profile : Profile) (d : Description) (waves : List Wave) (ms : List Move) → AreOffers served_step (start_in profile d waves) ms
+    → AreOffers server (start_in profile d waves) ms
 unfolding served
 offers_of profile d waves ms are = are
 
 -- the moves of a server keep its promises
 pub server_promises : (ended : End) (profile : Profile) (d : Description) (waves : List Wave) (ms : List Move)
     → (ended ≢ end.Memory → AreTurnsOf served_step (at_start_in profile d waves).running ms)
-    → AreOffers served_step (server_start_in profile d waves) ms → KeepsPromisesAtIn ended profile d waves ms
+    → AreOffers served_step (start_in profile d waves) ms → KeepsPromisesAtIn ended profile d waves ms
 server_promises end.Done profile d waves ms turns offers =
     turns_keep_promises profile d waves ms (turns_of profile d waves ms (turns (λ e. (cc))))
 server_promises end.Budget profile d waves ms turns offers =

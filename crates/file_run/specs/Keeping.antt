@@ -5,6 +5,7 @@ use Rattle.ads_outside.specs.SinkState.{SinkState}
 use Rattle.spec_store.specs.Slots.{Standing}
 use Rattle.keep_loop.specs.Bodies.{is_any_over}
 use Rattle.keep_play.specs.KeptDisk.{DiskUse}
+use Rattle.keep_play.specs.KeptMarks.{AllMarked}
 use Rattle.keep_play.specs.KeptPlay.{PlaysOverStore, AllSaved}
 use Rattle.keep_play.specs.KeptSaves.{kept_text}
 use Rattle.run_tasks.specs.declared.status.Status.{Status}
@@ -19,11 +20,12 @@ use Rattle.run_tasks.specs.KeepAsked.{Keeping}
 abbrev pub kept_ending : Keeping → Option Standing → Ending
 kept_ending x standing = record { status = status.Done; text = kept_text x.description x.waves x.lines standing }
 
--- What was printed, and why: the text of the play where all was saved; the line of the limit where a save is over it; that of a
+-- What was printed, and why: the text of the play where all was saved, each save behind its tick; the line of the limit where a save is over it; that of a
 -- fault where a call of the disk failed; or that of want of memory.
 abbrev pub PrintsKept : Keeping → Status → SinkState → SinkState → DiskUse → Option Standing → List (List ℕ) → Type 0
 PrintsKept x s out out_new disk standing saves =
-    (AllSaved disk standing saves × PrintsEnding (kept_ending x standing) s out out_new)
+    (AllSaved disk standing saves × PrintsEnding (kept_ending x standing) s out out_new
+    × AllMarked x.description x.waves x.lines disk standing)
     ⊎ ((is_any_over standing saves ≡ true) × PrintsEnding (line_alone status.StoreLimit) s out out_new)
     ⊎ (Rose disk.faults disk.faults_new × PrintsEnding (line_alone status.StoreFault) s out out_new)
     ⊎ ((s ≡ status.Memory) × PutsMemoryLine out out_new)

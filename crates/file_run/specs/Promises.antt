@@ -1,6 +1,6 @@
 -- What a log promises: of a script's play over a description, with signals that begin so, or of what is served; of the server of
 -- a profile, and so of the strict one, which the program `ads` is.
-use Rattle.std.specs.Prelude.{◌≡◌, ℕ, List, [], ◌++◌, ◌∷◌, length, false}
+use Rattle.std.specs.Prelude.{◌≡◌, ℕ, List, [], ◌++◌, ◌∷◌, length, false, Ok}
 use Rattle.signals.specs.Wave.{Wave}
 use Rattle.ads_outside.specs.declared.end.End.{End}
 use Rattle.ads_outside.specs.declared.end.End.TheVariants as end
@@ -18,25 +18,11 @@ use Rattle.spec_machine.specs.ScriptLine.{ScriptLine}
 use Rattle.spec_machine.specs.Delivery.{IsPrefix, is_short, is_cut_off}
 use Rattle.spec_laws.specs.Isolation.{IsAmong, IsUntouchedIn}
 use Rattle.spec_laws.specs.ExactWrites.{writes_of_move, is_accepted_reload}
-use Rattle.spec_server.specs.Server.{read_description, server, server_start_in, server_after_in, server_output_in, server_play}
+use Rattle.spec_server.specs.Server.{read_description, server, start_in, server_after_in, server_output_in, server_play}
 use Rattle.spec_server.specs.ServerLaws.{ReadsDescriptions, ServerLeavesAllAtRefusals, ServerRefusesDeadHandles}
 use Rattle.spec_promises.specs.Written.{HoldsWritesIn}
 use Rattle.spec_promises.specs.Notified.{NotifiesAfterIn}
 use Rattle.spec_promises.specs.KeptHandles.{KeepsHandlesIn, HandlesAreHistoryIn}
-
--- none of the bytes that a connection reads, were it alone, is written by another
-abbrev pub IsUntouchedHereIn : Profile → Description → List Wave → ℕ → List Move → Type 0
-IsUntouchedHereIn profile d waves c log = IsUntouchedIn read_description profile d waves c log
-
--- each connection takes the machine's frames in their order
-pub record GivesFramesInOrderIn (profile : Profile) (d : Description) (waves : List Wave) (log : List Move) : Type 0 where
-  -- each event is followed by the offers to each connection
-  pub turns : KeepsTurns server (server_start_in profile d waves) log
-  -- what a connection took begins what it was given
-  pub begins : (c : ℕ) → IsPrefix (taken_of c log) (server_output_in profile d waves c log)
-  -- and is all of it, unless its last offer was short, or it was closed by its peer or lost
-  pub all : (c : ℕ) → is_short c log ≡ false → is_cut_off c log ≡ false
-      → taken_of c log ≡ server_output_in profile d waves c log
 
 -- a byte changes at a move only by an accepted write or control that addresses it, by its signal at a tick, or by an
 -- accepted reload
@@ -47,13 +33,13 @@ ChangesByWritesIn profile d waves before m = (name : ByteName)
     → byte_at (server_after_in profile d waves (before ++ m ∷ [])).world.memory name
     ≡ byte_at (server_after_in profile d waves before).world.memory name
 
--- a client none of whose read or notified bytes another writes is given, byte for byte, what it would be given alone;
--- what it took begins that, and is all of it with the same exceptions
-pub record IsServedAsAloneIn (profile : Profile) (d : Description) (waves : List Wave) (c : ℕ) (log : List Move) : Type 0 where
-  pub given : server_output_in profile d waves c log ≡ server_output_in profile d waves c (projection_of c log)
-  pub begins : IsPrefix (taken_of c log) (server_output_in profile d waves c (projection_of c log))
-  pub all : is_short c log ≡ false → is_cut_off c log ≡ false
-      → taken_of c log ≡ server_output_in profile d waves c (projection_of c log)
+-- what holds besides over an accepted description
+pub record HoldsAcceptedIn (profile : Profile) (d : Description) (waves : List Wave) (log : List Move) : Type 0 where
+  -- an accepted write is held: the bytes that it addresses are those that it carries, in their order, and the next read answers them
+  pub held : (before after : List Move) (m : Move) → log ≡ before ++ m ∷ after → HoldsWritesIn profile d waves before m
+  -- a handle that is live before and after a reload reads the same
+  pub kept_handles : (before after : List Move) (bytes : List ℕ)
+      → log ≡ before ++ move.Event (event.Reload bytes) ∷ after → KeepsHandlesIn profile d waves before bytes
 
 -- what holds at each move of a log, whether it was cut off or not
 pub record HoldsThroughoutIn (profile : Profile) (d : Description) (waves : List Wave) (log : List Move) : Type 0 where
@@ -64,36 +50,31 @@ pub record HoldsThroughoutIn (profile : Profile) (d : Description) (waves : List
   pub dead_handles : ServerRefusesDeadHandles
   -- each handle of each connection has the status that its own accepted requests and the accepted reloads give it
   pub handles : (before after : List Move) → log ≡ before ++ after → HandlesAreHistoryIn profile d waves before
-  -- an accepted write is held: the bytes that it addresses are those that it carries, in their order, and the next read answers them
-  pub held : IsAccepted d (length waves) → (before after : List Move) (m : Move) → log ≡ before ++ m ∷ after
-      → HoldsWritesIn profile d waves before m
   -- each notification gives samples as it was asked to, over its whole life
   pub notified : (before after : List Move) → log ≡ before ++ after → NotifiesAfterIn profile d waves before after
-  -- a handle that is live before and after a reload reads the same
-  pub kept_handles : IsAccepted d (length waves) → (before after : List Move) (bytes : List ℕ)
-      → log ≡ before ++ move.Event (event.Reload bytes) ∷ after → KeepsHandlesIn profile d waves before bytes
-  -- and each description that is read is an accepted one
-  pub accepted : ReadsDescriptions
+  -- the description is one that a text writes, as each that is served: then writes and handles are held
+  pub of_text : (bytes : List ℕ) → read_description bytes (length waves) ≡ Ok d → HoldsAcceptedIn profile d waves log
+
+-- the promises of a log that may be cut off in mid-turn, as where memory was wanting
+pub record KeepsPromisesSoFarIn (profile : Profile) (d : Description) (waves : List Wave) (log : List Move) : Type 0 where
+  -- what a connection took begins what it was given
+  pub begins : (c : ℕ) → IsPrefix (taken_of c log) (server_output_in profile d waves c log)
+  -- a client none of whose read or notified bytes another writes is given, byte for byte, what it would be given alone
+  pub isolated : (c : ℕ) → IsUntouchedIn read_description profile d waves c log
+      → server_output_in profile d waves c log ≡ server_output_in profile d waves c (projection_of c log)
+  pub throughout : HoldsThroughoutIn profile d waves log
 
 pub record KeepsPromisesIn (profile : Profile) (d : Description) (waves : List Wave) (log : List Move) : Type 0 where
-  pub frames : GivesFramesInOrderIn profile d waves log
-  pub isolated : (c : ℕ) → IsUntouchedHereIn profile d waves c log → IsServedAsAloneIn profile d waves c log
-  pub throughout : HoldsThroughoutIn profile d waves log
+  pub so_far : KeepsPromisesSoFarIn profile d waves log
+  -- each event is followed by the offers to each connection
+  pub turns : KeepsTurns server (start_in profile d waves) log
+  -- what a connection took is all that it was given, unless its last offer was short, or it was closed by its peer or lost
+  pub all : (c : ℕ) → is_short c log ≡ false → is_cut_off c log ≡ false
+      → taken_of c log ≡ server_output_in profile d waves c log
 
 -- the promises of the strict server
 abbrev pub KeepsPromises : Description → List Wave → List Move → Type 0
 KeepsPromises d waves log = KeepsPromisesIn strict d waves log
-
--- the same of what it would be given alone, where the log may be cut off in mid-turn
-pub record BeginsAsAloneIn (profile : Profile) (d : Description) (waves : List Wave) (c : ℕ) (log : List Move) : Type 0 where
-  pub given : server_output_in profile d waves c log ≡ server_output_in profile d waves c (projection_of c log)
-  pub begins : IsPrefix (taken_of c log) (server_output_in profile d waves c (projection_of c log))
-
--- what stands of the promises where want of memory may have cut off the log in mid-turn
-pub record KeepsPromisesSoFarIn (profile : Profile) (d : Description) (waves : List Wave) (log : List Move) : Type 0 where
-  pub begins : (c : ℕ) → IsPrefix (taken_of c log) (server_output_in profile d waves c log)
-  pub isolated : (c : ℕ) → IsUntouchedHereIn profile d waves c log → BeginsAsAloneIn profile d waves c log
-  pub throughout : HoldsThroughoutIn profile d waves log
 
 -- what a log promises that ended so
 abbrev pub KeepsPromisesAtIn : End → Profile → Description → List Wave → List Move → Type 0
@@ -102,6 +83,9 @@ KeepsPromisesAtIn end.Budget profile d waves log = KeepsPromisesIn profile d wav
 KeepsPromisesAtIn end.LinkFault profile d waves log = KeepsPromisesIn profile d waves log
 KeepsPromisesAtIn end.Memory profile d waves log = KeepsPromisesSoFarIn profile d waves log
 
--- the promises of a script's play
-abbrev pub PlayKeepsPromises : Description → List Wave → List ScriptLine → Type 0
-PlayKeepsPromises d waves lines = KeepsPromises d waves (server_play d waves lines)
+-- the promises of a script's play; over each accepted description, also one that no text writes
+pub record PlayKeepsPromises (d : Description) (waves : List Wave) (lines : List ScriptLine) : Type 0 where
+  pub kept : KeepsPromises d waves (server_play d waves lines)
+  pub over_accepted : IsAccepted d (length waves) → HoldsAcceptedIn strict d waves (server_play d waves lines)
+  -- and each description that is read is an accepted one
+  pub accepted : ReadsDescriptions

@@ -43,7 +43,7 @@ pub fn keep<T: Threads + Sync, F: Files, S: Sink, D: Disk, G: Sources>(
     ensures ends { OverFiles (F.state files.old).held (λ first second.
         KeepsBy (verdict_of_both (length (G.waves signals)) (over_store (G.waves signals)) description.now script.now first second)
         (Rose (F.state files.old).faults (F.state files.new).faults) result (S.state out.old) (S.state out.new)
-        (disk_used D.contents D.may_leave D.moment D.left_since D.fault_count disk.old disk.new)) }
+        (disk_used D.contents D.may_leave D.moment D.left_since D.marked D.fault_count disk.old disk.new)) }
     ensures reads { ReadsBoth result (F.state files.old).names (F.state files.new).names description.now script.now }
     ensures held { (F.state files.new).held ≡ (F.state files.old).held }
     ensures read_fault { result ≡ Status.ReadFault → Rose (F.state files.old).faults (F.state files.new).faults }
@@ -71,7 +71,7 @@ fn keep_both<T: Threads + Sync, S: Sink, D: Disk, G: Sources>(
     requires few { length (G.waves signals) < 2 ^ 32 }
     requires accepted { IsAccepted (description_of both.description) (length (G.waves signals)) }
     ensures ends { EndsKeeping (keeping (description_of both.description) (G.waves signals) both.script) result
-        (S.state out.old) (S.state out.new) (disk_used D.contents D.may_leave D.moment D.left_since D.fault_count disk.old disk.new) }
+        (S.state out.old) (S.state out.new) (disk_used D.contents D.may_leave D.moment D.left_since D.marked D.fault_count disk.old disk.new) }
     ensures status { IsOfKeeping result }
     ensures opens { OpensOne result (D.names disk.old) (D.names disk.new) store.now }
 {

@@ -56,10 +56,10 @@ came_fault step noted old_serves mid_serves old mid new count limit turns later 
     (fewer, stops_later old mid new (stops_kept step noted old_serves mid_serves old.history mid.history count turns) later stops)
 
 module _ {W C D : Type 0} (every : ℕ) (of_world : BodyOf W) (step : EventStep W C) (noted : Noting W C) (contents : D → Option (List ℕ))
-    (may_leave : D → List ℕ → Type 0) (moment : D → ℕ) (left_since : D → ℕ → List ℕ → Type 0) where
+    (may_leave : D → List ℕ → Type 0) (moment : D → ℕ) (left_since : D → ℕ → List ℕ → Type 0) (Also : Standing W C → List Move → Type 0) where
   abbrev SoFar : (Standing W C → Type 0) → (Standing W C → Type 0) → WireHistory → WireHistory → ℕ → ℕ → D → D → StoreState → StoreState → ℕ → Type 0
   SoFar old_serves new_serves old new count left old_disk new_disk first now saved =
-      KeepsSoFar every of_world step noted contents moment left_since old_serves new_serves old new count left old_disk new_disk first now saved
+      KeepsSoFar Also every of_world step noted contents moment left_since old_serves new_serves old new count left old_disk new_disk first now saved
 
   -- so a run ends
   abbrev Ends : KeepEnd → (Standing W C → Type 0) → (Standing W C → Type 0) → WireState → WireState → ℕ → D → D → StoreState → Type 0
@@ -168,8 +168,9 @@ module _ {W C D : Type 0} (every : ℕ) (of_world : BodyOf W) (step : EventStep 
   fails_at_tick old_serves mid_serves new_serves old mid new count left limit old_disk mid_disk disk first mid_store saved fewer due so_far takes b within counts = record {
     saves = so_far.saves ++ b.body ∷ [];
     took = at_tick old_serves new_serves old new count limit first (so_far.saves ++ b.body ∷ []) fewer
-        (tick_keeps every of_world step noted contents may_leave moment left_since old_serves mid_serves new_serves old.history mid new.history count left
-        old_disk mid_disk first mid_store saved b.body due so_far takes b.is b.differs).keeps;
+        (tick_keeps every of_world step noted contents may_leave moment left_since Also (λ x ms. Unit {0}) old_serves mid_serves new_serves old.history mid new.history count left
+        old_disk mid_disk first mid_store saved b.body due so_far takes b.is b.differs
+        (λ x ms ns one logged more are also. tt)).keeps;
     left = left_then contents moment left_since old_disk mid_disk disk first.standing
         mid_store.standing so_far.saves (b.body ∷ []) so_far.left so_far.told so_far.standing b.left;
     counted = over_then so_far.saves b.body first.standing mid_store.standing false so_far.within so_far.standing within;
@@ -186,8 +187,9 @@ module _ {W C D : Type 0} (every : ℕ) (of_world : BodyOf W) (step : EventStep 
   limit_at_tick old_serves mid_serves new_serves old mid new count left limit old_disk mid_disk disk first mid_store saved fewer due so_far takes d over same ready = record {
     saves = so_far.saves ++ d.body ∷ [];
     took = at_tick old_serves new_serves old new count limit first (so_far.saves ++ d.body ∷ []) fewer
-        (tick_keeps every of_world step noted contents may_leave moment left_since old_serves mid_serves new_serves old.history mid new.history count left
-        old_disk mid_disk first mid_store saved d.body due so_far takes d.is d.differs).keeps;
+        (tick_keeps every of_world step noted contents may_leave moment left_since Also (λ x ms. Unit {0}) old_serves mid_serves new_serves old.history mid new.history count left
+        old_disk mid_disk first mid_store saved d.body due so_far takes d.is d.differs
+        (λ x ms ns one logged more are also. tt)).keeps;
     left = left_more contents moment left_since old_disk mid_disk disk first.standing so_far.saves (d.body ∷ []) so_far.left same;
     counted = over_then so_far.saves d.body first.standing mid_store.standing true so_far.within so_far.standing over;
     stands = none_last old_disk mid_disk disk first.standing mid_store so_far.saves (d.body ∷ []) (so_far.saves ++ d.body ∷ []) refl (omega arith)
@@ -214,8 +216,9 @@ module _ {W C D : Type 0} (every : ℕ) (of_world : BodyOf W) (step : EventStep 
   memory_at_tick old_serves mid_serves new_serves old mid new count left limit old_disk mid_disk disk first mid_store saved fewer due so_far takes (inr b) ready counts = record {
     saves = so_far.saves ++ b.body ∷ [];
     took = inr (at_tick old_serves new_serves old new count limit first (so_far.saves ++ b.body ∷ []) fewer
-        (tick_keeps every of_world step noted contents may_leave moment left_since old_serves mid_serves new_serves old.history mid new.history count left
-        old_disk mid_disk first mid_store saved b.body due so_far takes b.is b.differs).keeps);
+        (tick_keeps every of_world step noted contents may_leave moment left_since Also (λ x ms. Unit {0}) old_serves mid_serves new_serves old.history mid new.history count left
+        old_disk mid_disk first mid_store saved b.body due so_far takes b.is b.differs
+        (λ x ms ns one logged more are also. tt)).keeps);
     left = left_then contents moment left_since old_disk mid_disk disk first.standing
         mid_store.standing so_far.saves (b.body ∷ []) so_far.left so_far.told so_far.standing b.left;
     counted = tt;

@@ -4,8 +4,11 @@ pub mod SaveLemmas
 pub mod SavingLemmas
 pub mod TurnLemmas
 pub mod KeepLemmas
+pub mod MarkLemmas
+mod AlsoLemmas
 pub mod EndLemmas
 mod WantLemmas
 mod BegunLemmas
 mod LookLemmas
 mod OnLemmas
+mod OnMarkLemmas

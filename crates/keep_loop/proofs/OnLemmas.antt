@@ -35,10 +35,10 @@ use Rattle.keep_loop.proofs.LookLemmas.{looked_first, looked_more, saved_each, h
 
 module _ {W C D : Type 0} (every : ℕ) (of_world : BodyOf W) (step : EventStep W C) (noted : Noting W C) (contents : D → Option (List ℕ))
     (may_leave : D → List ℕ → Type 0) (moment : D → ℕ) (left_since : D → ℕ → List ℕ → Type 0) where
-  abbrev SoFar : (Standing W C → Type 0) → (Standing W C → Type 0) → WireHistory → WireHistory → ℕ → ℕ → D → D → StoreState → StoreState
-      → SaveCounts → Type 0
-  SoFar old_serves new_serves old new count left old_disk new_disk first now counts =
-      ServesOnSoFar every of_world step noted contents may_leave moment left_since old_serves new_serves old new count left old_disk new_disk first now counts
+  abbrev SoFar : (Standing W C → List Move → Type 0) → (Standing W C → Type 0) → (Standing W C → Type 0) → WireHistory → WireHistory → ℕ → ℕ
+      → D → D → StoreState → StoreState → SaveCounts → Type 0
+  SoFar Also old_serves new_serves old new count left old_disk new_disk first now counts =
+      ServesOnSoFar Also every of_world step noted contents may_leave moment left_since old_serves new_serves old new count left old_disk new_disk first now counts
 
   abbrev Looked : D → D → StoreState → StoreState → SaveCounts → List (List ℕ) → Type 0
   Looked old_disk new_disk first now counts looked = LookedSoFar contents may_leave moment left_since old_disk new_disk first now counts looked
@@ -48,14 +48,15 @@ module _ {W C D : Type 0} (every : ℕ) (of_world : BodyOf W) (step : EventStep 
       (x : Standing W C) → serves x → AfterLook by (of_world x.running.state.world) contents may_leave moment left_since mid_disk new_disk mid now
 
   -- before the first turn
-  pub on_first : (serves : Standing W C → Type 0) (h : WireHistory) (disk : D) (store : StoreState)
-      → ((d : D) (c : List ℕ) → left_since d (moment d) c → may_leave d c) → IsReady contents may_leave disk store → store.shut ≡ false
-      → SoFar serves serves h h 0 (every - 1) disk disk store store none_counted
+  pub on_first : (Also : Standing W C → List Move → Type 0) (serves : Standing W C → Type 0) (h : WireHistory) (disk : D) (store : StoreState)
+      → ((x : Standing W C) → Also x []) → ((d : D) (c : List ℕ) → left_since d (moment d) c → may_leave d c) → IsReady contents may_leave disk store → store.shut ≡ false
+      → SoFar Also serves serves h h 0 (every - 1) disk disk store store none_counted
   unfolding history_after standing_after_all bodies_at_ticks paced left_behind
-  on_first serves h disk store only ready open_ = record {
+  on_first Also serves h disk store also only ready open_ = record {
     turns = record { moves = []; logged = refl; events = refl; stands = λ x over. over; are = λ x over. turns_none step x.running };
     pace = λ x over. refl;
     looked = λ x over. looked_first contents may_leave moment left_since disk store only ready open_;
+    also = λ x over. also x;
   }
 
   -- it stands for something after these turns
@@ -79,17 +80,29 @@ module _ {W C D : Type 0} (every : ℕ) (of_world : BodyOf W) (step : EventStep 
       let here = some_now old_serves mid_serves old mid count turns some in
       record { standing = here.standing; stands = stays here.standing here.stands.stands }
 
+  -- what else holds of some moves goes on with the moves of a turn, and with what is looked at behind it
+  abbrev pub AlsoOn : (Standing W C → List Move → Type 0) → (Standing W C → List Move → Type 0) → WireHistory → WireHistory → ℕ → Turn
+      → D → D → StoreState → StoreState → SaveCounts → Type 0
+  AlsoOn Also Then old new left tells old_disk disk first now counts = (x z : Standing W C) (ms ns : List Move)
+      → events_in ns ≡ 1 → new ≡ history_after old (ms ++ ns)
+      → bodies_looked_at every of_world step x.running.state (ms ++ ns)
+      ≡ bodies_looked_at every of_world step x.running.state ms ++ paced every left (bodies_of_turn tells (of_world z.running.state.world))
+      → Looked old_disk disk first now counts (bodies_looked_at every of_world step x.running.state (ms ++ ns))
+      → Also x ms → Then x (ms ++ ns)
+
   -- a turn more
-  on_then : (old_serves mid_serves new_serves : Standing W C → Type 0) (old mid new : WireHistory) (count left then_ : ℕ) (tells : Turn)
+  on_then : (Also Then : Standing W C → List Move → Type 0) (old_serves mid_serves new_serves : Standing W C → Type 0) (old mid new : WireHistory) (count left then_ : ℕ) (tells : Turn)
       (old_disk mid_disk disk : D) (first mid_store now : StoreState) (counts more : SaveCounts)
-      → SoFar old_serves mid_serves old mid count left old_disk mid_disk first mid_store counts
+      → AlsoOn Also Then old new left tells old_disk disk first now more
+      → SoFar Also old_serves mid_serves old mid count left old_disk mid_disk first mid_store counts
       → TakesEvent step noted mid_serves new_serves mid new tells
       → ((body : List ℕ) → then_ ≡ left_behind every left (bodies_of_turn tells body))
       → ((z : Standing W C) → StandsOver new_serves new.opened z → (looked : List (List ℕ))
       → Looked old_disk mid_disk first mid_store counts looked
       → Looked old_disk disk first now more (looked ++ paced every left (bodies_of_turn tells (of_world z.running.state.world))))
-      → SoFar old_serves new_serves old new (count + 1) then_ old_disk disk first now more
-  on_then old_serves mid_serves new_serves old mid new count left then_ tells old_disk mid_disk disk first mid_store now counts more so_far takes next adds =
+      → SoFar Then old_serves new_serves old new (count + 1) then_ old_disk disk first now more
+  on_then Also Then old_serves mid_serves new_serves old mid new count left then_ tells old_disk mid_disk disk first mid_store now counts more goes_on so_far
+      takes next adds =
       let turns = so_far.turns in
       let ms = turns.moves in
       let ns = takes.leads.moves in
@@ -98,10 +111,23 @@ module _ {W C D : Type 0} (every : ℕ) (of_world : BodyOf W) (step : EventStep 
       bodies_then every of_world step noted x y (standing_after_all step noted y ns) takes.event tells ms ns
       (state_played step noted x ms) (state_played step noted y ns)
       takes.kind (turn_bodies of_world step takes.event y.running ns (takes.leads.are y (turns.stands x over)) takes.leads.events) in
+      let logged : new ≡ history_after old (ms ++ ns) =
+      takes.leads.logged ∙ (ap (λ h. history_after h ns) turns.logged ∙ sym (history-append old ms ns)) in
+      let more_looked = λ (x : Standing W C) (over : StandsOver old_serves old.opened x).
+      let z = standing_after_all step noted (standing_after_all step noted x ms) ns in
+      looked_then every of_world step noted left (every - 1) (bodies_at_ticks of_world step x.running.state ms)
+      (bodies_of_turn tells (of_world z.running.state.world)) (bodies_at_ticks of_world step x.running.state (ms ++ ns)) (bodies x over)
+      (so_far.pace x over) in
+      let looked = λ (x : Standing W C) (over : StandsOver old_serves old.opened x).
+      let y = standing_after_all step noted x ms in
+      let z = standing_after_all step noted y ns in
+      let P : List (List ℕ) → Type 0 = λ l. Looked old_disk disk first now more l in
+      subst P (sym (more_looked x over))
+      (adds z (takes.leads.stands y (turns.stands x over)) (paced every (every - 1) (bodies_at_ticks of_world step x.running.state ms)) (so_far.looked x over)) in
       record {
         turns = record {
           moves = ms ++ ns;
-          logged = takes.leads.logged ∙ (ap (λ h. history_after h ns) turns.logged ∙ sym (history-append old ms ns));
+          logged = logged;
           events = events-append ms ns ∙ (ap (λ k. k + events_in ns) turns.events ∙ ap (λ k. count + k) takes.leads.events);
           stands = λ x over. subst (StandsOver new_serves new.opened) (sym (standing-append step noted x ms ns))
               (takes.leads.stands (standing_after_all step noted x ms) (turns.stands x over));
@@ -115,59 +141,60 @@ module _ {W C D : Type 0} (every : ℕ) (of_world : BodyOf W) (step : EventStep 
             let body = of_world z.running.state.world in
             pace_then every of_world step noted left then_ (every - 1) (bodies_at_ticks of_world step x.running.state ms) (bodies_of_turn tells body)
             (bodies_at_ticks of_world step x.running.state (ms ++ ns)) (bodies x over) (so_far.pace x over) (next body);
-        looked = λ x over.
-            let y = standing_after_all step noted x ms in
-            let z = standing_after_all step noted y ns in
-            let before = bodies_at_ticks of_world step x.running.state ms in
-            let behind = bodies_of_turn tells (of_world z.running.state.world) in
-            let P : List (List ℕ) → Type 0 = λ looked. Looked old_disk disk first now more looked in
-            subst P (sym (looked_then every of_world step noted left (every - 1) before behind (bodies_at_ticks of_world step x.running.state (ms ++ ns))
-            (bodies x over) (so_far.pace x over)))
-            (adds z (takes.leads.stands y (turns.stands x over)) (paced every (every - 1) before) (so_far.looked x over));
+        looked = looked;
+        also = λ x over.
+            goes_on x (standing_after_all step noted (standing_after_all step noted x ms) ns) ms ns takes.leads.events logged
+            (more_looked x over) (looked x over) (so_far.also x over);
       }
 
   -- one behind which nothing is looked at
-  passes : (old_serves mid_serves new_serves : Standing W C → Type 0) (old mid new : WireHistory) (count left then_ : ℕ) (tells : Turn)
+  passes : (Also Then : Standing W C → List Move → Type 0) (old_serves mid_serves new_serves : Standing W C → Type 0) (old mid new : WireHistory) (count left then_ : ℕ) (tells : Turn)
       (old_disk disk : D) (first now : StoreState) (counts : SaveCounts)
-      → SoFar old_serves mid_serves old mid count left old_disk disk first now counts
+      → AlsoOn Also Then old new left tells old_disk disk first now counts
+      → SoFar Also old_serves mid_serves old mid count left old_disk disk first now counts
       → TakesEvent step noted mid_serves new_serves mid new tells
       → ((body : List ℕ) → then_ ≡ left_behind every left (bodies_of_turn tells body))
       → ((body : List ℕ) → paced every left (bodies_of_turn tells body) ≡ [])
-      → SoFar old_serves new_serves old new (count + 1) then_ old_disk disk first now counts
-  passes old_serves mid_serves new_serves old mid new count left then_ tells old_disk disk first now counts so_far takes next none =
+      → SoFar Then old_serves new_serves old new (count + 1) then_ old_disk disk first now counts
+  passes Also Then old_serves mid_serves new_serves old mid new count left then_ tells old_disk disk first now counts goes_on so_far takes next none =
       let P : List (List ℕ) → Type 0 = λ looked. Looked old_disk disk first now counts looked in
-      on_then old_serves mid_serves new_serves old mid new count left then_ tells old_disk disk disk first now now counts counts so_far takes next
+      on_then Also Then old_serves mid_serves new_serves old mid new count left then_ tells old_disk disk disk first now now counts counts goes_on so_far
+      takes next
       (λ z over looked so_far. subst P (sym (ap (λ l. looked ++ l) (none (of_world z.running.state.world)) ∙ append-nil looked)) so_far)
 
-  pub on_other : (old_serves mid_serves new_serves : Standing W C → Type 0) (old mid new : WireHistory) (count left : ℕ)
+  pub on_other : (Also Then : Standing W C → List Move → Type 0) (old_serves mid_serves new_serves : Standing W C → Type 0) (old mid new : WireHistory) (count left : ℕ)
       (old_disk disk : D) (first now : StoreState) (counts : SaveCounts)
-      → SoFar old_serves mid_serves old mid count left old_disk disk first now counts
+      → AlsoOn Also Then old new left turn.Other old_disk disk first now counts
+      → SoFar Also old_serves mid_serves old mid count left old_disk disk first now counts
       → TakesEvent step noted mid_serves new_serves mid new turn.Other
-      → SoFar old_serves new_serves old new (count + 1) left old_disk disk first now counts
-  on_other old_serves mid_serves new_serves old mid new count left old_disk disk first now counts so_far takes =
-      passes old_serves mid_serves new_serves old mid new count left left turn.Other old_disk disk first now counts so_far takes
+      → SoFar Then old_serves new_serves old new (count + 1) left old_disk disk first now counts
+  on_other Also Then old_serves mid_serves new_serves old mid new count left old_disk disk first now counts goes_on so_far takes =
+      passes Also Then old_serves mid_serves new_serves old mid new count left left turn.Other old_disk disk first now counts goes_on so_far takes
       (λ body. left-none every left) (λ body. paced-none every left)
 
-  pub on_passed : (old_serves mid_serves new_serves : Standing W C → Type 0) (old mid new : WireHistory) (count left : ℕ)
+  pub on_passed : (Also Then : Standing W C → List Move → Type 0) (old_serves mid_serves new_serves : Standing W C → Type 0) (old mid new : WireHistory) (count left : ℕ)
       (old_disk disk : D) (first now : StoreState) (counts : SaveCounts) → 0 < left
-      → SoFar old_serves mid_serves old mid count left old_disk disk first now counts
+      → AlsoOn Also Then old new left turn.Tick old_disk disk first now counts
+      → SoFar Also old_serves mid_serves old mid count left old_disk disk first now counts
       → TakesEvent step noted mid_serves new_serves mid new turn.Tick
-      → SoFar old_serves new_serves old new (count + 1) (left - 1) old_disk disk first now counts
-  on_passed old_serves mid_serves new_serves old mid new count left old_disk disk first now counts pass so_far takes =
-      passes old_serves mid_serves new_serves old mid new count left (left - 1) turn.Tick old_disk disk first now counts so_far takes
+      → SoFar Then old_serves new_serves old new (count + 1) (left - 1) old_disk disk first now counts
+  on_passed Also Then old_serves mid_serves new_serves old mid new count left old_disk disk first now counts pass goes_on so_far takes =
+      passes Also Then old_serves mid_serves new_serves old mid new count left (left - 1) turn.Tick old_disk disk first now counts goes_on so_far takes
       (λ body. left-passed every left body pass) (λ body. paced-passed every left body pass)
 
   -- a tick whose body is looked at
-  pub on_looked : (by : SaveEnd) (old_serves mid_serves new_serves : Standing W C → Type 0) (old mid new : WireHistory) (count left : ℕ)
+  pub on_looked : (Also Then : Standing W C → List Move → Type 0) (by : SaveEnd) (old_serves mid_serves new_serves : Standing W C → Type 0) (old mid new : WireHistory) (count left : ℕ)
       (old_disk mid_disk disk : D) (first mid_store now : StoreState) (counts : SaveCounts) → left ≡ 0
       → ((d : D) (file : List ℕ) → contents d ≡ Some file → may_leave d file)
       → ((d : D) (t : ℕ) (c : List ℕ) → t ≤ moment d → may_leave d c → left_since d t c)
-      → SoFar old_serves mid_serves old mid count left old_disk mid_disk first mid_store counts
+      → AlsoOn Also Then old new left turn.Tick old_disk disk first now (counted by counts)
+      → SoFar Also old_serves mid_serves old mid count left old_disk mid_disk first mid_store counts
       → TakesEvent step noted mid_serves new_serves mid new turn.Tick → Looks new_serves mid_disk disk mid_store now by
-      → SoFar old_serves new_serves old new (count + 1) (every - 1) old_disk disk first now (counted by counts)
-  on_looked by old_serves mid_serves new_serves old mid new count left old_disk mid_disk disk first mid_store now counts due here laws so_far takes looks =
-      on_then old_serves mid_serves new_serves old mid new count left (every - 1) turn.Tick old_disk mid_disk disk first mid_store now
-      counts (counted by counts) so_far takes (λ body. left-due every left body due)
+      → SoFar Then old_serves new_serves old new (count + 1) (every - 1) old_disk disk first now (counted by counts)
+  on_looked Also Then by old_serves mid_serves new_serves old mid new count left old_disk mid_disk disk first mid_store now counts due here laws goes_on
+      so_far takes looks =
+      on_then Also Then old_serves mid_serves new_serves old mid new count left (every - 1) turn.Tick old_disk mid_disk disk first mid_store now
+      counts (counted by counts) goes_on so_far takes (λ body. left-due every left body due)
       (λ z over looked so_far.
       let body = of_world z.running.state.world in
       let P : List (List ℕ) → Type 0 = λ more. Looked old_disk disk first now (counted by counts) (looked ++ more) in
@@ -193,17 +220,17 @@ module _ {W C D : Type 0} (every : ℕ) (of_world : BodyOf W) (step : EventStep 
   }
 
   -- the bodies of these moves, with the look at their end
-  keeps_last : (by : SaveEnd) (r : KeptOn) (old_serves mid_serves new_serves : Standing W C → Type 0) (old mid : WireHistory) (count left : ℕ)
+  keeps_last : (Also : Standing W C → List Move → Type 0) (by : SaveEnd) (r : KeptOn) (old_serves mid_serves new_serves : Standing W C → Type 0) (old mid : WireHistory) (count left : ℕ)
       (old_disk mid_disk disk : D) (first mid_store now : StoreState) (counts : SaveCounts)
       → ((d : D) (file : List ℕ) → contents d ≡ Some file → may_leave d file)
       → ((d : D) (t : ℕ) (c : List ℕ) → t ≤ moment d → may_leave d c → left_since d t c)
       → r.last ≡ Some by → r.counts ≡ counted by counts
-      → (so_far : SoFar old_serves mid_serves old mid count left old_disk mid_disk first mid_store counts) → Stays mid_serves new_serves
+      → (so_far : SoFar Also old_serves mid_serves old mid count left old_disk mid_disk first mid_store counts) → Stays mid_serves new_serves
       → Looks new_serves mid_disk disk mid_store now by → IsReady contents may_leave disk now
       → (x : Standing W C) → StandsOver old_serves old.opened x
       → KeepsOn r (λ looked. looked ≡ bodies_to_end every of_world step x.running.state so_far.turns.moves)
       (of_world (state_after step x.running.state so_far.turns.moves).world) contents may_leave moment left_since old_disk disk first.standing
-  keeps_last by r old_serves mid_serves new_serves old mid count left old_disk mid_disk disk first mid_store now counts here laws last_is counts_are
+  keeps_last Also by r old_serves mid_serves new_serves old mid count left old_disk mid_disk disk first mid_store now counts here laws last_is counts_are
       so_far stays looks ready x over =
       let ms = so_far.turns.moves in
       let y = standing_after_all step noted x ms in
@@ -232,15 +259,15 @@ module _ {W C D : Type 0} (every : ℕ) (of_world : BodyOf W) (step : EventStep 
       }
 
   -- a run whose wire ended
-  pub ends_done : (r : KeptOn) (old_serves mid_serves new_serves : Standing W C → Type 0) (old : WireState) (mid : WireHistory) (new : WireState)
+  pub ends_done : (Also : Standing W C → List Move → Type 0) (r : KeptOn) (old_serves mid_serves new_serves : Standing W C → Type 0) (old : WireState) (mid : WireHistory) (new : WireState)
       (count left limit : ℕ) (old_disk mid_disk disk : D) (first mid_store now : StoreState) (counts : SaveCounts)
       → ((d : D) (file : List ℕ) → contents d ≡ Some file → may_leave d file)
       → ((d : D) (t : ℕ) (c : List ℕ) → t ≤ moment d → may_leave d c → left_since d t c)
-      → SoFar old_serves mid_serves old.history mid count left old_disk mid_disk first mid_store counts → count < limit
+      → SoFar Also old_serves mid_serves old.history mid count left old_disk mid_disk first mid_store counts → count < limit
       → new.history ≡ end_answered mid → Stays mid_serves new_serves
       → EndsByLook r end.Done counts (Looks new_serves mid_disk disk mid_store now) → IsReady contents may_leave disk now
       → Ends r old_serves new_serves old new limit old_disk disk first
-  ends_done r old_serves mid_serves new_serves old mid new count left limit old_disk mid_disk disk first mid_store now counts here laws so_far fewer ended
+  ends_done Also r old_serves mid_serves new_serves old mid new count left limit old_disk mid_disk disk first mid_store now counts here laws so_far fewer ended
       stays ends ready =
       let is : KeptOn = record { ended = end.Done; last = Some ends.by; counts = counted ends.by counts } in
       let P : KeptOn → Type 0 = λ e. Ends e old_serves new_serves old new limit old_disk disk first in
@@ -252,20 +279,20 @@ module _ {W C D : Type 0} (every : ℕ) (of_world : BodyOf W) (step : EventStep 
           turns = turns_to old_serves mid_serves new_serves old.history mid count so_far.turns stays;
           then_ = ended;
         };
-        keeps = λ x over. keeps_last ends.by is old_serves mid_serves new_serves old.history mid count left old_disk mid_disk disk first mid_store now
+        keeps = λ x over. keeps_last Also ends.by is old_serves mid_serves new_serves old.history mid count left old_disk mid_disk disk first mid_store now
             counts here laws refl refl so_far stays ends.looks ready x over;
       })
 
   -- one whose wire failed
-  pub ends_fault : (r : KeptOn) (old_serves mid_serves new_serves : Standing W C → Type 0) (old : WireState) (mid : WireHistory) (new : WireState)
+  pub ends_fault : (Also : Standing W C → List Move → Type 0) (r : KeptOn) (old_serves mid_serves new_serves : Standing W C → Type 0) (old : WireState) (mid : WireHistory) (new : WireState)
       (count left limit : ℕ) (old_disk mid_disk disk : D) (first mid_store now : StoreState) (counts : SaveCounts)
       → ((d : D) (file : List ℕ) → contents d ≡ Some file → may_leave d file)
       → ((d : D) (t : ℕ) (c : List ℕ) → t ≤ moment d → may_leave d c → left_since d t c)
-      → SoFar old_serves mid_serves old.history mid count left old_disk mid_disk first mid_store counts → count < limit
+      → SoFar Also old_serves mid_serves old.history mid count left old_disk mid_disk first mid_store counts → count < limit
       → Stops old new mid → Stays mid_serves new_serves
       → EndsByLook r end.LinkFault counts (Looks new_serves mid_disk disk mid_store now) → IsReady contents may_leave disk now
       → Ends r old_serves new_serves old new limit old_disk disk first
-  ends_fault r old_serves mid_serves new_serves old mid new count left limit old_disk mid_disk disk first mid_store now counts here laws so_far fewer stops
+  ends_fault Also r old_serves mid_serves new_serves old mid new count left limit old_disk mid_disk disk first mid_store now counts here laws so_far fewer stops
       stays ends ready =
       let is : KeptOn = record { ended = end.LinkFault; last = Some ends.by; counts = counted ends.by counts } in
       let P : KeptOn → Type 0 = λ e. Ends e old_serves new_serves old new limit old_disk disk first in
@@ -277,35 +304,35 @@ module _ {W C D : Type 0} (every : ℕ) (of_world : BodyOf W) (step : EventStep 
           turns = turns_to old_serves mid_serves new_serves old.history mid count so_far.turns stays;
           then_ = stops;
         };
-        keeps = λ x over. keeps_last ends.by is old_serves mid_serves new_serves old.history mid count left old_disk mid_disk disk first mid_store now
+        keeps = λ x over. keeps_last Also ends.by is old_serves mid_serves new_serves old.history mid count left old_disk mid_disk disk first mid_store now
             counts here laws refl refl so_far stays ends.looks ready x over;
       })
 
   -- one that took all turns that were allowed
-  pub ends_budget : (r : KeptOn) (old_serves new_serves : Standing W C → Type 0) (old new : WireState)
+  pub ends_budget : (Also : Standing W C → List Move → Type 0) (r : KeptOn) (old_serves new_serves : Standing W C → Type 0) (old new : WireState)
       (count left limit : ℕ) (old_disk mid_disk disk : D) (first mid_store now : StoreState) (counts : SaveCounts)
       → ((d : D) (file : List ℕ) → contents d ≡ Some file → may_leave d file)
       → ((d : D) (t : ℕ) (c : List ℕ) → t ≤ moment d → may_leave d c → left_since d t c)
-      → SoFar old_serves new_serves old.history new.history count left old_disk mid_disk first mid_store counts → count ≡ limit
+      → SoFar Also old_serves new_serves old.history new.history count left old_disk mid_disk first mid_store counts → count ≡ limit
       → EndsByLook r end.Budget counts (Looks new_serves mid_disk disk mid_store now) → IsReady contents may_leave disk now
       → Ends r old_serves new_serves old new limit old_disk disk first
-  ends_budget r old_serves new_serves old new count left limit old_disk mid_disk disk first mid_store now counts here laws so_far all ends ready =
+  ends_budget Also r old_serves new_serves old new count left limit old_disk mid_disk disk first mid_store now counts here laws so_far all ends ready =
       let is : KeptOn = record { ended = end.Budget; last = Some ends.by; counts = counted ends.by counts } in
       let P : KeptOn → Type 0 = λ e. Ends e old_serves new_serves old new limit old_disk disk first in
       let turns = so_far.turns in
       subst P (sym ends.is) (record {
         serve = record { moves = turns.moves; logged = turns.logged; events = turns.events ∙ all; stands = turns.stands; are = turns.are };
-        keeps = λ x over. keeps_last ends.by is old_serves new_serves new_serves old.history new.history count left old_disk mid_disk disk first mid_store
+        keeps = λ x over. keeps_last Also ends.by is old_serves new_serves new_serves old.history new.history count left old_disk mid_disk disk first mid_store
             now counts here laws refl refl so_far (λ y stands. stands) ends.looks ready x over;
       })
 
   -- one that memory ended
-  pub ends_memory : (old_serves mid_serves new_serves : Standing W C → Type 0) (old : WireState) (mid : WireHistory) (new : WireState)
+  pub ends_memory : (Also : Standing W C → List Move → Type 0) (old_serves mid_serves new_serves : Standing W C → Type 0) (old : WireState) (mid : WireHistory) (new : WireState)
       (count left limit : ℕ) (old_disk disk : D) (first now : StoreState) (counts : SaveCounts)
-      → SoFar old_serves mid_serves old.history mid count left old_disk disk first now counts → count < limit
+      → SoFar Also old_serves mid_serves old.history mid count left old_disk disk first now counts → count < limit
       → BreaksTurn step noted mid_serves mid new.history 1 → IsReady contents may_leave disk now
       → Ends (record { ended = end.Memory; last = None; counts = counts }) old_serves new_serves old new limit old_disk disk first
-  ends_memory old_serves mid_serves new_serves old mid new count left limit old_disk disk first now counts so_far fewer breaks ready =
+  ends_memory Also old_serves mid_serves new_serves old mid new count left limit old_disk disk first now counts so_far fewer breaks ready =
       let turns = so_far.turns in
       let ms = turns.moves in
       let ns = breaks.breaks.moves in

@@ -73,16 +73,27 @@ module _ {W C : Type 0} (every : ℕ) (body_of : BodyOf W) (step : EventStep W C
   pace_then left then_ now bodies more all is pace next =
       next ∙ (ap (λ n. left_behind every n more) pace ∙ (sym (left-append every now bodies more) ∙ ap (left_behind every now) (sym is)))
 
+  -- what else holds of some moves goes on with the moves of a turn, and with these saves of what is looked at behind it
+  abbrev pub AlsoThen : (Standing W C → List Move → Type 0) → (Standing W C → List Move → Type 0) → (Standing W C → Type 0) → Option (List ℕ)
+      → WireHistory → WireHistory → ℕ → Turn → List (List ℕ) → Type 0
+  AlsoThen Also Then new_serves stood old new left tells saves = (x z : Standing W C) (ms ns : List Move)
+      → events_in ns ≡ 1 → new ≡ history_after old (ms ++ ns) → StandsOver new_serves new.opened z
+      → bodies_looked_at every body_of step x.running.state (ms ++ ns)
+      ≡ bodies_looked_at every body_of step x.running.state ms ++ paced every left (bodies_of_turn tells (body_of z.running.state.world))
+      → saves ≡ saves_in stood (bodies_looked_at every body_of step x.running.state (ms ++ ns))
+      → Also x ms → Then x (ms ++ ns)
+
   -- a turn more
-  pub keeps_then : (old_serves mid_serves new_serves : Standing W C → Type 0) (stood : Option (List ℕ))
+  pub keeps_then : (Also Then : Standing W C → List Move → Type 0) (old_serves mid_serves new_serves : Standing W C → Type 0) (stood : Option (List ℕ))
       (old mid new : WireHistory) (count left then_ : ℕ) (tells : Turn) (saves more : List (List ℕ))
-      → KeepsPaced every body_of step noted old_serves mid_serves stood old mid count left saves
+      → AlsoThen Also Then new_serves stood old new left tells (saves ++ more)
+      → KeepsPaced Also every body_of step noted old_serves mid_serves stood old mid count left saves
       → TakesEvent step noted mid_serves new_serves mid new tells
       → ((body : List ℕ) → then_ ≡ left_behind every left (bodies_of_turn tells body))
       → ((z : Standing W C) → StandsOver new_serves new.opened z
       → saves_in (last_of stood saves) (paced every left (bodies_of_turn tells (body_of z.running.state.world))) ≡ more)
-      → KeepsPaced every body_of step noted old_serves new_serves stood old new (count + 1) then_ (saves ++ more)
-  keeps_then old_serves mid_serves new_serves stood old mid new count left then_ tells saves more so_far takes next adds =
+      → KeepsPaced Then every body_of step noted old_serves new_serves stood old new (count + 1) then_ (saves ++ more)
+  keeps_then Also Then old_serves mid_serves new_serves stood old mid new count left then_ tells saves more goes_on so_far takes next adds =
       let keeps = so_far.keeps in
       let ms = keeps.turns.moves in
       let ns = takes.leads.moves in
@@ -90,11 +101,23 @@ module _ {W C : Type 0} (every : ℕ) (body_of : BodyOf W) (step : EventStep W C
       let y = standing_after_all step noted x ms in
       bodies_then x y (standing_after_all step noted y ns) takes.event tells ms ns (state_played step noted x ms) (state_played step noted y ns)
       takes.kind (turn_bodies body_of step takes.event y.running ns (takes.leads.are y (keeps.turns.stands x over)) takes.leads.events) in
+      let logged : new ≡ history_after old (ms ++ ns) =
+      takes.leads.logged ∙ (ap (λ h. history_after h ns) keeps.turns.logged ∙ sym (history-append old ms ns)) in
+      let looked = λ (x : Standing W C) (over : StandsOver old_serves old.opened x).
+      let z = standing_after_all step noted (standing_after_all step noted x ms) ns in
+      looked_then left (every - 1) (bodies_at_ticks body_of step x.running.state ms) (bodies_of_turn tells (body_of z.running.state.world))
+      (bodies_at_ticks body_of step x.running.state (ms ++ ns)) (bodies x over) (so_far.pace x over) in
+      let saved = λ (x : Standing W C) (over : StandsOver old_serves old.opened x).
+      let y = standing_after_all step noted x ms in
+      let z = standing_after_all step noted y ns in
+      saves_more stood saves (bodies_looked_at every body_of step x.running.state ms) (paced every left (bodies_of_turn tells (body_of z.running.state.world)))
+      more (bodies_looked_at every body_of step x.running.state (ms ++ ns)) (keeps.are x over)
+      (adds z (takes.leads.stands y (keeps.turns.stands x over))) (looked x over) in
       record {
         keeps = record {
           turns = record {
             moves = ms ++ ns;
-            logged = takes.leads.logged ∙ (ap (λ h. history_after h ns) keeps.turns.logged ∙ sym (history-append old ms ns));
+            logged = logged;
             events = events-append ms ns ∙ (ap (λ k. k + events_in ns) keeps.turns.events ∙ ap (λ k. count + k) takes.leads.events);
             stands = λ x over. subst (StandsOver new_serves new.opened) (sym (standing-append step noted x ms ns))
                 (takes.leads.stands (standing_after_all step noted x ms) (keeps.turns.stands x over));
@@ -103,22 +126,32 @@ module _ {W C : Type 0} (every : ℕ) (body_of : BodyOf W) (step : EventStep W C
                 turns_then step takes.event x.running ms ns (keeps.turns.are x over)
                 (subst P (standing-running step noted x ms) (takes.leads.are (standing_after_all step noted x ms) (keeps.turns.stands x over)));
           };
-          are = λ x over.
-              let y = standing_after_all step noted x ms in
-              let z = standing_after_all step noted y ns in
-              let first = bodies_at_ticks body_of step x.running.state ms in
-              let behind = bodies_of_turn tells (body_of z.running.state.world) in
-              saves_more stood saves (bodies_looked_at every body_of step x.running.state ms) (paced every left behind) more
-              (bodies_looked_at every body_of step x.running.state (ms ++ ns)) (keeps.are x over)
-              (adds z (takes.leads.stands y (keeps.turns.stands x over)))
-              (looked_then left (every - 1) first behind (bodies_at_ticks body_of step x.running.state (ms ++ ns)) (bodies x over) (so_far.pace x over));
+          are = saved;
         };
         pace = λ x over.
             let z = standing_after_all step noted (standing_after_all step noted x ms) ns in
             let body = body_of z.running.state.world in
             pace_then left then_ (every - 1) (bodies_at_ticks body_of step x.running.state ms) (bodies_of_turn tells body)
             (bodies_at_ticks body_of step x.running.state (ms ++ ns)) (bodies x over) (so_far.pace x over) (next body);
+        also = λ x over.
+            let y = standing_after_all step noted x ms in
+            goes_on x (standing_after_all step noted y ns) ms ns takes.leads.events logged (takes.leads.stands y (keeps.turns.stands x over))
+            (looked x over) (saved x over) (so_far.also x over);
       }
+
+  -- the saves among the bodies up to the end
+  pub saves_to_end : (old_serves new_serves : Standing W C → Type 0) (stood : Option (List ℕ)) (old new : WireHistory) (count : ℕ) (saves more : List (List ℕ))
+      → (keeps : Keeps step noted old_serves new_serves (bodies_looked_at every body_of step) stood old new count saves)
+      → ((z : Standing W C) → StandsOver new_serves new.opened z → saves_in (last_of stood saves) (body_of z.running.state.world ∷ []) ≡ more)
+      → (x : Standing W C) → StandsOver old_serves old.opened x
+      → saves ++ more ≡ saves_in stood (bodies_to_end every body_of step x.running.state keeps.turns.moves)
+  saves_to_end old_serves new_serves stood old new count saves more keeps adds x over =
+      let ms = keeps.turns.moves in
+      let y = standing_after_all step noted x ms in
+      let first = bodies_looked_at every body_of step x.running.state ms in
+      saves_more stood saves first (body_of y.running.state.world ∷ []) more
+      (bodies_to_end every body_of step x.running.state ms) (keeps.are x over) (adds y (keeps.turns.stands x over))
+      (ap (λ (s : MachineState W C). first ++ body_of s.world ∷ []) (sym (state_played step noted x ms)))
 
   -- the end
   pub keeps_last : (old_serves new_serves : Standing W C → Type 0) (stood : Option (List ℕ)) (old new : WireHistory) (count : ℕ) (saves more : List (List ℕ))
@@ -127,13 +160,7 @@ module _ {W C : Type 0} (every : ℕ) (body_of : BodyOf W) (step : EventStep W C
       → Keeps step noted old_serves new_serves (bodies_to_end every body_of step) stood old new count (saves ++ more)
   keeps_last old_serves new_serves stood old new count saves more keeps adds = record {
     turns = keeps.turns;
-    are = λ x over.
-        let ms = keeps.turns.moves in
-        let y = standing_after_all step noted x ms in
-        let first = bodies_looked_at every body_of step x.running.state ms in
-        saves_more stood saves first (body_of y.running.state.world ∷ []) more
-        (bodies_to_end every body_of step x.running.state ms) (keeps.are x over) (adds y (keeps.turns.stands x over))
-        (ap (λ (s : MachineState W C). first ++ body_of s.world ∷ []) (sym (state_played step noted x ms)));
+    are = saves_to_end old_serves new_serves stood old new count saves more keeps adds;
   }
 
   -- what is served may be seen otherwise
@@ -153,13 +180,14 @@ module _ {W C : Type 0} (every : ℕ) (body_of : BodyOf W) (step : EventStep W C
   }
 
   -- no turn
-  pub keeps_none : (serves : Standing W C → Type 0) (stood : Option (List ℕ)) (h : WireHistory)
-      → KeepsPaced every body_of step noted serves serves stood h h 0 (every - 1) []
+  pub keeps_none : (Also : Standing W C → List Move → Type 0) (serves : Standing W C → Type 0) (stood : Option (List ℕ)) (h : WireHistory)
+      → ((x : Standing W C) → Also x []) → KeepsPaced Also every body_of step noted serves serves stood h h 0 (every - 1) []
   unfolding history_after standing_after_all bodies_at_ticks saves_in paced left_behind
-  keeps_none serves stood h = record {
+  keeps_none Also serves stood h also = record {
     keeps = record {
       turns = record { moves = []; logged = refl; events = refl; stands = λ x over. over; are = λ x over. turns_none step x.running };
       are = λ x over. refl;
     };
     pace = λ x over. refl;
+    also = λ x over. also x;
   }

@@ -4,4 +4,5 @@ pub mod Ending
 pub mod Keeping
 pub mod Wanting
 pub mod KeepingOn
+pub mod Marking
 pub mod Looking

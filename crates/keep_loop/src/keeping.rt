@@ -1,13 +1,15 @@
 //! The loop: turns, and a save after each so manieth tick and at the end.
 
-ghost use Rattle.std.specs.Prelude.{◌≡◌, ◌≤◌, ◌<◌, ◌+◌, ◌^◌, false, None};
+ghost use Rattle.std.specs.Prelude.{◌≡◌, ◌≤◌, ◌<◌, ◌+◌, ◌^◌, List, false, None};
 ghost use Rattle.ads_outside.specs.Rose.{Rose};
 ghost use Rattle.ads_served.specs.Standing.{Standing};
+ghost use Rattle.persist_store.specs.Marks.{Mark};
 ghost use Rattle.persist_store.specs.Store.{IsReady, body_of};
 ghost use Rattle.keep_loop.specs.Ending.{EndsBySave, end_of};
 ghost use Rattle.serve_loop.specs.TurnTaken.{StandsOver};
 ghost use Rattle.keep_loop.specs.Saving.{LeavesEach, StandsForSome};
 ghost use Rattle.keep_loop.specs.Keeping.{AfterKeep, TookTurns, CountsSaves, StandsAtEnd};
+ghost use Rattle.keep_loop.specs.Marking.{HoldsSaves, MarksRun, MarksMore, MarksAtEnd, is_to_end};
 ghost use Rattle.keep_loop.specs.Wanting.{WantsToKeep};
 
 use crate::run_end::RunEnd;
@@ -43,6 +45,11 @@ pub fn keep_turns<T: Threads + Sync, W: Wire, M: Persistent, D: Disk>(
         (LeavesEach D.contents D.moment D.left_since disk.old disk.new store.old.standing)
         (CountsSaves result store.old.standing)
         (StandsAtEnd result D.contents D.may_leave disk.old disk.new store.old.standing) }
+    // Behind which moves of the wire each save stands, as may be told of the disk.
+    ensures marks { (x : Standing M.World M.Client) → StandsOver (M.serves served.old) (W.state wire.old).history.opened x
+        → (marks : List Mark) → D.marked disk.old marks
+        → MarksMore (D.marked disk.new) marks (MarksRun (is_to_end result) every M.body_of M.steps x.running.state
+        (HoldsSaves (D.contents disk.old) store.old.standing) (W.state wire.old).history (W.state wire.new).history) }
     ensures untold { D.contents disk.old ≡ None → D.contents disk.new ≡ None }
     ensures kept { W.kept wire.new ≡ W.kept wire.old }
     // Why it ended.
@@ -60,8 +67,12 @@ pub fn keep_turns<T: Threads + Sync, W: Wire, M: Persistent, D: Disk>(
         match served.turn(rt, alloc, wire) {
             Turn::Tick if left > 0 => left -= 1,
             Turn::Tick => match save_body(alloc, served, store, disk) {
-                SaveEnd::Same => left = every - 1,
+                SaveEnd::Same => {
+                    disk.mark(wire);
+                    left = every - 1;
+                }
                 SaveEnd::Saved => {
+                    disk.mark(wire);
                     saved += 1;
                     left = every - 1;
                 }
@@ -70,20 +81,23 @@ pub fn keep_turns<T: Threads + Sync, W: Wire, M: Persistent, D: Disk>(
                 SaveEnd::Memory => return KeepEnd::Memory,
             },
             Turn::Other => {}
-            Turn::End => return save_last(alloc, served, store, disk, RunEnd::Done, saved),
+            Turn::End => {
+                return save_last(alloc, served, wire, store, disk, RunEnd::Done, saved);
+            }
             Turn::LinkFault => {
-                return save_last(alloc, served, store, disk, RunEnd::LinkFault, saved);
+                return save_last(alloc, served, wire, store, disk, RunEnd::LinkFault, saved);
             }
             Turn::Memory => return KeepEnd::Memory,
         }
     }
-    save_last(alloc, served, store, disk, RunEnd::Budget, saved)
+    save_last(alloc, served, wire, store, disk, RunEnd::Budget, saved)
 }
 
 // The save at the end of a run whose turns ended so, with so many saves.
-fn save_last<M: Persistent, D: Disk>(
+fn save_last<W: Wire, M: Persistent, D: Disk>(
     alloc: Global,
     served: &M,
+    wire: &W,
     store: &mut Store,
     disk: &mut D,
     ended: RunEnd,
@@ -98,12 +112,19 @@ fn save_last<M: Persistent, D: Disk>(
     ensures ready { IsReady D.contents D.may_leave disk.new store.new }
     ensures untold { D.contents disk.old ≡ None → D.contents disk.new ≡ None }
     ensures names { D.names disk.new ≡ D.names disk.old }
+    ensures marks { MarksAtEnd (is_to_end result) D.marked disk.old disk.new (W.state wire.now).history (D.contents disk.new) }
     ensures later { D.fault_count disk.old ≤ D.fault_count disk.new }
     ensures failed { result ≡ KeepEnd.StoreFault → Rose (D.fault_count disk.old) (D.fault_count disk.new) }
 {
     match save_body(alloc, served, store, disk) {
-        SaveEnd::Same => end_of(ended, saved),
-        SaveEnd::Saved => end_of(ended, saved + 1),
+        SaveEnd::Same => {
+            disk.mark(wire);
+            end_of(ended, saved)
+        }
+        SaveEnd::Saved => {
+            disk.mark(wire);
+            end_of(ended, saved + 1)
+        }
         SaveEnd::Failed => KeepEnd::StoreFault,
         SaveEnd::Limit => KeepEnd::StoreLimit,
         SaveEnd::Memory => KeepEnd::Memory,

@@ -5,6 +5,7 @@ ghost use Rattle.ads_outside.specs.Rose.{Rose};
 ghost use Rattle.ads_served.specs.Standing.{Standing};
 ghost use Rattle.spec_store.specs.Disk.{LeavesOnly};
 ghost use Rattle.persist_store.specs.Disk.{OpensOnly};
+ghost use Rattle.persist_store.specs.Marks.{MarksStay};
 ghost use Rattle.persist_store.specs.Store.{IsReady};
 ghost use Rattle.keep_loop.specs.Looking.{AfterLook, Reopens};
 ghost use Rattle.keep_loop.specs.Saving.{StandsForSome};
@@ -33,6 +34,7 @@ pub(crate) fn look<M: Persistent, D: Disk, N: SaveNotes>(
     ensures ready { IsReady D.contents D.may_leave disk.new store.new }
     ensures untold { D.contents disk.old ≡ None → D.contents disk.new ≡ None }
     ensures named { OpensOnly (D.names disk.old) (D.names disk.new) name.now }
+    ensures marks { MarksStay D.marked disk.old disk.new }
     ensures later { D.fault_count disk.old ≤ D.fault_count disk.new }
     ensures failed { result ≡ SaveEnd.Failed → Rose (D.fault_count disk.old) (D.fault_count disk.new) }
 {
@@ -56,6 +58,7 @@ fn look_again<M: Persistent, D: Disk>(
     ensures ready { IsReady D.contents D.may_leave disk.new store.new }
     ensures untold { D.contents disk.old ≡ None → D.contents disk.new ≡ None }
     ensures named { OpensOnly (D.names disk.old) (D.names disk.new) name.now }
+    ensures marks { MarksStay D.marked disk.old disk.new }
     ensures later { D.fault_count disk.old ≤ D.fault_count disk.new }
     ensures failed { result ≡ SaveEnd.Failed → Rose (D.fault_count disk.old) (D.fault_count disk.new) }
 {
@@ -73,6 +76,7 @@ fn open_again<D: Disk>(alloc: Global, store: &mut Store, disk: &mut D, name: &st
     ensures opens { Reopens D.contents D.may_leave D.moment D.left_since disk.old disk.new store.old store.new }
     ensures open { result ≡ Reopened.Open → store.new.shut ≡ false }
     ensures named { OpensOnly (D.names disk.old) (D.names disk.new) name.now }
+    ensures marks { MarksStay D.marked disk.old disk.new }
     ensures later { D.fault_count disk.old ≤ D.fault_count disk.new }
     ensures failed { result ≡ Reopened.Failed → Rose (D.fault_count disk.old) (D.fault_count disk.new) }
 {

@@ -4,6 +4,7 @@ ghost use Rattle.std.specs.Prelude.{◌≡◌, ◌≤◌, ◌<◌, true, false, 
 ghost use Rattle.ads_outside.specs.Rose.{Rose};
 ghost use Rattle.ads_served.specs.Standing.{Standing};
 ghost use Rattle.spec_store.specs.BodyText.{is_body_text};
+ghost use Rattle.persist_store.specs.Marks.{MarksStay};
 ghost use Rattle.persist_store.specs.Store.{IsReady, body_of};
 ghost use Rattle.keep_loop.specs.Bodies.{is_standing};
 ghost use Rattle.keep_loop.specs.Saving.{AfterSave, StandsForSome};
@@ -30,6 +31,7 @@ pub(crate) fn save_body<M: Persistent, D: Disk>(
     ensures untold { D.contents disk.old ≡ None → D.contents disk.new ≡ None }
     ensures told { D.contents disk.new ≡ None → D.contents disk.old ≡ None }
     ensures names { D.names disk.new ≡ D.names disk.old }
+    ensures marks { MarksStay D.marked disk.old disk.new }
     ensures later { D.fault_count disk.old ≤ D.fault_count disk.new }
     ensures failed { result ≡ SaveEnd.Failed → Rose (D.fault_count disk.old) (D.fault_count disk.new) }
 {
@@ -67,6 +69,7 @@ fn save_made<M: Persistent, D: Disk>(
     ensures untold { D.contents disk.old ≡ None → D.contents disk.new ≡ None }
     ensures told { D.contents disk.new ≡ None → D.contents disk.old ≡ None }
     ensures names { D.names disk.new ≡ D.names disk.old }
+    ensures marks { MarksStay D.marked disk.old disk.new }
     ensures later { D.fault_count disk.old ≤ D.fault_count disk.new }
     ensures failed { result ≡ SaveEnd.Failed → Rose (D.fault_count disk.old) (D.fault_count disk.new) }
 {
@@ -87,6 +90,7 @@ fn save_new<D: Disk>(alloc: Global, store: &mut Store, disk: &mut D, body: &[u8]
     ensures untold { D.contents disk.old ≡ None → D.contents disk.new ≡ None }
     ensures told { D.contents disk.new ≡ None → D.contents disk.old ≡ None }
     ensures names { D.names disk.new ≡ D.names disk.old }
+    ensures marks { MarksStay D.marked disk.old disk.new }
     ensures later { D.fault_count disk.old ≤ D.fault_count disk.new }
     ensures failed { result ≡ SaveEnd.Failed → Rose (D.fault_count disk.old) (D.fault_count disk.new) }
 {

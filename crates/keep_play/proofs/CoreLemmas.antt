@@ -25,13 +25,16 @@ use Rattle.replay_script.proofs.StandingPlayed.{state_played, notes_played}
 use Rattle.server_core.specs.CoreState.{started}
 use Rattle.server_core.specs.Served.{World, Client, served, served_step}
 use Rattle.server_core.specs.Serves.{CoreView, Serves, HasCounts, StandsAt}
+use Rattle.persist_store.specs.Marks.{Mark}
 use Rattle.keep_loop.specs.Keeping.{FileStandsFor}
+use Rattle.keep_loop.specs.Marking.{MarksMore}
 use Rattle.keep_loop.specs.Saving.{LeavesEach}
 use Rattle.stored_values.specs.StoredBodies.{entries_stored}
 use Rattle.keep_play.specs.declared.played.Played.{Played}
 use Rattle.keep_play.specs.declared.kept_play.KeptPlay.{KeptPlay}
 use Rattle.keep_play.specs.Begun.{begun}
 use Rattle.keep_play.specs.KeptDisk.{DiskUse, disk_used, FileStands}
+use Rattle.keep_play.specs.KeptMarks.{MarksScript, MarksOver, MarkedOver, AllMarked}
 use Rattle.keep_play.specs.KeptPlay.{AllSaved, EndsSo}
 use Rattle.keep_play.specs.KeptSaves.{body_standing, body_of_world, description_kept, saves_over, saves_of_play, saved_line, saved_text, kept_text}
 use Rattle.keep_play.specs.KeptScript.{saves_of_script, ServesUnused, StandsAfter, IsWholePlay, EndsPlay}
@@ -66,22 +69,38 @@ core_left contents moment left_since old new standing d waves lines stood left =
     subst P (saves_are d waves lines stood) left
 
 pub core_ends : (end : Played) (new : CoreView) (d : Description) (waves : List Wave) (lines : List ScriptLine) (standing : Option slots.Standing)
-    (stood : Option (List ℕ)) (Stands : List (List ℕ) → Type 0)
+    (stood : Option (List ℕ)) (Stands : List (List ℕ) → Type 0) (Marked : Type 0)
     → EndsPlay end served_step (notes_of_event served) (StandsAt new) (begun d waves) lines standing
-    (saves_of_script body_of_world served_step (begun d waves).running.state lines stood) Stands
-    → EndsPlay end served_step (notes_of_event served) (StandsAt new) (begun d waves) lines standing (saves_over d waves lines stood) Stands
-core_ends end new d waves lines standing stood Stands ends =
-    let P : List (List ℕ) → Type 0 = λ saves. EndsPlay end served_step (notes_of_event served) (StandsAt new) (begun d waves) lines standing saves Stands in
+    (saves_of_script body_of_world served_step (begun d waves).running.state lines stood) Stands Marked
+    → EndsPlay end served_step (notes_of_event served) (StandsAt new) (begun d waves) lines standing (saves_over d waves lines stood) Stands Marked
+core_ends end new d waves lines standing stood Stands Marked ends =
+    let P : List (List ℕ) → Type 0 =
+    λ saves. EndsPlay end served_step (notes_of_event served) (StandsAt new) (begun d waves) lines standing saves Stands Marked in
     subst P (saves_are d waves lines stood) ends
+
+-- the marks of the core's play are those of the server's
+marks_are : (d : Description) (waves : List Wave) (lines : List ScriptLine) (told : Option (List ℕ)) (standing : Option slots.Standing) (marks : List Mark)
+    → MarksScript body_of_world served_step (begun d waves).running.state lines told standing marks → MarksOver d waves lines told standing marks
+unfolding served
+marks_are d waves lines told standing marks are = are
+
+pub core_marked : (Marked Now : List Mark → Type 0) (d : Description) (waves : List Wave) (lines : List ScriptLine) (told : Option (List ℕ))
+    (standing : Option slots.Standing)
+    → ((marks : List Mark) → Marked marks
+    → MarksMore Now marks (MarksScript body_of_world served_step (begun d waves).running.state lines told standing))
+    → (marks : List Mark) → Marked marks → MarksMore Now marks (MarksOver d waves lines told standing)
+core_marked Marked Now d waves lines told standing marked marks here =
+    let m = marked marks here in
+    record { more = m.more; told = m.told; are = marks_are d waves lines told standing m.more m.are }
 
 -- what the core's log, its counts and the number of saves come to
 pub text_saved : (inside new : CoreView) (d : Description) (waves : List Wave) (lines : List ScriptLine) (log : List Move) (count : ℕ) (text : List ℕ)
-    (standing : Option slots.Standing) (saves : List (List ℕ)) (Stands : List (List ℕ) → Type 0)
-    → inside ≡ new → IsWholePlay served_step (notes_of_event served) (StandsAt new) (begun d waves) lines log count standing saves Stands
+    (standing : Option slots.Standing) (saves : List (List ℕ)) (Stands : List (List ℕ) → Type 0) (Marked : Type 0)
+    → inside ≡ new → IsWholePlay served_step (notes_of_event served) (StandsAt new) (begun d waves) lines log count standing saves Stands Marked
     → ((x : Standing World Client) → StandsAt inside x → text ≡ (log_text_of x.notes log ++ summary_text_of (summary_of x.running.state)) ++ saved_line count)
     → text ≡ saved_text d waves lines (length saves)
 unfolding served
-text_saved inside new d waves lines log count text standing saves Stands same whole told =
+text_saved inside new d waves lines log count text standing saves Stands Marked same whole told =
     let x = begun d waves in
     let y = standing_after_all served_step (notes_of_event served) x log in
     let notes : y.notes ≡ notes_of served (server_start d waves) log = notes_played served x log in
@@ -94,9 +113,9 @@ text_saved inside new d waves lines log count text standing saves Stands same wh
     ∙ ap (λ n. server_text d waves lines ++ saved_line n) whole.counted)))
 
 file_stands : {D : Type 0} (contents : D → Option (List ℕ)) (may_leave : D → List ℕ → Type 0) (moment : D → ℕ) (left_since : D → ℕ → List ℕ → Type 0)
-    (faults : D → ℕ) (old new : D) (standing : Option slots.Standing)
-    → FileStandsFor contents may_leave new standing → FileStands (disk_used contents may_leave moment left_since faults old new) standing
-file_stands contents may_leave moment left_since faults old new standing f = record {
+    (marked : D → List Mark → Type 0) (faults : D → ℕ) (old new : D) (standing : Option slots.Standing)
+    → FileStandsFor contents may_leave new standing → FileStands (disk_used contents may_leave moment left_since marked faults old new) standing
+file_stands contents may_leave moment left_since marked faults old new standing f = record {
   file = f.now;
   told = f.here.told;
   only = f.here.only;
@@ -104,15 +123,15 @@ file_stands contents may_leave moment left_since faults old new standing f = rec
 }
 
 pub all_saved : {D : Type 0} (contents : D → Option (List ℕ)) (may_leave : D → List ℕ → Type 0) (moment : D → ℕ) (left_since : D → ℕ → List ℕ → Type 0)
-    (faults : D → ℕ) (old new : D)
+    (marked : D → List Mark → Type 0) (faults : D → ℕ) (old new : D)
     (core : CoreView) (d : Description) (waves : List Wave) (lines : List ScriptLine) (log : List Move) (count : ℕ) (standing : Option slots.Standing)
-    (saves : List (List ℕ))
+    (saves : List (List ℕ)) (Marked : Type 0)
     → IsWholePlay served_step (notes_of_event served) (StandsAt core) (begun d waves) lines log count standing saves
-    (StandsAfter contents may_leave old new standing)
-    → AllSaved (disk_used contents may_leave moment left_since faults old new) standing saves
-all_saved contents may_leave moment left_since faults old new core d waves lines log count standing saves whole = record {
+    (StandsAfter contents may_leave old new standing) Marked
+    → AllSaved (disk_used contents may_leave moment left_since marked faults old new) standing saves
+all_saved contents may_leave moment left_since marked faults old new core d waves lines log count standing saves Marked whole = record {
   within = whole.within;
-  stands = λ file told. file_stands contents may_leave moment left_since faults old new _ (whole.stands file told);
+  stands = λ file told. file_stands contents may_leave moment left_since marked faults old new _ (whole.stands file told);
 }
 
 -- the description that the server begins with
@@ -135,11 +154,13 @@ left_kept contents moment left_since old new d stored waves lines standing is le
 
 pub ends_kept : (result : Result KeptPlay NoMemory) (disk : DiskUse) (d stored : Description) (waves : List Wave) (lines : List ScriptLine)
     (standing : Option slots.Standing) → stored ≡ description_kept d standing
-    → IfOk result (λ end. EndsSo (saved_text stored waves lines (length (saves_over stored waves lines (body_standing standing)))) disk end standing
+    → IfOk result (λ end. EndsSo (saved_text stored waves lines (length (saves_over stored waves lines (body_standing standing))))
+    (MarkedOver stored waves lines disk standing) disk end standing
     (saves_over stored waves lines (body_standing standing)))
-    → IfOk result (λ end. EndsSo (kept_text d waves lines standing) disk end standing (saves_of_play d waves lines standing))
+    → IfOk result (λ end. EndsSo (kept_text d waves lines standing) (AllMarked d waves lines disk standing) disk end standing (saves_of_play d waves lines standing))
 ends_kept (Ok end) disk d stored waves lines standing is ends =
-    let P : Description → Type 0 = λ x. EndsSo (saved_text x waves lines (length (saves_over x waves lines (body_standing standing)))) disk end standing
+    let P : Description → Type 0 = λ x. EndsSo (saved_text x waves lines (length (saves_over x waves lines (body_standing standing))))
+    (MarkedOver x waves lines disk standing) disk end standing
     (saves_over x waves lines (body_standing standing)) in
     subst P is ends
 ends_kept (Err e) disk d stored waves lines standing is ends = ends

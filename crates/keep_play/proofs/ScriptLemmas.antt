@@ -28,15 +28,18 @@ use Rattle.spec_store.specs.Slots as slots
 use Rattle.spec_store.specs.Slots.{standing_of}
 use Rattle.spec_store.specs.Runs as runs
 use Rattle.spec_store.specs.Runs.{IsOneOf}
+use Rattle.persist_store.specs.Marks.{Mark}
 use Rattle.persist_store.specs.Store.{StoreState, IsReady}
 use Rattle.persist_store.proofs.Moments.{started}
 use Rattle.keep_loop.specs.Bodies.{BodyOf, bodies_at_ticks, paced, bodies_looked_at, bodies_to_end, bodies_of_run, saves_in, is_any_over}
 use Rattle.keep_loop.specs.declared.keep_end.KeepEnd.TheVariants as keep
 use Rattle.keep_loop.specs.declared.run_end.RunEnd.TheVariants as run
 use Rattle.keep_loop.specs.Keeping.{Keeps, KeepsBefore, EndsAfter, BreaksOff, StopsInSave, TookTurns, CountsSaves, StandsAtEnd, AfterKeep}
+use Rattle.keep_loop.specs.Marking.{HoldsSaves, MarksLook, AreMarks, IsBehind, MarksRun, MarksMore}
 use Rattle.keep_loop.specs.Saving.{LeavesEach, StandsForSome}
 use Rattle.keep_loop.proofs.BodyLemmas.{bodies_begin}
 use Rattle.keep_loop.proofs.SaveLemmas.{last_of, saves-append, over-append, left_more, first_standing}
+use Rattle.keep_play.specs.KeptMarks.{HasLogged, MarksPlay, MarksScript}
 use Rattle.keep_play.specs.KeptScript.{saves_of_script, ServesUnused, StandsAfter, IsWholePlay}
 
 none_found : {C : Type 0} (n : ℕ) (ks : List (Connection C)) → ks ≡ [] → connection_of n ks ≡ None
@@ -245,13 +248,14 @@ module _ {W C D : Type 0} (body_of : BodyOf W) (step : EventStep W C) (noted : N
 
   -- all was played and saved
   pub done_whole : (count : ℕ) (old_serves new_serves : Standing W C → Type 0) (lines : List ScriptLine) (old new : PlayedScript) (log : List Move)
-      (stood : Option (List ℕ)) (limit : ℕ) (standing : Option slots.Standing) (old_disk new_disk : D) → IsWireOf lines old new log
+      (stood : Option (List ℕ)) (limit : ℕ) (standing : Option slots.Standing) (old_disk new_disk : D) (Marked : Type 0) → IsWireOf lines old new log
       → AfterKeep (TookTurns (keep.Done count) 1 body_of step noted old_serves new_serves stood (state_of_played old) (state_of_played new) limit)
       (LeavesEach contents moment left_since old_disk new_disk standing) (CountsSaves (keep.Done count) standing)
       (StandsAtEnd (keep.Done count) contents may_leave old_disk new_disk standing)
-      → (x : Standing W C) → old_serves x → IsUnused x
+      → (x : Standing W C) → old_serves x → IsUnused x → (log ≡ play_of step x.running.state lines → Marked)
       → IsWholePlay step noted new_serves x lines log count standing (whole_of x lines stood) (StandsAfter contents may_leave old_disk new_disk standing)
-  done_whole count old_serves new_serves lines old new log stood limit standing old_disk new_disk wire kept x stands unused =
+      Marked
+  done_whole count old_serves new_serves lines old new log stood limit standing old_disk new_disk Marked wire kept x stands unused marked =
       let played = play_whole body_of step noted old_serves new_serves lines old new log stood limit kept.saves wire kept.took x stands unused in
       let S : List (List ℕ) → Type 0 = λ saves. StandsAfter contents may_leave old_disk new_disk standing saves in
       record {
@@ -259,6 +263,7 @@ module _ {W C D : Type 0} (body_of : BodyOf W) (step : EventStep W C) (noted : N
         counted = kept.counted.0 ∙ ap length played.1;
         within = ap (is_any_over standing) (sym played.1) ∙ kept.counted.1;
         stands = subst S played.1 kept.stands;
+        marked = marked played.0.is;
       }
 
   pub done_left : (old_serves new_serves : Standing W C → Type 0) (lines : List ScriptLine) (old new : PlayedScript) (log : List Move)
@@ -318,3 +323,59 @@ left_none contents may_leave moment left_since disk store saves only ready open_
     let here = ready file told open_ in
     started moment left_since disk (λ c. IsOneOf store.standing saves (standing_of c))
     (λ c left. first_standing saves store.standing (standing_of c) (ap standing_of (here.0 c (only c left)) ∙ here.1))
+
+-- marks of a script's wire: what it had logged
+marks_logged : (bodies : List Move → List (List ℕ)) (Holds : List (List ℕ) → Option (List ℕ) → Type 0) (lines : List ScriptLine) (old : PlayedScript)
+    (moves : List Move) (count : ℕ) (looks : List Mark) → old ≡ unplayed lines
+    → AreMarks (MarksLook bodies (IsBehind (state_of_played old).history) Holds moves) count looks
+    → AreMarks (MarksLook bodies HasLogged Holds moves) count looks
+marks_logged bodies Holds lines old moves count [] first are = tt
+marks_logged bodies Holds lines old moves count (look ∷ looks) first are =
+    let is = are.0 in (
+      record {
+        before = is.before;
+        turn = is.turn;
+        later = is.later;
+        are = is.are;
+        one = is.one;
+        so_far = is.so_far;
+        due = is.due;
+        wire = log_there lines old look.wire (is.before ++ is.turn) first is.wire;
+        holds = is.holds;
+      },
+      marks_logged bodies Holds lines old moves (count + 1) looks first are.1,
+    )
+
+-- those of a play whose log is the script's
+pub script_marked : {W C : Type 0} (body_of : BodyOf W) (step : EventStep W C) (s : MachineState W C) (lines : List ScriptLine) (old new : PlayedScript)
+    (log : List Move) (told : Option (List ℕ)) (standing : Option slots.Standing) (Marked : List Mark → Type 0) (marks : List Mark)
+    → IsWireOf lines old new log → log ≡ play_of step s lines
+    → MarksMore Marked marks (MarksRun true 1 body_of step s (HoldsSaves told standing) (state_of_played old).history
+    (state_of_played new).history)
+    → MarksMore Marked marks (MarksScript body_of step s lines told standing)
+script_marked body_of step s lines old new log told standing Marked marks wire play m =
+    let r = m.are in
+    let bodies = bodies_looked_at 1 body_of step s in
+    let Holds : List (List ℕ) → Option (List ℕ) → Type 0 = HoldsSaves told standing in
+    let last = history_after (state_of_played old).history r.moves in
+    let here = log_there lines old last r.moves wire.first refl in
+    let all : new.log ≡ r.moves ++ r.later = same_some new.log (r.moves ++ r.later)
+    (ap (λ (h : WireHistory). h.log) r.ended ∙ log-after r.later last r.moves here) in
+    let whole : new.log ≡ r.moves = all ∙ (ap (λ l. r.moves ++ l) r.all.whole ∙ append-nil r.moves) in
+    let P : List Move → Type 0 = λ l. MarksPlay bodies (bodies_to_end 1 body_of step s l) Holds l m.more in
+    record {
+      more = m.more;
+      told = m.told;
+      are = subst P (sym whole ∙ (sym wire.log_is ∙ play)) (record {
+        looks = r.looks;
+        each = r.each;
+        are = marks_logged bodies Holds lines old r.moves 0 r.looks wire.first r.are;
+        last = record {
+          whole = refl;
+          last = r.all.last;
+          are = r.all.are;
+          wire = ap (λ (h : WireHistory). h.log) r.all.wire ∙ ap (λ l. Some l) whole;
+          holds = r.all.holds;
+        };
+      });
+    }

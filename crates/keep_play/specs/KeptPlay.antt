@@ -11,6 +11,7 @@ use Rattle.keep_loop.specs.Bodies.{is_any_over}
 use Rattle.keep_play.specs.declared.kept_play.KeptPlay.{KeptPlay}
 use Rattle.keep_play.specs.declared.kept_play.KeptPlay.TheVariants as kept
 use Rattle.keep_play.specs.KeptDisk.{DiskUse, FileStands}
+use Rattle.keep_play.specs.KeptMarks.{AllMarked}
 use Rattle.keep_play.specs.KeptSaves.{saves_of_play, kept_text}
 
 -- A script was played over a store, to its end or not: there is something that stood, and with the saves of the play over it
@@ -31,15 +32,16 @@ pub record AllSaved (disk : DiskUse) (standing : Option Standing) (saves : List 
   pub within : is_any_over standing saves ≡ false
   pub stands : (file : List ℕ) → disk.file ≡ Some file → FileStands disk (standing_after_all standing saves)
 
--- how it ends that is to print this where all is done: so; only where a call of the disk failed; or only where a save is over
--- the limit
-abbrev pub EndsSo : List ℕ → DiskUse → KeptPlay → Option Standing → List (List ℕ) → Type 0
-EndsSo printed disk (kept.Done text) standing saves = (text ≡ printed) × AllSaved disk standing saves
-EndsSo printed disk kept.StoreFault standing saves = Rose disk.faults disk.faults_new
-EndsSo printed disk kept.StoreLimit standing saves = is_any_over standing saves ≡ true
+-- how it ends that is to print this where all is done, and to mark so: so; only where a call of the disk failed; or only where a
+-- save is over the limit
+abbrev pub EndsSo : List ℕ → (Marked : Type 0) → DiskUse → KeptPlay → Option Standing → List (List ℕ) → Type 0
+EndsSo printed Marked disk (kept.Done text) standing saves = (text ≡ printed) × AllSaved disk standing saves × Marked
+EndsSo printed Marked disk kept.StoreFault standing saves = Rose disk.faults disk.faults_new
+EndsSo printed Marked disk kept.StoreLimit standing saves = is_any_over standing saves ≡ true
 
 -- the same of an answer; want of memory may come at any time
 abbrev pub EndsKept : Description → List Wave → List ScriptLine → DiskUse → Result KeptPlay NoMemory → Option Standing
     → List (List ℕ) → Type 0
-EndsKept d waves lines disk (Ok end) standing saves = EndsSo (kept_text d waves lines standing) disk end standing saves
+EndsKept d waves lines disk (Ok end) standing saves =
+    EndsSo (kept_text d waves lines standing) (AllMarked d waves lines disk standing) disk end standing saves
 EndsKept d waves lines disk (Err e) standing saves = Unit {0}

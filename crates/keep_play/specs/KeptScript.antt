@@ -34,16 +34,17 @@ StandsAfter contents may_leave old new standing saves = (file : List ℕ) → co
 -- the whole script was played, with these saves, of which none is over the limit
 pub record IsWholePlay {W C : Type 0} (step : EventStep W C) (noted : Noting W C) (serves : Standing W C → Type 0) (x : Standing W C)
     (lines : List ScriptLine) (log : List Move) (count : ℕ) (standing : Option slots.Standing) (saves : List (List ℕ))
-    (Stands : List (List ℕ) → Type 0) : Type 0 where
+    (Stands : List (List ℕ) → Type 0) (Marked : Type 0) : Type 0 where
   pub play : IsPlay step noted serves x lines log
   pub counted : count ≡ length saves
   pub within : is_any_over standing saves ≡ false
   pub stands : Stands saves
+  pub marked : Marked
 
 -- how the play of a script ends that has these saves
 abbrev pub EndsPlay : {W C : Type 0} → Played → EventStep W C → Noting W C → (Standing W C → Type 0) → Standing W C
-    → List ScriptLine → Option slots.Standing → List (List ℕ) → (List (List ℕ) → Type 0) → Type 0
-EndsPlay (played.Done log count) step noted serves x lines standing saves Stands =
-    IsWholePlay step noted serves x lines log count standing saves Stands
-EndsPlay played.StoreFault step noted serves x lines standing saves Stands = Unit {0}
-EndsPlay played.StoreLimit step noted serves x lines standing saves Stands = is_any_over standing saves ≡ true
+    → List ScriptLine → Option slots.Standing → List (List ℕ) → (List (List ℕ) → Type 0) → (Marked : Type 0) → Type 0
+EndsPlay (played.Done log count) step noted serves x lines standing saves Stands Marked =
+    IsWholePlay step noted serves x lines log count standing saves Stands Marked
+EndsPlay played.StoreFault step noted serves x lines standing saves Stands Marked = Unit {0}
+EndsPlay played.StoreLimit step noted serves x lines standing saves Stands Marked = is_any_over standing saves ≡ true

@@ -11,6 +11,7 @@ ghost use Rattle.replay_script.specs.Fresh.{OpenNew};
 ghost use Rattle.server_core.specs.Serves.{StandsAt};
 ghost use Rattle.keep_loop.specs.Saving.{LeavesEach};
 ghost use Rattle.keep_play.specs.KeptDisk.{disk_used};
+ghost use Rattle.keep_play.specs.KeptMarks.{AllMarked, MarkedOver};
 ghost use Rattle.keep_play.specs.KeptPlay.{PlaysOverStore, EndsSo, EndsKept};
 ghost use Rattle.keep_play.specs.KeptSaves.{saves_over, saves_of_play, saved_text, kept_text};
 ghost use Rattle.keep_play.specs.KeptScript.{ServesUnused};
@@ -46,9 +47,9 @@ pub fn keep_play<T: Threads + Sync, D: Disk, G: Sources>(
     requires few { length (G.waves signals) < 2 ^ 32 }
     requires accepted { IsAccepted (description_of description) (length (G.waves signals)) }
     ensures plays { PlaysOverStore (description_of description) (G.waves signals) script
-        (disk_used D.contents D.may_leave D.moment D.left_since D.fault_count disk.old disk.new)
+        (disk_used D.contents D.may_leave D.moment D.left_since D.marked D.fault_count disk.old disk.new)
         (EndsKept (description_of description) (G.waves signals) script
-        (disk_used D.contents D.may_leave D.moment D.left_since D.fault_count disk.old disk.new) result) }
+        (disk_used D.contents D.may_leave D.moment D.left_since D.marked D.fault_count disk.old disk.new) result) }
     ensures untold { D.contents disk.old ≡ None → D.contents disk.new ≡ None }
     ensures named { OpensOnce result (D.names disk.old) (D.names disk.new) store.now }
     ensures later { D.fault_count disk.old ≤ D.fault_count disk.new }
@@ -79,7 +80,9 @@ fn play_opened<T: Threads + Sync, D: Disk, G: Sources>(
     requires ready { IsReady D.contents D.may_leave disk.old store.old }
     requires open { store.old.shut ≡ false }
     ensures ends { IfOk result (λ end. EndsSo (kept_text (description_of description) (G.waves signals) script store.old.standing)
-        (disk_used D.contents D.may_leave D.moment D.left_since D.fault_count disk.old disk.new) end store.old.standing
+        (AllMarked (description_of description) (G.waves signals) script
+        (disk_used D.contents D.may_leave D.moment D.left_since D.marked D.fault_count disk.old disk.new) store.old.standing)
+        (disk_used D.contents D.may_leave D.moment D.left_since D.marked D.fault_count disk.old disk.new) end store.old.standing
         (saves_of_play (description_of description) (G.waves signals) script store.old.standing)) }
     ensures left { LeavesEach D.contents D.moment D.left_since disk.old disk.new store.old.standing
         (saves_of_play (description_of description) (G.waves signals) script store.old.standing) }
@@ -114,7 +117,9 @@ fn play_core<T: Threads + Sync, D: Disk, G: Sources>(
     requires open { store.old.shut ≡ false }
     ensures ends { IfOk result (λ end. (d : described.Description) (waves : List Wave) → StandsAt kept.old (begun d waves)
         → EndsSo (saved_text d waves script (length (saves_over d waves script (body_of store.old))))
-        (disk_used D.contents D.may_leave D.moment D.left_since D.fault_count disk.old disk.new) end store.old.standing
+        (MarkedOver d waves script (disk_used D.contents D.may_leave D.moment D.left_since D.marked D.fault_count disk.old disk.new)
+        store.old.standing)
+        (disk_used D.contents D.may_leave D.moment D.left_since D.marked D.fault_count disk.old disk.new) end store.old.standing
         (saves_over d waves script (body_of store.old))) }
     ensures left { (d : described.Description) (waves : List Wave) → StandsAt kept.old (begun d waves)
         → LeavesEach D.contents D.moment D.left_since disk.old disk.new store.old.standing

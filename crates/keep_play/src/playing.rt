@@ -1,12 +1,15 @@
 //! The play of a script on a machine whose world holds a body text, over an open store.
 
-ghost use Rattle.std.specs.Prelude.{◌≡◌, ◌≤◌, ◌<◌, ◌+◌, ◌^◌, [], false, None, length, IfOk, IfSome, IfNone};
+ghost use Rattle.std.specs.Prelude.{◌≡◌, ◌≤◌, ◌<◌, ◌+◌, ◌^◌, List, [], false, None, length, IfOk, IfSome, IfNone};
 ghost use Rattle.ads_outside.specs.Rose.{Rose};
 ghost use Rattle.ads_served.specs.Standing.{Standing};
+ghost use Rattle.persist_store.specs.Marks.{Mark};
 ghost use Rattle.persist_store.specs.Store.{IsReady, body_of};
 ghost use Rattle.replay_script.specs.Fresh.{OpenNew};
 ghost use Rattle.replay_script.specs.Playing.{IsUnused};
+ghost use Rattle.keep_loop.specs.Marking.{MarksMore};
 ghost use Rattle.keep_loop.specs.Saving.{LeavesEach};
+ghost use Rattle.keep_play.specs.KeptMarks.{MarksScript};
 ghost use Rattle.keep_play.specs.KeptScript.{ServesUnused, StandsAfter, EndsPlay, saves_of_script};
 
 use crate::played::Played;
@@ -34,7 +37,9 @@ pub(crate) fn keep_script<T: Threads + Sync, M: Persistent, D: Disk>(
     ensures ends { IfOk result (λ played. (x : Standing M.World M.Client) → M.serves served.old x → IsUnused x
         → EndsPlay played M.steps M.noted (M.serves served.new) x script store.old.standing
         (saves_of_script M.body_of M.steps x.running.state script (body_of store.old))
-        (StandsAfter D.contents D.may_leave disk.old disk.new store.old.standing)) }
+        (StandsAfter D.contents D.may_leave disk.old disk.new store.old.standing)
+        ((marks : List Mark) → D.marked disk.old marks → MarksMore (D.marked disk.new) marks
+        (MarksScript M.body_of M.steps x.running.state script (D.contents disk.old) store.old.standing))) }
     ensures left { (x : Standing M.World M.Client) → M.serves served.old x → IsUnused x
         → LeavesEach D.contents D.moment D.left_since disk.old disk.new store.old.standing
         (saves_of_script M.body_of M.steps x.running.state script (body_of store.old)) }

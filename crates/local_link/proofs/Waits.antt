@@ -2,7 +2,7 @@
 use Rattle.std.proofs.Common.{◌≡◌, ℕ, zero, suc, ◌<◌, ◌≤◌, ◌-◌, List, [], ◌∷◌, length, take, drop, flat_map}
 use Rattle.std.proofs.Common.{refl, sym, ap, ◌∙◌, subst, inl, inr, arith, length-drop, length-take, true}
 use Rattle.std.proofs.Common.{false, Bool}
-use Rattle.std.specs.Prelude.{Option, Some, None, nat_le, nat_lt, if◌then◌else◌, filter, not, ◌==◌}
+use Rattle.std.specs.Prelude.{Option, Some, None, min, nat_le, nat_lt, if◌then◌else◌, filter, not, ◌==◌}
 use Rattle.std.proofs.lemmas.Bool.{cases_Bool, cond-true, cond-false}
 use Rattle.std.proofs.lemmas.Bool.Decides.{nat_tests}
 use Rattle.std.proofs.lemmas.List.{take-append-le}
@@ -17,7 +17,7 @@ use Rattle.spec_local.specs.LocalCall.{waiting_bytes}
 use Rattle.server_core.specs.CoreState.{CoreState, after_event, after_move, OpensNew}
 use Rattle.server_core.specs.Served.{Client, ServedState, served_step}
 use Rattle.server_core.specs.Serves.{CoreView, Serves, Follows, offer_in}
-use Rattle.local_link.specs.Link.{unblocked}
+use Rattle.local_link.specs.Link.{unblocked, TakesFirst}
 use Rattle.local_link.specs.Giving.{CopiesOffer, TakesBytes, TakesNothing, Takes}
 
 -- no empty frame is left
@@ -108,6 +108,20 @@ pub took_none : (old : CoreView) (s : ServedState) (buf : List ℕ) → CopiesOf
     → ((x : CoreState) → Serves old x → offer_in old 1 ≡ offer_at 1 x)
     → Serves old (unblocked s) → TakesNothing old s
 took_none old s buf copies machine serves = none_of old s buf (offer_in old 1) refl copies machine serves
+
+-- as many as the offer has, or as the buffer takes
+whole_of : (old : CoreView) (s : ServedState) (n size : ℕ) (buf : List ℕ) (o : Option (List ℕ)) → offer_in old 1 ≡ o → length buf ≡ size → 0 < n → CopiesOffer n o buf
+    → ((x : CoreState) → Serves old x → offer_in old 1 ≡ offer_at 1 x) → Serves old (unblocked s) → TakesFirst n size s
+whole_of old s n size buf None e long some copies machine serves = absurd (omega (arith, some, copies))
+whole_of old s n size buf (Some left) e long some copies machine serves = record {
+  left = left;
+  first = sym (machine (unblocked s) serves) ∙ e;
+  whole = copies.whole ∙ ap (min (length left)) long;
+}
+
+pub took_whole : (old : CoreView) (s : ServedState) (n size : ℕ) (buf : List ℕ) → length buf ≡ size → 0 < n → CopiesOffer n (offer_in old 1) buf
+    → ((x : CoreState) → Serves old x → offer_in old 1 ≡ offer_at 1 x) → Serves old (unblocked s) → TakesFirst n size s
+took_whole old s n size buf long some copies machine serves = whole_of old s n size buf (offer_in old 1) refl long some copies machine serves
 
 pub taken_bytes : (n : ℕ) (buf : List ℕ) (new : CoreView) (s : ServedState) → 0 < n
     → Takes n buf new s → (length (take n buf) ≡ n) × TakesBytes (take n buf) new s

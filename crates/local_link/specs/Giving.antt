@@ -1,5 +1,5 @@
 -- How a link to the server in the same process gives what waits. Private: no public clause cites this file.
-use Rattle.std.specs.Prelude.{◌≡◌, ℕ, zero, suc, ◌≤◌, List, [], take, length, Option, Some, None}
+use Rattle.std.specs.Prelude.{◌≡◌, ℕ, zero, suc, ◌≤◌, List, [], take, length, min, Option, Some, None}
 use Rattle.ads_outside.specs.declared.link_event.LinkEvent.TheVariants as come
 use Rattle.ads_outside.specs.declared.link_move.LinkMove.{LinkMove}
 use Rattle.ads_outside.specs.declared.link_move.LinkMove.TheVariants as link
@@ -19,6 +19,7 @@ pub record CopiesFirst (n : ℕ) (left buf : List ℕ) : Type 0 where
   pub offered : n ≤ length left
   pub fit : n ≤ length buf
   pub copied : take n buf ≡ take n left
+  pub whole : n ≡ min (length left) (length buf)
   -- none where nothing is offered
   pub some : n ≡ 0 → left ≡ []
 

@@ -1,7 +1,13 @@
 -- What a link to the server in the same process is, and the logs that it tells.
-use Rattle.std.specs.Prelude.{◌≡◌, List, [], Bool, false}
-use Rattle.ads_outside.specs.LinkState.{LinkHistory, LinkState}
+use Rattle.std.specs.Prelude.{◌≡◌, ◌⊎◌, ℕ, List, [], length, min, Bool, false, Some}
+use Rattle.ads_outside.specs.declared.event.Event.TheVariants as event
 use Rattle.ads_outside.specs.declared.link_move.LinkMove.{LinkMove}
+use Rattle.ads_outside.specs.declared.received.Received.{Received}
+use Rattle.ads_outside.specs.declared.received.Received.TheVariants as received
+use Rattle.ads_outside.specs.LinkState.{LinkHistory, LinkState}
+use Rattle.spec_machine.specs.Offers.{waiting_at}
+use Rattle.spec_machine.specs.Running.{first_frame}
+use Rattle.spec_local.specs.LocalCall.{next_tick}
 use Rattle.spec_local.specs.LinkLog.{IsLogOf, machine_after_log}
 use Rattle.server_core.specs.CoreState.{CoreState}
 use Rattle.server_core.specs.Served.{ServedState, served_step}
@@ -31,3 +37,17 @@ pub record StandsFor (l : LocalView) (s : ServedState) : Type 0 where
 pub record IsTold (l : LocalView) (origin : ServedState) (log : List LinkMove) : Type 0 where
   pub is_log : IsLogOf served_step origin log
   pub stands : l.wanting ≡ false → StandsFor l (machine_after_log served_step origin log)
+
+-- so many bytes are the first frame that waits for connection 1, as far as a buffer of this size takes it
+pub record TakesFirst (n size : ℕ) (s : ServedState) : Type 0 where
+  pub left : List ℕ
+  pub first : first_frame (waiting_at 1 s) ≡ Some left
+  pub whole : n ≡ min (length left) size
+
+-- bytes that come are never fewer, whether they come at once or behind a tick
+abbrev pub ComesWhole : Received → ℕ → ServedState → Type 0
+ComesWhole (received.Bytes n now) size s = TakesFirst n size s ⊎ TakesFirst n size (served_step s (event.Tick (next_tick s.moment)))
+ComesWhole (received.Quiet now) size s = Unit {0}
+ComesWhole (received.Closed now) size s = Unit {0}
+ComesWhole received.Failed size s = Unit {0}
+ComesWhole received.Memory size s = Unit {0}

@@ -61,6 +61,7 @@ impl<P: Steps, G: Sources> LocalLink<P, G> {
 
 impl<P: Steps, G: Sources> LocalLink<P, G> {
     ghost use Rattle.local_link.specs.Giving.{Follows, Gives};
+    ghost use Rattle.local_link.specs.Link.{ComesWhole, StandsFor};
     ghost use Rattle.ads_outside.specs.declared.link_move.LinkMove.TheVariants as link;
 
     // Connection 1 is opened; one that is there is removed before.
@@ -95,6 +96,7 @@ impl<P: Steps, G: Sources> LocalLink<P, G> {
     fn give(&mut self, buf: &mut [u8]) -> Result<Received, NoMemory>
         requires { 0 < length buf.old }
         ensures gives { IfOk result (λ answer. Gives answer (length buf.old) buf.new self.old self.new) }
+        ensures whole { IfOk result (λ answer. (s : ServedState) → StandsFor self.old s → ComesWhole answer (length buf.old) s) }
         ensures no_memory { OnErr result (self.new.history ≡ self.old.history) }
     {
         let waits = take_waiting(&self.steps, self.alloc, &mut self.core, buf)?;
@@ -134,7 +136,7 @@ impl<P: Steps, G: Sources> Link for LocalLink<P, G> {
     ghost use Rattle.ads_outside.specs.LinkAnswers.{Connects, Sends, Receives};
     ghost use Rattle.ads_outside.specs.LinkAnswers.{log_after_connect, TellsSent, log_after_recv};
     ghost use Rattle.ads_outside.specs.LinkState.{LinkNeverFalls};
-    ghost use Rattle.local_link.specs.Link.{state_of, IsTold};
+    ghost use Rattle.local_link.specs.Link.{state_of, ComesWhole, IsTold, StandsFor};
 
     ghost state = { state_of };
 
@@ -188,6 +190,7 @@ impl<P: Steps, G: Sources> Link for LocalLink<P, G> {
         ensures told { (o : ServedState) (log : List MoveOf) → IsTold self.old o log → IsTold self.new o (log_after_recv result buf.new log) }
         ensures later { LinkNeverFalls (state_of self.old) (state_of self.new) }
         ensures never_fails { result ≢ Received.Failed }
+        ensures whole { (s : ServedState) → StandsFor self.old s → ComesWhole result (length buf.old) s }
     {
         if self.wanting {
             return Received::Memory;

@@ -4,7 +4,7 @@ ghost use Rattle.std.specs.Prelude.{◌≡◌, ◌<◌, ◌≤◌, ◌^◌, leng
 ghost use Rattle.server_core.specs.CoreState.{CoreState, offer_at};
 ghost use Rattle.server_core.specs.Served.{ServedState};
 ghost use Rattle.server_core.specs.Serves.{Serves, offer_in};
-ghost use Rattle.local_link.specs.Link.{unblocked};
+ghost use Rattle.local_link.specs.Link.{unblocked, TakesFirst};
 ghost use Rattle.local_link.specs.Giving.{CopiesFirst, CopiesOffer, Takes};
 
 use crate::stepping::Steps;
@@ -24,6 +24,7 @@ pub(crate) fn take_waiting<S: Steps, G: Sources>(
     requires some { 0 < length buf.old }
     ensures fits { IfOk result (λ n. n ≤ length buf.old) }
     ensures takes { IfOk result (λ n. (s : ServedState) → Serves core.old (unblocked s) → Takes n buf.new core.new s) }
+    ensures whole { IfOk result (λ n. 0 < n → (s : ServedState) → Serves core.old (unblocked s) → TakesFirst n (length buf.old) s) }
 {
     let n = copy_offer(core, buf);
     if n == 0 {

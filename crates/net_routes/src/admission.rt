@@ -43,6 +43,7 @@ impl Admission {
     }
 
     /// The rights of a machine. None exactly where no route has its NetId, and all others have none.
+    #[inline(always)]
     pub fn rights(&self, net: NetId) -> Option<Rights>
         ensures { option_map plain.rights_of result ≡ given_rights self.now.others net.bytes self.now.routes }
     {

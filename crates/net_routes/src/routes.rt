@@ -46,7 +46,20 @@ impl Routes {
     }
 
     /// The rights of a machine. None exactly where no route has its NetId.
+    #[inline(always)]
     pub fn rights(&self, net: NetId) -> Option<Rights>
+        ensures { option_map plain.rights_of result ≡ rights_of net.bytes self.now }
+    {
+        // The first route is looked at without a call.
+        match self.rights_at(0, net) {
+            Some(rights) => Some(rights),
+            None => self.rights_among_all(net),
+        }
+    }
+
+    // The same by all routes.
+    #[inline(never)]
+    fn rights_among_all(&self, net: NetId) -> Option<Rights>
         ensures { option_map plain.rights_of result ≡ rights_of net.bytes self.now }
     {
         if self.by_net.len() <= FEW {
@@ -68,6 +81,7 @@ impl Routes {
     }
 
     // The rights at a place, where it is this machine's.
+    #[inline(always)]
     fn rights_at(&self, i: usize, net: NetId) -> Option<Rights>
         ensures { option_map plain.rights_of result ≡ rights_in net.bytes (slice_get self.now i) }
     {

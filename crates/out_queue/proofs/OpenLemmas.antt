@@ -67,15 +67,15 @@ pub record IsOpened (o : OpenQueue) (frames : List (List ℕ)) : Type 0 where
   pub frames_ : frames_of o ≡ left_of o.taken frames
   pub tail : tail_of o ≡ []
 
-pub opened : (o : OpenQueue) (frames : List (List ℕ)) → AreParts frames o.bytes o.lens.items o.gone → CanStand o.taken o.queued frames
+pub opened : (o : OpenQueue) (frames : List (List ℕ)) → AreParts frames o.bytes o.lens o.gone → CanStand o.taken o.queued frames
     → IsOpened o frames
 unfolding frames_of tail_of
 opened o frames parts stands =
     let whole : whole_frames o ≡ frames = parts.same in
     let first : IsTaken o.taken (whole_frames o) = subst (IsTaken o.taken) (sym whole) stands.taken in
-    let left : sum o.lens.items ≤ length (drop o.gone o.bytes) = omega (arith, parts.all, length-drop o.gone o.bytes) in
+    let left : sum o.lens ≤ length (drop o.gone o.bytes) = omega (arith, parts.all, length-drop o.gone o.bytes) in
     let counted : o.queued ≡ queued (left_of o.taken (whole_frames o)) = stands.counted ∙ ap (λ fs. queued (left_of o.taken fs)) (sym whole) in
-    let waits = whole-queued o.taken o.lens.items (drop o.gone o.bytes) left first in
+    let waits = whole-queued o.taken o.lens (drop o.gone o.bytes) left first in
     record {
       open_ = record {
         inside = omega (arith, parts.all);
@@ -95,16 +95,16 @@ pub record HasTail (o p : OpenQueue) (behind : List ℕ) : Type 0 where
   pub tail : tail_of p ≡ behind
 
 other_tail : (o p : OpenQueue) (base old new : List ℕ) → IsOpen o → o.bytes ≡ base ++ old → end_of o ≡ length base → p.bytes ≡ base ++ new
-    → p.lens.items ≡ o.lens.items → p.gone ≡ o.gone → p.taken ≡ o.taken → p.queued ≡ o.queued → HasTail o p new
+    → p.lens ≡ o.lens → p.gone ≡ o.gone → p.taken ≡ o.taken → p.queued ≡ o.queued → HasTail o p new
 unfolding frames_of tail_of
 other_tail o p base old new st was end is lens gone taken queued_ =
     let same : whole_frames p ≡ whole_frames o =
-    ap (λ ls. frames_in ls (drop p.gone p.bytes)) lens ∙ ap (λ g. frames_in o.lens.items (drop g p.bytes)) gone
-    ∙ ap (λ bs. frames_in o.lens.items (drop o.gone bs)) is ∙ whole-more o.lens.items base new o.gone (omega (arith, end))
-    ∙ sym (whole-more o.lens.items base old o.gone (omega (arith, end))) ∙ sym (ap (λ bs. frames_in o.lens.items (drop o.gone bs)) was) in
+    ap (λ ls. frames_in ls (drop p.gone p.bytes)) lens ∙ ap (λ g. frames_in o.lens (drop g p.bytes)) gone
+    ∙ ap (λ bs. frames_in o.lens (drop o.gone bs)) is ∙ whole-more o.lens base new o.gone (omega (arith, end))
+    ∙ sym (whole-more o.lens base old o.gone (omega (arith, end))) ∙ sym (ap (λ bs. frames_in o.lens (drop o.gone bs)) was) in
     let left : left_of p.taken (whole_frames p) ≡ left_of o.taken (whole_frames o) =
     ap (λ t. left_of t (whole_frames p)) taken ∙ ap (left_of o.taken) same in
-    let same_end : end_of p ≡ end_of o = ap (λ g. g + sum p.lens.items) gone ∙ ap (λ ls. o.gone + sum ls) lens in
+    let same_end : end_of p ≡ end_of o = ap (λ g. g + sum p.lens) gone ∙ ap (λ ls. o.gone + sum ls) lens in
     let ends = st.ends in
     let room = st.room in
     record {
@@ -131,7 +131,7 @@ written o more bytes st none is =
 
 -- what is written is cut away
 pub cut_away : (o p : OpenQueue) → IsOpen o → p.bytes ≡ take (o.gone + o.taken + o.queued) o.bytes
-    → p.lens.items ≡ o.lens.items → p.gone ≡ o.gone → p.taken ≡ o.taken → p.queued ≡ o.queued → HasTail o p []
+    → p.lens ≡ o.lens → p.gone ≡ o.gone → p.taken ≡ o.taken → p.queued ≡ o.queued → HasTail o p []
 cut_away o p st is lens gone taken queued_ =
     let n = o.gone + o.taken + o.queued in
     let ends = st.ends in
@@ -178,20 +178,20 @@ frame_behind lens bytes gone n all =
     ∙ ap (λ fs. fs ++ tail ∷ []) (sym before)
 
 pub admitted : (o p : OpenQueue) (n : ℕ) → IsOpen o → n + (o.gone + o.taken + o.queued) ≡ length o.bytes
-    → p.bytes ≡ o.bytes → p.gone ≡ o.gone → p.taken ≡ o.taken → p.lens.items ≡ o.lens.items ++ n ∷ [] → p.queued ≡ o.queued + n
+    → p.bytes ≡ o.bytes → p.gone ≡ o.gone → p.taken ≡ o.taken → p.lens ≡ o.lens ++ n ∷ [] → p.queued ≡ o.queued + n
     → p.queued ≤ QUEUE_LIMIT → Admits o p
 unfolding frames_of tail_of
 admitted o p n st all bytes gone taken lens waits room =
     let ends = st.ends in
     let whole : whole_frames p ≡ whole_frames o ++ drop (end_of o) o.bytes ∷ [] =
-    ap (λ ls. frames_in ls (drop p.gone p.bytes)) lens ∙ ap (λ g. frames_in (o.lens.items ++ n ∷ []) (drop g p.bytes)) gone
-    ∙ ap (λ bs. frames_in (o.lens.items ++ n ∷ []) (drop o.gone bs)) bytes
-    ∙ frame_behind o.lens.items o.bytes o.gone n (omega (arith, all, ends)) in
+    ap (λ ls. frames_in ls (drop p.gone p.bytes)) lens ∙ ap (λ g. frames_in (o.lens ++ n ∷ []) (drop g p.bytes)) gone
+    ∙ ap (λ bs. frames_in (o.lens ++ n ∷ []) (drop o.gone bs)) bytes
+    ∙ frame_behind o.lens o.bytes o.gone n (omega (arith, all, ends)) in
     let frames : left_of p.taken (whole_frames p) ≡ left_of o.taken (whole_frames o) ++ drop (end_of o) o.bytes ∷ [] =
     ap (λ t. left_of t (whole_frames p)) taken ∙ ap (left_of o.taken) whole
     ∙ left_of-append o.taken (whole_frames o) (drop (end_of o) o.bytes) st.first in
-    let sums : sum p.lens.items ≡ sum o.lens.items + n =
-    ap (λ ls. sum ls) lens ∙ sum_by-append (λ x. x) o.lens.items (n ∷ []) ∙ omega (arith, sum_by-cons (λ x. x) n [], refl_sum) in
+    let sums : sum p.lens ≡ sum o.lens + n =
+    ap (λ ls. sum ls) lens ∙ sum_by-append (λ x. x) o.lens (n ∷ []) ∙ omega (arith, sum_by-cons (λ x. x) n [], refl_sum) in
     let len : length p.bytes ≡ length o.bytes = ap (λ (bs : List ℕ). length bs) bytes in
     let tail_len = length-drop (end_of o) o.bytes in
     let counted = st.counted in
@@ -220,7 +220,7 @@ admitted o p n st all bytes gone taken lens waits room =
 
 pub admitted_at : (o p : OpenQueue) (all : ℕ) → IsOpen o → all ≡ length o.bytes
     → all - (o.gone + o.taken + o.queued) ≤ 4194304 - o.queued
-    → p.bytes ≡ o.bytes → p.gone ≡ o.gone → p.taken ≡ o.taken → p.lens.items ≡ o.lens.items ++ (all - (o.gone + o.taken + o.queued)) ∷ []
+    → p.bytes ≡ o.bytes → p.gone ≡ o.gone → p.taken ≡ o.taken → p.lens ≡ o.lens ++ (all - (o.gone + o.taken + o.queued)) ∷ []
     → p.queued ≡ o.queued + (all - (o.gone + o.taken + o.queued)) → Admits o p
 admitted_at o p all st len fits bytes gone taken lens waits =
     let ends = st.ends in
@@ -230,11 +230,11 @@ admitted_at o p all st len fits bytes gone taken lens waits =
     (omega (arith, fits, waits, room))
 
 -- the parts that a queue keeps
-pub opened_parts : (o : OpenQueue) (frames : List (List ℕ)) (run : List ℕ) → AreParts frames run o.lens.items o.gone
+pub opened_parts : (o : OpenQueue) (frames : List (List ℕ)) (run : List ℕ) → AreParts frames run o.lens o.gone
     → IsTaken o.taken frames × (o.queued ≡ queued (left_of o.taken frames)) × (o.queued ≤ QUEUE_LIMIT)
     → o.bytes ≡ run → IsOpened o frames
 opened_parts o frames run parts kept bytes =
-    opened o frames (subst (λ bs. AreParts frames bs o.lens.items o.gone) (sym bytes) parts)
+    opened o frames (subst (λ bs. AreParts frames bs o.lens o.gone) (sym bytes) parts)
     (record { taken = kept.0; counted = kept.1; room = kept.2 })
 
 -- a queue that is closed

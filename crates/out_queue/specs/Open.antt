@@ -7,11 +7,11 @@ use Rattle.out_queue.specs.declared.open_queue.OpenQueue.{OpenQueue}
 
 -- the frames, the first one whole
 abbrev pub whole_frames : OpenQueue → List (List ℕ)
-whole_frames o = frames_in o.lens.items (drop o.gone o.bytes)
+whole_frames o = frames_in o.lens (drop o.gone o.bytes)
 
 -- where the frames end
 abbrev pub end_of : OpenQueue → ℕ
-end_of o = o.gone + sum o.lens.items
+end_of o = o.gone + sum o.lens
 
 -- what is left of the frames
 unfoldable pub frames_of : OpenQueue → List (List ℕ)

@@ -5,9 +5,9 @@ ghost use Rattle.std.specs.List.{concat};
 ghost use Rattle.out_queue.specs.Queue.{front_of};
 ghost use Rattle.out_queue.specs.Runs.{frames_in, AreParts};
 
+use crate::lens::Lens;
 use ads_base::NoMemory;
 use std::alloc::Global;
-use std::collections::VecDeque;
 use std::marker::Model;
 
 // So much room is kept where no frame is left.
@@ -23,7 +23,7 @@ pub(crate) struct FrameRun {
     // The frames, behind those that are gone.
     bytes: Vec<u8>,
     // How long each of them is.
-    lens: VecDeque<u32>,
+    lens: Lens,
     // How many bytes are gone.
     gone: usize,
 }
@@ -34,9 +34,9 @@ impl Model for FrameRun {
 
     ghost Value = { List (List ℕ) };
 
-    ghost view = { λ r. frames_in r.lens.items (drop r.gone r.bytes.items) };
+    ghost view = { λ r. frames_in r.lens (drop r.gone r.bytes.items) };
 
-    ghost invariant = { λ r. r.gone + sum r.lens.items ≡ length r.bytes.items };
+    ghost invariant = { λ r. r.gone + sum r.lens ≡ length r.bytes.items };
 }
 
 impl FrameRun {
@@ -46,22 +46,22 @@ impl FrameRun {
     {
         FrameRun {
             bytes: Vec::new(alloc),
-            lens: VecDeque::new(alloc),
+            lens: Lens::new(alloc),
             gone: 0,
         }
     }
 
     // The frames that stand so in a run of bytes.
-    pub(crate) fn of(bytes: Vec<u8>, lens: VecDeque<u32>, gone: usize) -> FrameRun
-        requires { gone + sum lens.items ≡ length bytes.items }
-        ensures { result ≡ frames_in lens.items (drop gone bytes.items) }
+    pub(crate) fn of(bytes: Vec<u8>, lens: Lens, gone: usize) -> FrameRun
+        requires { gone + sum lens ≡ length bytes.items }
+        ensures { result ≡ frames_in lens (drop gone bytes.items) }
     {
         FrameRun { bytes, lens, gone }
     }
 
     // The run of bytes, how long each frame is, and how many bytes are gone, of which there are few.
-    pub(crate) fn into_parts(mut self) -> (Vec<u8>, VecDeque<u32>, usize)
-        ensures { AreParts self result.0.items result.1.items result.2 }
+    pub(crate) fn into_parts(mut self) -> (Vec<u8>, Lens, usize)
+        ensures { AreParts self result.0.items result.1 result.2 }
     {
         self.move_up();
         let FrameRun { bytes, lens, gone } = self;
@@ -75,10 +75,15 @@ impl FrameRun {
         ensures no_memory { OnErr result (self.new ≡ self.old) }
     {
         self.close_up(frame.len());
-        self.lens.reserve(1)?;
+        let before = self.bytes.len();
         self.bytes.extend_from_slice(frame)?;
-        self.lens.push_back_reserved(frame.len() as u32);
-        Ok(())
+        match self.lens.push(frame.len() as u32) {
+            Ok(()) => Ok(()),
+            Err(NoMemory) => {
+                self.bytes.truncate(before);
+                Err(NoMemory)
+            }
+        }
     }
 
     // Puts a frame in two parts behind the others.
@@ -90,10 +95,15 @@ impl FrameRun {
     {
         let len = front.len() + rest.len();
         self.close_up(len);
-        self.lens.reserve(1)?;
+        let before = self.bytes.len();
         append_parts(&mut self.bytes, front, rest)?;
-        self.lens.push_back_reserved(len as u32);
-        Ok(())
+        match self.lens.push(len as u32) {
+            Ok(()) => Ok(()),
+            Err(NoMemory) => {
+                self.bytes.truncate(before);
+                Err(NoMemory)
+            }
+        }
     }
 
     // The first frame.
@@ -101,7 +111,7 @@ impl FrameRun {
         ensures none { IsNone result ↔ (self.now ≡ []) }
         ensures some { IfSome result (λ frame. front_of self.now ≡ Some frame.now) }
     {
-        let len = *self.lens.front()?;
+        let len = self.lens.front()?;
         Some(&self.bytes[self.gone..self.gone + len as usize])
     }
 
@@ -127,7 +137,7 @@ impl FrameRun {
     pub(crate) fn pop(&mut self)
         ensures { self.new ≡ drop 1 self.old }
     {
-        let Some(len) = self.lens.pop_front() else {
+        let Some(len) = self.lens.pop() else {
             return;
         };
         self.gone += len as usize;

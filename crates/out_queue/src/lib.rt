@@ -2,6 +2,7 @@
 #![tactic(auto)]
 
 mod frame_run;
+mod lens;
 mod open_queue;
 mod out_queue;
 

@@ -5,9 +5,9 @@ ghost use Rattle.out_queue.specs.Queue.{QUEUE_LIMIT, queued};
 ghost use Rattle.out_queue.specs.Open.{IsOpen, frames_of, tail_of};
 
 use crate::frame_run::FrameRun;
+use crate::lens::Lens;
 use crate::out_queue::{MAX_QUEUED, OutQueue, Pushed};
 use ads_base::{NoMemory, Octets};
-use std::collections::VecDeque;
 
 /// A queue that is open: bytes may be written behind its frames.
 #[derive(Drop)]
@@ -15,7 +15,7 @@ pub struct OpenQueue {
     /// The frames, behind bytes that are gone, and what is written behind them.
     pub bytes: Octets,
     // How long each of the frames is.
-    pub(crate) lens: VecDeque<u32>,
+    pub(crate) lens: Lens,
     // How many bytes are gone.
     pub(crate) gone: usize,
     // How many bytes of the first frame were taken.
@@ -43,13 +43,12 @@ impl OpenQueue {
             self.bytes.cut(end);
             return Ok(Pushed::Over);
         }
-        match self.lens.reserve(1) {
+        match self.lens.push(len as u32) {
             Ok(()) => {
-                self.lens.push_back_reserved(len as u32);
                 self.queued += len;
                 Ok(Pushed::Done)
             }
-            Err(_) => {
+            Err(NoMemory) => {
                 self.bytes.cut(end);
                 Err(NoMemory)
             }

@@ -1,5 +1,6 @@
 pub mod Entries
 pub mod Disk
+pub mod Marks
 pub mod MemDisk
 pub mod Opened
 pub mod Past

@@ -3,12 +3,14 @@
 ghost use Rattle.std.specs.Prelude.{◌≡◌, ◌≤◌, Option, Some, List, ℕ, length};
 
 use crate::{DiskOpen, DiskRead, Synced, Wrote};
+use ads_outside::Wire;
 
 /// A file on a disk. It may tell what it holds and which names were opened; a real disk does not.
 pub trait Disk {
     ghost use Rattle.spec_store.specs.Disk.{written, Torn, Follows, IsSynced, WhereTold, Elapses};
     ghost use Rattle.ads_outside.specs.Rose.{Rose};
     ghost use Rattle.persist_store.specs.Disk.{Opens, OpensName, Reads};
+    ghost use Rattle.persist_store.specs.Marks.{Mark, MarksOne, MarksStay};
 
     /// The file that a read gives, where it is told.
     ghost contents: { Self → Option (List ℕ) };
@@ -25,6 +27,10 @@ pub trait Disk {
     /// The names that were opened, in order, where they are told.
     ghost names: { Self → Option (List (List ℕ)) };
 
+    /// Whether these may be told of it as its marks, in order: how far a wire was, and the file that a read gave then. Of a disk
+    /// that tells nothing any may be told.
+    ghost marked: { Self → List Mark → Type 0 };
+
     /// How many calls failed.
     ghost fault_count: { Self → ℕ };
 
@@ -39,6 +45,7 @@ pub trait Disk {
         ensures contents { contents self.new ≡ contents self.old }
         ensures stop { (c : List ℕ) → may_leave self.new c → may_leave self.old c }
         ensures time { Elapses (moment self.old) (moment self.new) (left_since self.old) (left_since self.new) (may_leave self.new) }
+        ensures marks { MarksStay marked self.old self.new }
         ensures later { fault_count self.old ≤ fault_count self.new }
         ensures failed { result ≡ DiskOpen.Failed → Rose (fault_count self.old) (fault_count self.new) };
 
@@ -50,6 +57,7 @@ pub trait Disk {
         ensures stop { (c : List ℕ) → may_leave self.new c → may_leave self.old c }
         ensures time { Elapses (moment self.old) (moment self.new) (left_since self.old) (left_since self.new) (may_leave self.new) }
         ensures names { names self.new ≡ names self.old }
+        ensures marks { MarksStay marked self.old self.new }
         ensures later { fault_count self.old ≤ fault_count self.new }
         ensures failed { result ≡ DiskRead.Failed → Rose (fault_count self.old) (fault_count self.new) };
 
@@ -60,6 +68,7 @@ pub trait Disk {
         ensures stop { Follows (Torn at (length bytes.now)) (may_leave self.old) (may_leave self.new) }
         ensures time { Elapses (moment self.old) (moment self.new) (left_since self.old) (left_since self.new) (may_leave self.new) }
         ensures names { names self.new ≡ names self.old }
+        ensures marks { MarksStay marked self.old self.new }
         ensures later { fault_count self.old ≤ fault_count self.new }
         ensures failed { result ≡ Wrote.Failed → Rose (fault_count self.old) (fault_count self.new) };
 
@@ -70,8 +79,15 @@ pub trait Disk {
         ensures stop { (c : List ℕ) → may_leave self.new c → may_leave self.old c }
         ensures time { Elapses (moment self.old) (moment self.new) (left_since self.old) (left_since self.new) (may_leave self.new) }
         ensures names { names self.new ≡ names self.old }
+        ensures marks { MarksStay marked self.old self.new }
         ensures later { fault_count self.old ≤ fault_count self.new }
         ensures failed { result ≡ Synced.Failed → Rose (fault_count self.old) (fault_count self.new) };
+
+    /// Marks how far a wire is: what was written before stands before what comes of the wire later. It is for what is told of a
+    /// disk alone, and does nothing.
+    fn mark<W: Wire>(&mut self, _wire: &W)
+        ensures marks { MarksOne marked self.old self.new (W.state _wire.now).history (contents self.old) }
+        ensures nothing { self.new ≡ self.old };
 
     /// The file that a read gives is one that a stop now may leave.
     ghost leaves_contents: { (disk : Self) (file : List ℕ) → contents disk ≡ Some file → may_leave disk file };

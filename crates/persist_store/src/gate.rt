@@ -3,6 +3,7 @@
 ghost use Rattle.std.specs.Prelude.{◌≡◌, List, ℕ, Some, IfOk};
 ghost use Rattle.spec_store.specs.Disk.{Elapses};
 ghost use Rattle.spec_store.specs.Saves.{has_closed_gate};
+ghost use Rattle.persist_store.specs.Marks.{MarksStay};
 ghost use Rattle.persist_store.specs.Steps.{Stays, HasCause};
 
 use crate::step_fault::StepFault;
@@ -15,6 +16,7 @@ pub fn is_gate_closed<D: Disk>(disk: &mut D, place: u64) -> Result<bool, StepFau
     ensures stays { Stays D.contents D.may_leave disk.old disk.new }
     ensures time { Elapses (D.moment disk.old) (D.moment disk.new) (D.left_since disk.old) (D.left_since disk.new) (D.may_leave disk.new) }
     ensures names { D.names disk.new ≡ D.names disk.old }
+    ensures marks { MarksStay D.marked disk.old disk.new }
     ensures cause { HasCause (D.fault_count disk.old) (D.fault_count disk.new) result }
 {
     let mut gate = [0u8; 1];

@@ -13,7 +13,7 @@ use crate::past_write::{PastWrite, PastWrites};
 use crate::written::written_copy;
 use crate::{Disk, DiskOpen, DiskRead, Stop, Synced, Wrote};
 use ads_base::{Calls, ListOf, NoMemory, Octets};
-use ads_outside::Failing;
+use ads_outside::{Failing, Wire};
 use std::alloc::Global;
 use std::marker::Model;
 
@@ -256,6 +256,8 @@ impl Disk for MemDisk {
 
     ghost left_since = { leaves_since };
 
+    ghost marked = { λ d marks. Unit {0} };
+
     ghost names = { λ m. Some m.names };
 
     ghost fault_count = { λ m. m.failing.faults };
@@ -308,4 +310,6 @@ impl Disk for MemDisk {
         self.end_period();
         Synced::Done
     }
+
+    fn mark<W: Wire>(&mut self, _wire: &W) {}
 }

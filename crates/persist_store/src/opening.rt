@@ -3,6 +3,7 @@
 ghost use Rattle.std.specs.Prelude.{◌≡◌, ◌≤◌, List, ℕ, false, true, Option, Some, option_map, length, take, drop, IfOk, OnOk};
 ghost use Rattle.spec_store.specs.Slots.{Slot, Standing, slot_of, standing_of, standing_of_slots};
 ghost use Rattle.spec_store.specs.Saves.{place_of};
+ghost use Rattle.persist_store.specs.Marks.{MarksStay};
 ghost use Rattle.persist_store.specs.Slots.{MAX_SLOT, standing_kept, placed};
 ghost use Rattle.persist_store.specs.Steps.{IsAt, HasCause, OpensFile, Passes};
 
@@ -24,6 +25,7 @@ pub fn open_standing<D: Disk>(
         → IsAt D.contents D.may_leave disk.new file × (option_map standing_kept standing ≡ standing_of file)) }
     ensures passes { Passes D.contents D.may_leave D.moment D.left_since disk.old disk.new }
     ensures named { OpensFile result (D.names disk.old) (D.names disk.new) name.now }
+    ensures marks { MarksStay D.marked disk.old disk.new }
     ensures cause { HasCause (D.fault_count disk.old) (D.fault_count disk.new) result }
 {
     open_file(disk, name)?;
@@ -38,6 +40,7 @@ fn open_file<D: Disk>(disk: &mut D, name: &str) -> Result<(), StepFault>
         → IsAt D.contents D.may_leave disk.new file) }
     ensures passes { Passes D.contents D.may_leave D.moment D.left_since disk.old disk.new }
     ensures named { OpensFile result (D.names disk.old) (D.names disk.new) name.now }
+    ensures marks { MarksStay D.marked disk.old disk.new }
     ensures cause { HasCause (D.fault_count disk.old) (D.fault_count disk.new) result }
 {
     match disk.open(name) {
@@ -61,6 +64,7 @@ fn slot_at<D: Disk>(
         → option_map standing_kept slot ≡ option_map (placed is_second) (slot_of (drop (place_of is_second) file))) }
     ensures passes { Passes D.contents D.may_leave D.moment D.left_since disk.old disk.new }
     ensures names { D.names disk.new ≡ D.names disk.old }
+    ensures marks { MarksStay D.marked disk.old disk.new }
     ensures cause { HasCause (D.fault_count disk.old) (D.fault_count disk.new) result }
 {
     let mut room = match zeros(alloc, MAX_SLOT) {
@@ -90,6 +94,7 @@ fn read_into<D: Disk>(disk: &mut D, place: u64, room: &mut [u8]) -> Result<usize
     ensures within { IfOk result (λ n. n ≤ length room.new) }
     ensures passes { Passes D.contents D.may_leave D.moment D.left_since disk.old disk.new }
     ensures names { D.names disk.new ≡ D.names disk.old }
+    ensures marks { MarksStay D.marked disk.old disk.new }
     ensures cause { HasCause (D.fault_count disk.old) (D.fault_count disk.new) result }
 {
     match disk.read(place, room) {

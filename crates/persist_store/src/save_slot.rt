@@ -7,6 +7,7 @@ ghost use Rattle.spec_store.specs.Slots as slots;
 ghost use Rattle.spec_store.specs.Slots.{standing_of, behind_gate};
 ghost use Rattle.spec_store.specs.Saves.{goes_second, next_sequence, next_slot, standing_after};
 ghost use Rattle.spec_store.specs.Laws.{IsBeforeOrAfter};
+ghost use Rattle.persist_store.specs.Marks.{MarksStay};
 ghost use Rattle.persist_store.specs.Slots.{standing_kept};
 ghost use Rattle.persist_store.specs.Steps.{IsAt, HasCause, StandsFor};
 
@@ -38,6 +39,7 @@ pub fn save_slot<D: Disk>(
     ensures untold { D.contents disk.old ≡ None → D.contents disk.new ≡ None }
     ensures told { D.contents disk.new ≡ None → D.contents disk.old ≡ None }
     ensures names { D.names disk.new ≡ D.names disk.old }
+    ensures marks { MarksStay D.marked disk.old disk.new }
     ensures cause { HasCause (D.fault_count disk.old) (D.fault_count disk.new) result }
 {
     let slot = match next_slot(alloc, standing, body) {

@@ -5,6 +5,7 @@ ghost use Rattle.spec_store.specs.Disk.{written, Torn, LeavesOnly};
 ghost use Rattle.spec_store.specs.Slots.{MAX_BODY, Slot, behind_gate, standing_of};
 ghost use Rattle.spec_store.specs.Saves.{next_place, next_slot, standing_after, has_closed_gate};
 ghost use Rattle.spec_store.specs.Laws.{MaySave, IsFilled, IsBeforeOrAfter};
+ghost use Rattle.persist_store.specs.Marks.{MarksStay};
 ghost use Rattle.persist_store.specs.Steps.{IsAt, HasCause, IsShut, IsFull, StandsFor, IsSaving};
 
 use crate::gate::is_gate_closed;
@@ -23,6 +24,7 @@ pub fn write_slot<D: Disk>(disk: &mut D, place: u64, behind: &[u8]) -> Result<()
     ensures untold { D.contents disk.old ≡ None → D.contents disk.new ≡ None }
     ensures told { D.contents disk.new ≡ None → D.contents disk.old ≡ None }
     ensures names { D.names disk.new ≡ D.names disk.old }
+    ensures marks { MarksStay D.marked disk.old disk.new }
     ensures cause { HasCause (D.fault_count disk.old) (D.fault_count disk.new) result }
 {
     close_gate(disk, place)?;
@@ -40,6 +42,7 @@ fn close_gate<D: Disk>(disk: &mut D, place: u64) -> Result<(), StepFault>
     ensures untold { D.contents disk.old ≡ None → D.contents disk.new ≡ None }
     ensures told { D.contents disk.new ≡ None → D.contents disk.old ≡ None }
     ensures names { D.names disk.new ≡ D.names disk.old }
+    ensures marks { MarksStay D.marked disk.old disk.new }
     ensures cause { HasCause (D.fault_count disk.old) (D.fault_count disk.new) result }
 {
     if is_gate_closed(disk, place)? {
@@ -62,6 +65,7 @@ fn fill_slot<D: Disk>(disk: &mut D, place: u64, behind: &[u8]) -> Result<(), Ste
     ensures untold { D.contents disk.old ≡ None → D.contents disk.new ≡ None }
     ensures told { D.contents disk.new ≡ None → D.contents disk.old ≡ None }
     ensures names { D.names disk.new ≡ D.names disk.old }
+    ensures marks { MarksStay D.marked disk.old disk.new }
     ensures cause { HasCause (D.fault_count disk.old) (D.fault_count disk.new) result }
 {
     write_and_sync(disk, place + 1, behind)
@@ -78,6 +82,7 @@ fn open_gate<D: Disk>(disk: &mut D, place: u64) -> Result<(), StepFault>
     ensures untold { D.contents disk.old ≡ None → D.contents disk.new ≡ None }
     ensures told { D.contents disk.new ≡ None → D.contents disk.old ≡ None }
     ensures names { D.names disk.new ≡ D.names disk.old }
+    ensures marks { MarksStay D.marked disk.old disk.new }
     ensures cause { HasCause (D.fault_count disk.old) (D.fault_count disk.new) result }
 {
     write_and_sync(disk, place, &[1])
@@ -93,6 +98,7 @@ fn write_and_sync<D: Disk>(disk: &mut D, at: u64, bytes: &[u8]) -> Result<(), St
     ensures untold { D.contents disk.old ≡ None → D.contents disk.new ≡ None }
     ensures told { D.contents disk.new ≡ None → D.contents disk.old ≡ None }
     ensures names { D.names disk.new ≡ D.names disk.old }
+    ensures marks { MarksStay D.marked disk.old disk.new }
     ensures cause { HasCause (D.fault_count disk.old) (D.fault_count disk.new) result }
 {
     match disk.write_at(at, bytes) {

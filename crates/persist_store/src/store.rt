@@ -8,6 +8,7 @@ ghost use Rattle.spec_store.specs.Slots.{standing_of};
 ghost use Rattle.spec_store.specs.Saves.{standing_after, next_sequence, is_over_limit};
 ghost use Rattle.spec_store.specs.Laws.{IsBeforeOrAfter};
 ghost use Rattle.persist_store.specs.Disk.{OpensOnce};
+ghost use Rattle.persist_store.specs.Marks.{MarksStay};
 ghost use Rattle.persist_store.specs.Opened.{IsOpened};
 ghost use Rattle.persist_store.specs.Slots.{standing_kept};
 ghost use Rattle.persist_store.specs.Steps.{StandsFor};
@@ -45,6 +46,7 @@ impl Store {
     pub fn open<D: Disk>(alloc: Global, disk: &mut D, name: &str) -> Result<StoreOpen, NoMemory>
         ensures opened { IfOk result (IsOpened D.contents D.may_leave disk.old disk.new) }
         ensures named { OpensOnce result (D.names disk.old) (D.names disk.new) name.now }
+        ensures marks { MarksStay D.marked disk.old disk.new }
         ensures contents { D.contents disk.new ≡ D.contents disk.old }
         ensures stop { LeavesOnly D.moment D.left_since disk.old disk.new (D.may_leave disk.old) }
         ensures later { D.fault_count disk.old ≤ D.fault_count disk.new }
@@ -99,6 +101,7 @@ impl Store {
         ensures untold { D.contents disk.old ≡ None → D.contents disk.new ≡ None }
         ensures told { D.contents disk.new ≡ None → D.contents disk.old ≡ None }
         ensures names { D.names disk.new ≡ D.names disk.old }
+        ensures marks { MarksStay D.marked disk.old disk.new }
         ensures untouched { IfOk result (λ answer. LeavesDisk answer disk.old disk.new) }
         ensures later { D.fault_count disk.old ≤ D.fault_count disk.new }
         ensures failed { IfOk result (λ answer. answer ≡ Saved.Failed

@@ -1,7 +1,7 @@
 //! A file with bytes written into it.
 
 ghost use Rattle.std.specs.Prelude.{◌≡◌, ◌+◌, ◌≤◌, ◌++◌, length, take, drop, replicate, IfOk, OnOk};
-ghost use Rattle.spec_store.specs.Disk.{written, filled_to};
+ghost use Rattle.spec_store.specs.Disk.{written, filled};
 
 use ads_base::{NoMemory, Octets};
 use std::alloc::Global;
@@ -21,7 +21,7 @@ pub fn written_copy(alloc: Global, file: &[u8], at: u64, bytes: &[u8]) -> Result
 
 // The first bytes of a file, and zeros behind its end.
 fn front_of(alloc: Global, file: &[u8], at: usize) -> Result<Octets, NoMemory>
-    ensures { IfOk result (λ front. front ≡ take at (filled_to at file.now)) }
+    ensures { IfOk result (λ front. front ≡ take at (filled at file.now)) }
 {
     let kept = if at < file.len() { &file[..at] } else { file };
     let mut front = kept.to_vec(alloc)?;

@@ -38,5 +38,4 @@ pub mod ReloadedPorts
 mod WritableLemmas
 mod WriteLemmas
 pub mod TypeIds
-pub mod EndsRead
 pub mod TypesPut

@@ -18,8 +18,7 @@ use Rattle.spec_plant.specs.Sizes.{element_count, type_size}
 use Rattle.spec_plant.specs.Spelling.{type_text}
 use Rattle.spec_plant.specs.Entries.{type_id}
 use Rattle.spec_plant.specs.AcceptedTypes.{AreTypes, IsSized, LIMIT, is_elem, is_bound, are_bounds}
-use Rattle.spec_plant.specs.TypeTexts.{Ends, ElemText, PlainText, StringText, NamedText, TypeText, is_same_word, is_closing, kind_named}
-use Rattle.spec_plant.specs.TypeTexts.{string_length_of, named_text_of, other_elem_of, elem_text_of, array_elem_of, array_text_of, type_text_of, dimensions_of}
+use Rattle.spec_plant.specs.TypeTexts.{Ends, ElemText, PlainText, StringText, NamedText, TypeText, is_same_word, type_text_of}
 use Rattle.spec_plant.proofs.SizeLemmas.{kind_size-bounds}
 use Rattle.spec_plant.proofs.TypeLemmas.{named_there, stands_at}
 use Rattle.spec_formats.specs.TypeEntry.{type_bytes, type_upload_bytes}
@@ -28,7 +27,11 @@ use Rattle.spec_formats.specs.Ranges.{greatest_len}
 use Rattle.spec_plant.specs.World.{PlantPort}
 use Rattle.spec_machine.specs.World.{World}
 use Rattle.spec_machine.specs.MoreActs.{if_type}
-use Rattle.spec_machine.specs.TypesByText.{place_of_type, elem_tree_of, bound_of_ends, tree_with, is_small_tree, if_small, tree_of_text, entry_by_type}
+use Rattle.spec_plant.specs.Shapes.{place_named, elem_at, elem_named, bound_between, shape_with, shape_named}
+use Rattle.spec_plant.proofs.ShapesRead.{both_true, AreDimensions, bounds_between-good}
+use Rattle.spec_plant.proofs.TextsRead.{good_elem, type_text_of-good}
+use Rattle.spec_machine.specs.TypesByText.{is_small_tree, if_small, tree_of_text, entry_by_type}
+use Rattle.spec_machine.proofs.TypesNamed.{elem_at-tree, small_named}
 use Rattle.type_layout.specs.ReadTexts as code_texts
 use Rattle.type_layout.specs.NamedTypes.{types_of, named_type_of}
 use Rattle.type_layout.specs.declared.named_type.NamedType as code
@@ -38,98 +41,44 @@ use Rattle.type_upload.proofs.TextLengths.{text-short}
 use Rattle.port_device.specs.Answers.{AnswersAct}
 use Rattle.port_device.specs.Holds.{HoldsPort}
 use Rattle.port_device.specs.PortMemory.{PortMemory}
-use Rattle.port_device.specs.TypesPut.{ends_read, tree_read, is_elem_text, are_few_ends, put_bytes, IsPut}
-use Rattle.port_device.proofs.EndsRead.{both_true, AreDimensions, dimensions_of-good, bounds_between-good}
-
--- a text type that is read has at most 65,534 bytes
-
-length-read : (text : List ℕ) (n : ℕ) → string_length_of text ≡ Some n → nat_le n 65534 ≡ true
-length-read text n h =
-    let digits = take (length text - 1) text in
-    elim (cases_Bool ((slice_index text (length text - 1) == 41) && (is_decimal digits && nat_le (number_of_digits digits) 65534))) [
-      | inl t ↦
-          let f : Some (number_of_digits digits) ≡ Some n = rw t at h in
-          let same : number_of_digits digits ≡ n = cc in
-          let inner = (and_parts (slice_index text (length text - 1) == 41) (is_decimal digits && nat_le (number_of_digits digits) 65534) t).1 in
-          let small = (and_parts (is_decimal digits) (nat_le (number_of_digits digits) 65534) inner).1 in
-          subst (λ m. nat_le m 65534 ≡ true) same small
-      | inr t ↦ let f = rw t at h in cc
-    ]
-
-abbrev IsElemText : ElemText → Type 0
-IsElemText e = is_elem_text e ≡ true
-
-named-read : (text : List ℕ) (e : ElemText) → named_text_of text ≡ Some e → IsElemText e
-named-read text e h =
-    elim (cases_Bool (is_identifier text && list_all (λ word. not (is_same_word word text)) (codes "ARRAY" ∷ codes "OF" ∷ []))) [
-      | inl t ↦ let f : Some (NamedText text) ≡ Some e = rw t at h in let same : NamedText text ≡ e = cc in subst IsElemText same refl
-      | inr t ↦ let f = rw t at h in cc
-    ]
-
-other-read : (text : List ℕ) (e : ElemText) → other_elem_of text ≡ Some e → IsElemText e
-other-read text e h =
-    elim (cases_Bool (is_same_word text (codes "STRING"))) [
-      | inl t ↦ let f : Some (StringText 80) ≡ Some e = rw t at h in let same : StringText 80 ≡ e = cc in subst IsElemText same refl
-      | inr t ↦ elim (cases_Bool (is_same_word (take 7 text) (codes "STRING("))) [
-        | inl s ↦ lengths (string_length_of (drop 7 text)) refl (rw (t, s) at h)
-        | inr s ↦ named-read text e (rw (t, s) at h)
-      ]
-    ]
-  where
-    lengths : (o : Option ℕ) → string_length_of (drop 7 text) ≡ o → option_map StringText o ≡ Some e → IsElemText e
-    lengths None q f = cc
-    lengths (Some n) q f = let same : StringText n ≡ e = cc in subst IsElemText same (length-read (drop 7 text) n q)
-
-elem-read : (text : List ℕ) (e : ElemText) → elem_text_of text ≡ Some e → IsElemText e
-elem-read text e h = kinds (kind_named text) refl h
-  where
-    kinds : (o : Option Kind) → kind_named text ≡ o → (if is_some o then option_map PlainText o else other_elem_of text) ≡ Some e → IsElemText e
-    kinds None q f = other-read text e f
-    kinds (Some k) q f = let same : PlainText k ≡ e = cc in subst IsElemText same refl
+use Rattle.port_device.specs.TypesPut.{ends_read, elem_tree_of, tree_with, tree_of_type_text, tree_read, is_elem_text, are_few_ends, put_bytes, IsPut}
 
 -- what is known of a text that was read
 pub record IsRead (t : TypeText) : Type 0 where
   pub elem_ : is_elem_text t.elem ≡ true
   pub ends : are_few_ends t.ends ≡ true
 
-with-ends : (es : List Ends) (o : Option ElemText) (t : TypeText) → are_few_ends es ≡ true → ((e : ElemText) → o ≡ Some e → IsElemText e)
-    → option_map (λ e. record { ends = es; elem = e }) o ≡ Some t → IsRead t
-with-ends es None t d h f = cc
-with-ends es (Some e) t d h f =
-    let whole : TypeText = record { ends = es; elem = e } in
-    let same : whole ≡ t = cc in
-    subst IsRead same (record { elem_ = h e refl; ends = d })
+fine_elem : (e : ElemText) → good_elem e ≡ true → is_elem_text e ≡ true
+fine_elem (PlainText k) h = refl
+fine_elem (StringText n) h = h
+fine_elem (NamedText name) h = refl
 
 few_ends : (es : List Ends) → AreDimensions es → are_few_ends es ≡ true
-few_ends es d = both_true (nat_le (length es) 3) (list_all is_bound (map bound_of_ends es)) d.few (bounds_between-good es d.each)
-
-array_elem-read : (text : List ℕ) (e : ElemText) → array_elem_of text ≡ Some e → IsElemText e
-array_elem-read text e h =
-    elim (cases_Bool (is_same_word (take 5 text) (codes "] OF "))) [
-      | inl t ↦ elem-read (drop 5 text) e (rw t at h)
-      | inr t ↦ let f = rw t at h in cc
-    ]
-
-array-read : (text : List ℕ) (t : TypeText) → array_text_of text ≡ Some t → IsRead t
-array-read text t h = dims (dimensions_of inside) refl h
-  where
-    inside : List ℕ
-    inside = before_first is_closing text
-
-    behind : List ℕ
-    behind = drop (length inside) text
-
-    dims : (o : Option (List Ends)) → dimensions_of inside ≡ o
-        → option_and_then (λ es. option_map (λ e. record { ends = es; elem = e }) (array_elem_of behind)) o ≡ Some t → IsRead t
-    dims None q f = cc
-    dims (Some es) q f = with-ends es (array_elem_of behind) t (few_ends es (dimensions_of-good inside es q)) (array_elem-read behind) f
+few_ends es d = both_true (nat_le (length es) 3) (list_all is_bound (map bound_between es)) d.few (bounds_between-good es d.each)
 
 pub text-read : (text : List ℕ) (t : TypeText) → type_text_of text ≡ Some t → IsRead t
-text-read text t h =
-    elim (cases_Bool (is_same_word (take 7 text) (codes "ARRAY ["))) [
-      | inl s ↦ array-read (drop 7 text) t (rw s at h)
-      | inr s ↦ with-ends [] (elem_text_of text) t refl (elem-read text) (rw s at h)
-    ]
+text-read text t h = let good = type_text_of-good text t h in record { elem_ = fine_elem t.elem good.elem_; ends = few_ends t.ends good.ends }
+
+-- the tree of a type text is that of the shape that it names
+
+same_tree : (types : List NamedType) (es : List Ends) (x : Elem) (tree : TypeTree) → elem_tree (trees_of types) x ≡ tree
+    → tree_of types (shape_with es x) ≡ tree_with es tree
+same_tree types [] x tree e = e
+same_tree types (d ∷ es) x tree e = ap (ArrayTree (map bound_between (d ∷ es))) e
+
+same_elem : (types : List NamedType) (es : List Ends) (e : ElemText)
+    → option_map (tree_of types) (option_map (shape_with es) (elem_named types e)) ≡ option_map (tree_with es) (elem_tree_of types e)
+same_elem types es (PlainText kind) = ap Some (same_tree types es _ _ refl)
+same_elem types es (StringText n) = ap Some (same_tree types es _ _ refl)
+same_elem types es (NamedText name) = go (place_named types name)
+  where
+    go : (o : Option ℕ) → option_map (tree_of types) (option_map (shape_with es) (option_map (elem_at types) o))
+        ≡ option_map (tree_with es) (option_map (tree_at (trees_of types)) o)
+    go None = refl
+    go (Some place) = ap Some (same_tree types es (elem_at types place) (tree_at (trees_of types) place) (elem_at-tree types place))
+
+pub text-described : (types : List NamedType) (t : TypeText) → option_map (tree_of types) (shape_named types t) ≡ tree_of_type_text types t
+text-described types t = same_elem types t.ends t.elem
 
 -- elements
 
@@ -208,7 +157,7 @@ sized_array types bounds e count each h ec es few small = record {
 }
 
 -- dimensions that are there make an array
-pub array_with : (t : read.TypeText) (tree : TypeTree) → t.count ≢ 0 → tree_with (ends_read t) tree ≡ ArrayTree (map bound_of_ends (ends_read t)) tree
+pub array_with : (t : read.TypeText) (tree : TypeTree) → t.count ≢ 0 → tree_with (ends_read t) tree ≡ ArrayTree (map bound_between (ends_read t)) tree
 array_with t tree h =
     elim (cases_Bool (t.count == 0)) [
       | inl z ↦ absurd (h (eqb-true t.count 0 z))
@@ -221,7 +170,7 @@ array_with t tree h =
       ])
     ]
 
-ends_there : (t : read.TypeText) → t.count ≢ 0 → nat_lt 0 (length (map bound_of_ends (ends_read t))) ≡ true
+ends_there : (t : read.TypeText) → t.count ≢ 0 → nat_lt 0 (length (map bound_between (ends_read t))) ≡ true
 ends_there t h =
     elim (cases_Bool (t.count == 0)) [
       | inl z ↦ absurd (h (eqb-true t.count 0 z))
@@ -234,13 +183,13 @@ ends_there t h =
       ])
     ]
 
-pub bounds_fine : (t : read.TypeText) → t.count ≢ 0 → are_few_ends (ends_read t) ≡ true → are_bounds (map bound_of_ends (ends_read t)) ≡ true
+pub bounds_fine : (t : read.TypeText) → t.count ≢ 0 → are_few_ends (ends_read t) ≡ true → are_bounds (map bound_between (ends_read t)) ≡ true
 bounds_fine t h f =
     let es = ends_read t in
-    let p = and_parts (nat_le (length es) 3) (list_all is_bound (map bound_of_ends es)) f in
-    let few : nat_le (length (map bound_of_ends es)) 3 ≡ true = rw (length-map es bound_of_ends) (p.0) in
-    both_true (nat_lt 0 (length (map bound_of_ends es)) && nat_le (length (map bound_of_ends es)) 3) (list_all is_bound (map bound_of_ends es))
-    (both_true (nat_lt 0 (length (map bound_of_ends es))) (nat_le (length (map bound_of_ends es)) 3) (ends_there t h) few) (p.1)
+    let p = and_parts (nat_le (length es) 3) (list_all is_bound (map bound_between es)) f in
+    let few : nat_le (length (map bound_between es)) 3 ≡ true = rw (length-map es bound_between) (p.0) in
+    both_true (nat_lt 0 (length (map bound_between es)) && nat_le (length (map bound_between es)) 3) (list_all is_bound (map bound_between es))
+    (both_true (nat_lt 0 (length (map bound_between es))) (nat_le (length (map bound_between es)) 3) (ends_there t h) few) (p.1)
 
 -- which arrays are small
 
@@ -284,13 +233,6 @@ put_none o out e = subst (λ (x : Option TypeTree). IsPut x false out out) (sym 
 pub put_some : (o : Option TypeTree) (tree : TypeTree) (old new : List ℕ) → o ≡ Some tree → new ≡ old ++ put_bytes tree
     → IsPut o true old new
 put_some o tree old new e put = subst (λ (x : Option TypeTree). IsPut x true old new) (sym e) (refl, put)
-
--- a named type is small enough
-small_named : (types : List NamedType) (place : ℕ) (t : NamedType) → AreTypes types → slice_get types place ≡ Some t
-    → if_small (tree_at (trees_of types) place) ≡ Some (tree_at (trees_of types) place)
-small_named types place (Structure name ms) a e = let there = (stands_at types place (Structure name ms) a e).tree in rw there refl
-small_named types place (Enumeration name base values) a e =
-    let there = (stands_at types place (Enumeration name base values) a e).tree in rw there refl
 
 -- the same of a type that is told otherwise
 pub put_along : (o other : Option TypeTree) (r : Result Bool NoMemory) (old new : List ℕ) → other ≡ o
@@ -370,6 +312,6 @@ typed_passed m types len text (Err no_memory) old new e h = h
 
 -- the element that a text names, by the place of its type
 
-pub place_as : (types : List code.NamedType) (name : List ℕ) → place_of_type (types_of types) name
+pub place_as : (types : List code.NamedType) (name : List ℕ) → place_named (types_of types) name
     ≡ position (λ t. is_same_word (type_name (named_type_of t)) name) types
 place_as types name = position-map (λ t. is_same_word (type_name t) name) named_type_of types

@@ -9,14 +9,15 @@ ghost use Rattle.spec_plant.specs.TypeTexts.{is_same_word};
 ghost use Rattle.spec_plant.specs.World.{PlantPort};
 ghost use Rattle.spec_formats.specs.Ranges.{greatest_len};
 ghost use Rattle.spec_machine.specs.MoreActs.{if_type};
-ghost use Rattle.spec_machine.specs.TypesByText.{place_of_type, elem_tree_of, bound_of_ends, tree_with, if_small, tree_of_text};
+ghost use Rattle.spec_plant.specs.Shapes.{place_named, bound_between};
+ghost use Rattle.spec_machine.specs.TypesByText.{if_small, tree_of_text};
 ghost use Rattle.spec_machine.specs.World.{World};
 ghost use Rattle.type_layout.specs.NamedTypes.{types_of, named_type_of};
 ghost use Rattle.type_layout.specs.ReadTexts.{ends_of, elem_text_of};
 ghost use Rattle.type_layout.specs.Shapes.{kind_of, elem_of, bound_of, bounds_of};
 ghost use Rattle.port_device.specs.Answers.{AnswersAct};
 ghost use Rattle.port_device.specs.Holds.{HoldsPort};
-ghost use Rattle.port_device.specs.TypesPut.{ends_read, tree_read, is_elem_text, are_few_ends, put_bytes, IsPut};
+ghost use Rattle.port_device.specs.TypesPut.{ends_read, elem_tree_of, tree_with, tree_read, is_elem_text, are_few_ends, put_bytes, IsPut};
 
 use crate::port::Port;
 use crate::type_ids::elem_id;
@@ -141,7 +142,7 @@ fn elem_named(types: &[NamedType], elem: ElemText<'_>) -> Option<Elem>
 fn elem_called(types: &[NamedType], name: &[u8]) -> Option<Elem>
     requires few { length types.now ≤ 1000 }
     ensures tree { option_map (λ e. elem_tree (trees_of (types_of types.now)) (elem_of e)) result
-        ≡ option_map (tree_at (trees_of (types_of types.now))) (place_of_type (types_of types.now) name.now) }
+        ≡ option_map (tree_at (trees_of (types_of types.now))) (place_named (types_of types.now) name.now) }
     ensures there { IfSome result (λ e. IsTrue (is_elem (types_of types.now) (elem_of e))) }
 {
     match place_named(types, name) {
@@ -281,7 +282,7 @@ fn put_array(
 
 // The number of elements, 1 where it is no array.
 fn element_count(t: &TypeText<'_>) -> u128
-    ensures count { result ≡ element_count (map bound_of_ends (ends_read t.now)) }
+    ensures count { result ≡ element_count (map bound_between (ends_read t.now)) }
     ensures bound { result ≤ 2 ^ 96 }
 {
     let first = index_count(t.first) as u128;
@@ -297,7 +298,7 @@ fn element_count(t: &TypeText<'_>) -> u128
 
 // The number of indexes of one dimension.
 fn index_count(e: Ends) -> u64
-    ensures count { result ≡ (bound_of_ends (ends_of e)).count }
+    ensures count { result ≡ (bound_between (ends_of e)).count }
     ensures small { result ≤ 4294967296 }
 {
     (e.high as i64 - e.low as i64).unsigned_abs() + 1
@@ -306,8 +307,8 @@ fn index_count(e: Ends) -> u64
 // The dimensions.
 fn put_bounds(alloc: Global, bounds: &mut Bounds, t: &TypeText<'_>) -> Result<(), NoMemory>
     requires none { bounds.old ≡ [] }
-    requires small { nat_le (element_count (map bound_of_ends (ends_read t.now))) LIMIT ≡ true }
-    ensures { OnOk result (bounds_of bounds.new ≡ map bound_of_ends (ends_read t.now)) }
+    requires small { nat_le (element_count (map bound_between (ends_read t.now))) LIMIT ≡ true }
+    ensures { OnOk result (bounds_of bounds.new ≡ map bound_between (ends_read t.now)) }
 {
     match t.count {
         0 => Ok(()),
@@ -325,8 +326,8 @@ fn put_bounds(alloc: Global, bounds: &mut Bounds, t: &TypeText<'_>) -> Result<()
 }
 
 fn bound_of(e: Ends) -> Bound
-    requires { (bound_of_ends (ends_of e)).count ≤ 1048576 }
-    ensures { bound_of result ≡ bound_of_ends (ends_of e) }
+    requires { (bound_between (ends_of e)).count ≤ 1048576 }
+    ensures { bound_of result ≡ bound_between (ends_of e) }
 {
     Bound {
         low: e.low,

@@ -3,6 +3,7 @@
 ghost use Rattle.std.specs.Prelude.{◌≡◌, ◌≤◌, None, IfOk, length};
 ghost use Rattle.ads_outside.specs.Rose.{Rose};
 
+use ads_outside::Wire;
 use persist_store::{Disk, DiskOpen, DiskRead, Synced, Wrote};
 use std::alloc::Alloc;
 use std::fs::{self, OpenFile, OpenOptions};
@@ -47,6 +48,8 @@ impl<R: Files + Alloc + Drop> Disk for RealDisk<R> {
     ghost moment = { λ d. 0 };
 
     ghost left_since = { λ d t c. Unit {0} };
+
+    ghost marked = { λ d marks. Unit {0} };
 
     ghost names = { λ d. None };
 
@@ -105,6 +108,8 @@ impl<R: Files + Alloc + Drop> Disk for RealDisk<R> {
             }
         }
     }
+
+    fn mark<W: Wire>(&mut self, _wire: &W) {}
 }
 
 // Opens the file at a path, and tells how many bytes it has. One that is not there is made empty, and its folder, which is

@@ -5,9 +5,14 @@ use crate::{Fault, Runs};
 use std::process::ExitCode;
 use std::thread::Threads;
 
-/// Tries all runs that runs.txt names, and prints how many went as wanted. It ends with 0 where there were some and all did.
-pub fn main_of<T: Threads + Sync, R: Runs>(rt: &HostRuntime, threads: &T, program: &R) -> ExitCode {
-    match try_all(rt, threads, program).and_then(|tally| end(rt, tally)) {
+/// Tries all runs that runs.txt names over each program, and prints how many went as wanted over it. It ends with 0 where there
+/// were some and all did.
+pub fn main_of<T: Threads + Sync, R: Runs>(
+    rt: &HostRuntime,
+    threads: &T,
+    programs: &[R],
+) -> ExitCode {
+    match try_each(rt, threads, programs) {
         Ok(true) => ExitCode::from(0),
         Ok(false) => ExitCode::from(1),
         Err(fault) => {
@@ -16,6 +21,22 @@ pub fn main_of<T: Threads + Sync, R: Runs>(rt: &HostRuntime, threads: &T, progra
             ExitCode::from(1)
         }
     }
+}
+
+// Whether all runs went as wanted over each program.
+fn try_each<T: Threads + Sync, R: Runs>(
+    rt: &HostRuntime,
+    threads: &T,
+    programs: &[R],
+) -> Result<bool, Fault> {
+    let mut all = true;
+    for program in programs {
+        let tally = try_all(rt, threads, program)?;
+        if !end(rt, tally)? {
+            all = false;
+        }
+    }
+    Ok(all)
 }
 
 fn words_of(fault: Fault) -> &'static str {

@@ -3,6 +3,7 @@
 use crate::draft::{Case, Draft};
 use crate::fault::Fault;
 use crate::folder::Folder;
+use crate::joined::joined;
 use crate::line::take_line;
 use crate::told::{tell_difference, tell_end, tell_fault};
 use crate::{Came, Runs};
@@ -132,7 +133,19 @@ fn try_case<T: Threads + Sync, R: Runs>(
     } = case;
     let wanted = given.take_wanted(rt.alloc(), status, out)?;
     let came = program.run_case(threads, rt.alloc(), given)?;
+    if !program.takes_runs() {
+        return tell(rt, name, line, &came, &wanted, tally);
+    }
+    let came = with_joined_log(rt, came)?;
+    let wanted = with_joined_log(rt, wanted)?;
     tell(rt, name, line, &came, &wanted, tally)
+}
+
+// The same with its log by the bytes that were taken.
+fn with_joined_log(rt: &HostRuntime, came: Came) -> Result<Came, Fault> {
+    let mut came = came;
+    came.log = joined(rt.alloc(), came.log.as_slice())?;
+    Ok(came)
 }
 
 // A run that went as wanted is counted, and of another one is told how.

@@ -2,14 +2,11 @@
 use Rattle.std.specs.Prelude.{ℕ, List, [], ◌∷◌, ◌++◌, ◌==◌, if◌then◌else◌, codes}
 use Rattle.std.specs.Fmt.{decimal}
 use Rattle.spec_client.specs.EndLines.{status_of_end, last_line_of_end}
+pub use Rattle.spec_client.specs.Printed.{line}
 use Rattle.spec_client.specs.Stages.{CallEnd, Refused, BadPeer, TimedOut, BadValue}
 use Rattle.spec_machine.specs.SummaryText.{counted}
 use Rattle.run_tasks.specs.declared.status.Status.{Status}
 use Rattle.run_tasks.specs.declared.status.Status.TheVariants as status
-
--- 10 is the line feed
-abbrev pub line : List ℕ → List ℕ
-line text = text ++ 10 ∷ []
 
 -- the broken rule and its item; 0 stands for no TOML document
 abbrev pub description_line : ℕ → ℕ → List ℕ

@@ -8,7 +8,7 @@ use Rattle.ads_outside.specs.declared.moves.Move.TheVariants as move
 use Rattle.spec_plant.specs.Description.{Description}
 use Rattle.spec_machine.specs.Profile.{Profile}
 use Rattle.spec_machine.specs.Connection.{connection_of}
-use Rattle.spec_server.specs.Server.{server_start_in}
+use Rattle.spec_server.specs.Server.{start_in}
 use Rattle.server_core.specs.declared.turned.Turned.{Turned}
 use Rattle.server_core.specs.declared.waiting.Waiting.{Waiting}
 use Rattle.server_core.specs.Conns.{Conn, conns_of}
@@ -44,7 +44,7 @@ pub ended_some : (v w : ServerView) (waves : List Wave) (n : ℕ) → ServesSome
 ended_some v w waves n s follows = record { state = after_event s.state (event.Closed n); serves = (follows waves s.state s.serves).serves }
 
 -- nothing was opened
-pub started_serves : (profile : Profile) (v : ServerView) (waves : List Wave) (d : Description) → HoldsState v.device waves (server_start_in profile d waves)
+pub started_serves : (profile : Profile) (v : ServerView) (waves : List Wave) (d : Description) → HoldsState v.device waves (start_in profile d waves)
     → v.sessions ≡ [] → v.entries ≡ [] → ServesEach v waves (started_in profile d waves)
 unfolding connection_of
 started_serves profile v waves d device sessions entries =

@@ -8,7 +8,7 @@ use Rattle.spec_plant.specs.Description.{Description}
 use Rattle.spec_machine.specs.Profile.{Profile, strict}
 use Rattle.spec_machine.specs.Running.{Running, running_after}
 pub use Rattle.spec_machine.specs.Running.{OpensNew, offer_at, is_to_be_shut, is_to_be_shut_at}
-use Rattle.spec_server.specs.Server.{server_start_in}
+use Rattle.spec_server.specs.Server.{start_in}
 use Rattle.ads_served.specs.Standing.{running_after_all}
 use Rattle.server_core.specs.Served.{World, Client, served_step}
 
@@ -17,7 +17,7 @@ CoreState = Running World Client
 
 -- no move was made, of the server of a profile
 abbrev pub started_in : Profile → Description → List Wave → CoreState
-started_in profile description signals = record { state = server_start_in profile description signals; blocked = [] }
+started_in profile description signals = record { state = start_in profile description signals; blocked = [] }
 
 -- the same of the strict server, without a right for others
 abbrev pub started : Description → List Wave → CoreState

@@ -1,5 +1,5 @@
 -- Which connections of a core may have something to be offered, or are to be shut: those that were touched. All others are idle.
-use Rattle.std.specs.Prelude.{◌≡◌, ℕ, ◌<◌, ◌⊎◌, zero, suc, List, [], ◌∷◌, ◌++◌, Bool, false, ◌||◌, is_some, if◌then◌else◌, Option, Some, None, slice_get}
+use Rattle.std.specs.Prelude.{◌≡◌, ℕ, ◌<◌, ◌⊎◌, zero, suc, List, [], ◌∷◌, ◌++◌, Bool, true, false, ◌||◌, is_some, if◌then◌else◌, Option, Some, None, slice_get}
 use Rattle.server_core.specs.declared.touched.Touched.{Touched}
 use Rattle.server_core.specs.declared.touched.Touched.TheVariants.{Nothing, Stretch, All}
 use Rattle.server_core.specs.declared.turned.Turned.{Turned}
@@ -33,6 +33,12 @@ due_at ts es k = test_in is_entry_offered (slice_get es k) || test_in is_closing
 -- nothing is offered to the connections at other places, and none of them is to be shut
 abbrev pub OthersIdle : Touched → List Turned → List (ℕ × Waiting) → Type 0
 OthersIdle touched ts es = (k : ℕ) → IsOutside touched k → due_at ts es k ≡ false
+
+-- the first place that is touched is due, if any is touched
+abbrev pub BeginsDue : Touched → List Turned → List (ℕ × Waiting) → Type 0
+BeginsDue Nothing ts es = Unit {0}
+BeginsDue (Stretch first last) ts es = due_at ts es first ≡ true
+BeginsDue All ts es = ⊥
 
 -- the number that stands at a place, if it is due
 abbrev pub number_if : Bool → Option (ℕ × Waiting) → List ℕ

@@ -3,7 +3,7 @@
 ghost use Rattle.std.specs.Prelude.{◌≡◌, ◌<◌, ◌^◌, List, length, IfOk};
 ghost use Rattle.signals.specs.Wave.{Wave};
 ghost use Rattle.spec_persistent.specs.Otherwise.{MayBegin};
-ghost use Rattle.spec_server.specs.Server.{server_start_in};
+ghost use Rattle.spec_server.specs.Server.{start_in};
 ghost use Rattle.type_layout.specs.Descriptions.{description_of};
 ghost use Rattle.server_core.specs.Profiles.{profile_of};
 
@@ -38,7 +38,7 @@ impl Device {
     ) -> Result<Device, NoMemory>
         requires { MayBegin (description_of d.now) signals }
         ensures { IfOk result (λ device. (waves : List Wave) → signals ≡ length waves → length waves < 2 ^ 32
-            → HoldsState device waves (server_start_in (profile_of profile) (description_of d.now) waves)) }
+            → HoldsState device waves (start_in (profile_of profile) (description_of d.now) waves)) }
     {
         Ok(Device {
             net: d.net,

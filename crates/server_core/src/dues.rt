@@ -1,7 +1,7 @@
 //! The connections that are to be served: something is offered to them, or they are to be shut.
 
-ghost use Rattle.std.specs.Prelude.{◌≡◌, ◌≤◌, ◌<◌, ◌++◌, ℕ, false, length, slice_get, option_copied, IfOk, OnOk};
-ghost use Rattle.server_core.specs.Touched.{OthersIdle, due_at, is_closing, test_in, is_entry_offered, number_if, numbers_due};
+ghost use Rattle.std.specs.Prelude.{◌≡◌, ◌≤◌, ◌<◌, ◌++◌, ◌⊎◌, ℕ, false, length, slice_get, option_copied, IfOk, OnOk};
+ghost use Rattle.server_core.specs.Touched.{BeginsDue, IsOutside, OthersIdle, due_at, is_closing, test_in, is_entry_offered, number_if, numbers_due};
 
 use crate::clients::Clients;
 use crate::touched::Touched;
@@ -29,12 +29,16 @@ impl Clients {
     pub(crate) fn settle(&mut self)
         ensures sessions { self.new.sessions ≡ self.old.sessions }
         ensures waiting { self.new.waiting ≡ self.old.waiting }
+        ensures begins { BeginsDue self.new.touched self.new.sessions.items self.new.waiting.entries }
+        ensures within { (k : ℕ) → IsOutside self.old.touched k → IsOutside self.new.touched k }
     {
         self.touched = self.settled();
     }
 
     fn settled(&self) -> Touched
-        ensures { OthersIdle result self.now.sessions.items self.now.waiting.entries }
+        ensures idle { OthersIdle result self.now.sessions.items self.now.waiting.entries }
+        ensures begins { BeginsDue result self.now.sessions.items self.now.waiting.entries }
+        ensures within { (k : ℕ) → IsOutside self.now.touched k → IsOutside result k }
     {
         let (first, end) = self.stretch();
         for i in first..end {
@@ -52,6 +56,7 @@ impl Clients {
     fn stretch(&self) -> (usize, usize)
         ensures before { (k : ℕ) → k < result.0 → due_at self.now.sessions.items self.now.waiting.entries k ≡ false }
         ensures behind { (k : ℕ) → result.1 ≤ k → due_at self.now.sessions.items self.now.waiting.entries k ≡ false }
+        ensures within { (k : ℕ) → IsOutside self.now.touched k → (k < result.0) ⊎ (result.1 ≤ k) }
     {
         let len = self.waiting.len().max(self.sessions.len());
         match self.touched {

@@ -30,12 +30,14 @@ pub(crate) struct Server {
 
 impl Server {
     ghost use Rattle.server_core.specs.ServerView.{view_of};
+    ghost use Rattle.server_core.specs.Touched.{BeginsDue};
     ghost use Rattle.server_core.specs.Serves.{ServesEach, ServesSome, IsServing, FollowsEach};
 
     /// Connections that are idle by now are forgotten among those that were touched.
     pub(crate) fn settle(&mut self)
         ensures view { view_of self.new ≡ view_of self.old }
         ensures notes { self.new.notes ≡ self.old.notes }
+        ensures begins { BeginsDue self.new.clients.touched self.new.clients.sessions.items self.new.clients.waiting.entries }
     {
         self.clients.settle();
     }

@@ -1,12 +1,13 @@
 -- The value that a text is read as: a value is made up from the text, and it is read where the text is that value's own.
 use Rattle.std.specs.Prelude.{ℕ, zero, suc, ◌+◌, ◌-◌, ◌*◌, ◌/◌, ◌%◌, ◌^◌, List, [], ◌∷◌, ◌++◌, length, drop}
-use Rattle.std.specs.Prelude.{replicate, slice_index, Bool, ◌&&◌, ◌==◌, nat_lt, Option, Some, None, Result, Ok}
+use Rattle.std.specs.Prelude.{slice_index, Bool, ◌&&◌, ◌==◌, nat_lt, Option, Some, None, Result, Ok}
 use Rattle.std.specs.Prelude.{Err, is_ok, if◌then◌else◌, bytes_eq, codes, decimal}
 use Rattle.std.specs.List.{list_all}
 use Rattle.std.specs.Str.Parse.{digits_value}
 use Rattle.hex.specs.Hex.{decode_of}
 use Rattle.hex.specs.declared.error.FromHexError.{FromHexError}
 use Rattle.spec_frames.specs.Number.{number_of}
+pub use Rattle.spec_frames.specs.Number.{filled}
 use Rattle.spec_formats.specs.ValueText.{is_signed, is_unsigned, signed_text, before_nul, quoted, truth_text}
 
 -- so many little-endian bytes of a number
@@ -40,10 +41,6 @@ unquoted (AtLow high) (c ∷ cs) = (16 * digit_of high + digit_of c) ∷ unquote
 -- what stands between the quotes
 abbrev pub content_of : List ℕ → List ℕ
 content_of text = unquoted Plainly (drop 1 text)
-
--- filled up with NULs to this size
-abbrev pub filled : ℕ → List ℕ → List ℕ
-filled size content = content ++ replicate (size - length content) 0
 
 abbrev pub decoded : Result (List ℕ) FromHexError → List ℕ
 decoded (Ok bytes) = bytes

@@ -1,6 +1,7 @@
 -- Numbers in a payload, each little-endian and read at its place.
-use Rattle.std.specs.Prelude.{ℕ, ◌<◌, List, length, take, drop, slice_index, Option, Some, None, ◌==◌, if◌then◌else◌}
+use Rattle.std.specs.Prelude.{ℕ, List, length, take, drop, Option, Some, None, ◌==◌, if◌then◌else◌}
 use Rattle.std.specs.Int.{w16, w32, w64, from_le_bytes}
+pub use Rattle.spec_frames.specs.Number.{AreBytes}
 
 -- the number of 2 bytes at this place
 abbrev pub number16 : ℕ → List ℕ → ℕ
@@ -13,10 +14,6 @@ number32 at bytes = from_le_bytes w32 (take 4 (drop at bytes))
 -- the number of 8 bytes at this place
 abbrev pub number64 : ℕ → List ℕ → ℕ
 number64 at bytes = from_le_bytes w64 (take 8 (drop at bytes))
-
--- each is a byte; past its end a list reads as 0
-abbrev pub AreBytes : List ℕ → Type 0
-AreBytes bytes = (i : ℕ) → slice_index bytes i < 256
 
 -- the value, where the bytes have this length
 abbrev pub at_length : {X : Type 0} → ℕ → List ℕ → X → Option X

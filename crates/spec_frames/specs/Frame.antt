@@ -17,12 +17,6 @@ header_bytes ams = 0 ∷ 0 ∷ to_le_bytes w32 (length ams)
 abbrev pub frame_bytes : List ℕ → List ℕ
 frame_bytes ams = header_bytes ams ++ ams
 
--- a text that is the frame of an AMS packet
-pub record IsFrame (text : List ℕ) : Type 0 where
-  pub ams : List ℕ
-  pub packet : IsAmsPacket ams
-  pub is : text ≡ frame_bytes ams
-
 -- a text that begins with the header of this AMS packet
 abbrev pub Begins : List ℕ → List ℕ → Type 0
 Begins text ams = IsAmsPacket ams × (take 6 text ≡ header_bytes ams)

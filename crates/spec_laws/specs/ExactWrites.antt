@@ -3,7 +3,6 @@ use Rattle.std.specs.Prelude.{◌≡◌, ◌≢◌, ℕ, ◌≤◌, List, [], ma
 use Rattle.std.specs.Prelude.{min}
 use Rattle.std.specs.Prelude.{Bool, true, false, Some, None, option_map, Result, Ok, Err}
 use Rattle.std.specs.Int.{bit_at}
-use Rattle.ads_outside.specs.declared.event.Event.{Event}
 use Rattle.ads_outside.specs.declared.event.Event.TheVariants as event
 use Rattle.ads_outside.specs.declared.moves.Move.{Move}
 use Rattle.ads_outside.specs.declared.moves.Move.TheVariants as move
@@ -31,24 +30,14 @@ use Rattle.spec_laws.specs.Soundness.{Each}
 abbrev pub names_of_puts : List Put → List ByteName
 names_of_puts puts = map (λ (p : Put). addressed_name p.place) puts
 
--- the names that an event writes: by accepted requests, or by the signals of a tick
-abbrev pub writes_of_event : DescriptionReading → MachineState World Client → Event
-    → List ByteName
-writes_of_event reading s (event.Opened c) = []
-writes_of_event reading s (event.Piece c bytes) =
-    writes_of_acts (acts_of_move reading s (move.Event (event.Piece c bytes)))
-writes_of_event reading s (event.Closed c) = []
-writes_of_event reading s (event.Tick t) =
-    names_of_puts (signal_puts s.world.plant.ports 0 s.world.signals)
-writes_of_event reading s (event.Reload bytes) = []
-writes_of_event reading s (event.Writable c) = []
-
+-- the names that a move writes: by accepted requests, or by the signals of a tick
 abbrev pub writes_of_move : DescriptionReading → MachineState World Client → Move
     → List ByteName
-writes_of_move reading s (move.Event e) = writes_of_event reading s e
-writes_of_move reading s (move.Took c offered bytes) = []
-writes_of_move reading s (move.Lost c) = []
-writes_of_move reading s (move.Shut c) = []
+writes_of_move reading s (move.Event (event.Piece c bytes)) =
+    writes_of_acts (acts_of_move reading s (move.Event (event.Piece c bytes)))
+writes_of_move reading s (move.Event (event.Tick t)) =
+    names_of_puts (signal_puts s.world.plant.ports 0 s.world.signals)
+writes_of_move reading s m = []
 
 abbrev pub is_accepted : Result Description DescriptionFault → Bool
 is_accepted (Ok d) = true

@@ -27,10 +27,6 @@ AreApart ns xs = (n : ByteName) → IsAmong n ns → IsAmong n xs → ⊥
 abbrev pub start_in : Profile → Description → List Wave → MachineState World Client
 start_in profile d signals = start_of (world_in profile d signals)
 
--- that of the strict server
-abbrev pub start : Description → List Wave → MachineState World Client
-start d signals = start_in strict d signals
-
 -- what a connection was given by the end of a log
 abbrev pub output : DescriptionReading → Profile → Description → List Wave → ℕ → List Move
     → List ℕ

@@ -47,3 +47,4 @@ pub mod RangesMoved
 pub mod AreaContent
 pub mod WritableBytes
 pub mod WorldBytes
+pub mod TypesNamed

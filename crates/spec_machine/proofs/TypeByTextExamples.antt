@@ -49,6 +49,7 @@ use Rattle.spec_plant.specs.World.{plant_of}
 use Rattle.spec_frames.specs.Frame.{frame_bytes}
 use Rattle.spec_frames.proofs.Hex.{hex}
 use Rattle.spec_machine.specs.TypesByText.{tree_of_text}
+use Rattle.spec_plant.specs.Shapes.{shape_of_text}
 use Rattle.spec_machine.proofs.Plant.{ENGINEER, answer_to, q, a, named, opened, piece, plant, waves, step}
 
 -- all that connection 1 of the wide server is given, where it is opened first
@@ -88,5 +89,5 @@ unfolding ams_length_of is_header front_of packet_of behind_frame frames_from fr
     ended_watches name_behind comment_behind entry_of_part numbers_from name_at names_at content_of projection_of acts_of_packets acts_of_move
     acts_of_log acts_by_others reply_in_forms outcome_in_all response_packet performed grouped frames_of_samples samples_at watches_after_tick
     reach_of outcomes_of memory_after_acts client_after_acts is_kept memory_after_reload world_after_reload client_reloaded answered_group
-    after_packet after_packets after_piece read_group acts_of decide_request decide digits tree_of_text
+    after_packet after_packets after_piece read_group acts_of decide_request decide digits tree_of_text shape_of_text
 type_rows = record { of_a_named_type = refl; of_plain_types = refl; of_arrays = refl; refused = refl }

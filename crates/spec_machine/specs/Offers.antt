@@ -57,10 +57,6 @@ abbrev pub is_among : ℕ → List ℕ → Bool
 is_among c [] = false
 is_among c (b ∷ bs) = (b == c) || is_among c bs
 
--- whether a connection is blocked at the end of a log
-abbrev pub is_blocked : ℕ → List Move → Bool
-is_blocked c log = is_among c (blocked_after [] log)
-
 -- all bytes that a connection took
 unfoldable pub taken_of : ℕ → List Move → List ℕ
 taken_of c [] = []

@@ -1,9 +1,10 @@
 -- Sum commands: their parts, one after another, and the packing of what the parts gave.
 -- Beckhoff Information System, "ADS Sum Command".
-use Rattle.std.specs.Prelude.{ℕ, zero, suc, ◌+◌, ◌-◌, ◌*◌, List, [], ◌∷◌, ◌++◌, length, take, drop}
-use Rattle.std.specs.Prelude.{flat_map, sum, replicate, nat_lt, not, ◌||◌, ◌==◌, if◌then◌else◌}
+use Rattle.std.specs.Prelude.{ℕ, zero, suc, ◌+◌, ◌*◌, List, [], ◌∷◌, ◌++◌, length, take, drop}
+use Rattle.std.specs.Prelude.{flat_map, sum, nat_lt, not, ◌||◌, ◌==◌, if◌then◌else◌}
 use Rattle.std.specs.Prelude.{Option, Some, None}
 use Rattle.std.specs.Int.{w32, to_le_bytes}
+pub use Rattle.spec_frames.specs.Number.{filled}
 use Rattle.spec_formats.specs.Codes.{invalid_size, invalid_value}
 use Rattle.spec_formats.specs.Numbers.{number32}
 use Rattle.spec_formats.specs.Ranges.{greatest_len}
@@ -105,23 +106,13 @@ sum_of_read_writes n bytes = record {
   form = OfReadWrites;
 }
 
--- reads whose results tell their lengths, each filled to the length that it asks
-abbrev pub sum_of_told_reads : ℕ → List ℕ → SumRequest
-sum_of_told_reads n bytes = record {
-  data_len = 12 * n;
-  reply_len = 8 * n + sum (numbers_of_heads n 12 8 bytes);
-  parts = read_parts n bytes;
-  form = OfToldReads (numbers_of_heads n 12 8 bytes);
-}
-
 -- reads whose results tell their lengths, each as long as what it gives
 abbrev pub sum_of_short_reads : ℕ → List ℕ → SumRequest
-sum_of_short_reads n bytes = record {
-  data_len = 12 * n;
-  reply_len = 8 * n + sum (numbers_of_heads n 12 8 bytes);
-  parts = read_parts n bytes;
-  form = OfReadWrites;
-}
+sum_of_short_reads n bytes = record (sum_of_reads n bytes) { reply_len = 8 * n + sum (numbers_of_heads n 12 8 bytes); form = OfReadWrites }
+
+-- reads whose results tell their lengths, each filled to the length that it asks
+abbrev pub sum_of_told_reads : ℕ → List ℕ → SumRequest
+sum_of_told_reads n bytes = record (sum_of_short_reads n bytes) { form = OfToldReads (numbers_of_heads n 12 8 bytes) }
 
 -- additions of notifications, whose results tell their handles, where a head has this width
 abbrev pub additions_of_width : ℕ → ℕ → List ℕ → SumRequest
@@ -160,10 +151,7 @@ sum_refusal n data_len len reply_len read_len =
 abbrev pub codes_of : List Outcome → List ℕ
 codes_of os = flat_map (λ (o : Outcome). to_le_bytes w32 o.code) os
 
--- data filled with zeros to the asked length
-abbrev pub filled : ℕ → List ℕ → List ℕ
-filled len bytes = bytes ++ replicate (len - length bytes) 0
-
+-- data filled with zeros to the asked lengths
 abbrev pub filled_data : List ℕ → List Outcome → List ℕ
 filled_data [] os = []
 filled_data (len ∷ lens) [] = []

@@ -1,38 +1,15 @@
--- The type that a text names among those of a plant, and the entry that tells it. A text is read as a description's type texts
--- are, ASCII case aside: a plain type, a text, a type of the plant, or an array of one of these.
+-- The type that a text names among those of a plant, as in a description, and the entry that tells it.
 -- Beckhoff Information System, "AdsDatatypeEntry"; which fields an entry has is this project's own choice.
-use Rattle.std.specs.Prelude.{ℕ, ◌+◌, List, [], ◌∷◌, map, Bool, true, ◌&&◌, nat_le, nat_abs, ◌-ℤ◌, if◌then◌else◌}
-use Rattle.std.specs.Prelude.{Option, Some, None, option_map, option_and_then, position}
-use Rattle.spec_plant.specs.Listed.{Bound, NamedType, type_name}
-use Rattle.spec_plant.specs.Trees.{TypeTree, PlainTree, TextTree, ArrayTree, tree_at, trees_of}
+use Rattle.std.specs.Prelude.{ℕ, List, [], ◌∷◌, Bool, true, ◌&&◌, nat_le, if◌then◌else◌, Option, Some, None, option_map, option_and_then}
+use Rattle.spec_plant.specs.Listed.{NamedType}
+use Rattle.spec_plant.specs.Trees.{TypeTree, ArrayTree, tree_of}
 use Rattle.spec_plant.specs.Sizes.{type_size, element_count}
 use Rattle.spec_plant.specs.Spelling.{type_text}
-use Rattle.spec_plant.specs.TypeTexts.{Ends, ElemText, PlainText, StringText, NamedText, TypeText, type_text_of, is_same_word}
+use Rattle.spec_plant.specs.Shapes.{shape_of_text}
 use Rattle.spec_plant.specs.AcceptedTypes.{LIMIT}
 use Rattle.spec_formats.specs.TypeEntry.{TypeFields, TypeEntry}
 use Rattle.spec_formats.specs.TypeUpload.{DATA_TYPE, dimensions_of, named_fields, entry_of_type}
 use Rattle.spec_machine.specs.Entries.{id_of_element}
-
--- the place of the first type with this name
-abbrev pub place_of_type : List NamedType → List ℕ → Option ℕ
-place_of_type types name = position (λ t. is_same_word (type_name t) name) types
-
--- the tree of an element
-abbrev pub elem_tree_of : List NamedType → ElemText → Option TypeTree
-elem_tree_of types (PlainText kind) = Some (PlainTree kind)
-elem_tree_of types (StringText n) = Some (TextTree n)
-elem_tree_of types (NamedText name) = option_map (tree_at (trees_of types)) (place_of_type types name)
-
--- a dimension by its least index and the number of its indexes
-abbrev pub bound_of_ends : Ends → Bound
-bound_of_ends e = record { low = e.low; count = nat_abs (e.high -ℤ e.low) + 1 }
-
-abbrev pub tree_with : List Ends → TypeTree → TypeTree
-tree_with [] element = element
-tree_with (e ∷ es) element = ArrayTree (map bound_of_ends (e ∷ es)) element
-
-abbrev pub tree_of_type_text : List NamedType → TypeText → Option TypeTree
-tree_of_type_text types t = option_map (tree_with t.ends) (elem_tree_of types t.elem)
 
 -- an array has at most as many elements and bytes as one of a description
 abbrev pub is_small_tree : TypeTree → Bool
@@ -44,7 +21,7 @@ if_small tree = if is_small_tree tree then Some tree else None
 
 -- the type that a text names
 unfoldable pub tree_of_text : List NamedType → List ℕ → Option TypeTree
-tree_of_text types text = option_and_then if_small (option_and_then (tree_of_type_text types) (type_text_of text))
+tree_of_text types text = option_and_then if_small (option_map (tree_of types) (shape_of_text types text))
 
 -- what is told of a type that the upload does not list: an array has its element's id, its element's text and its dimensions;
 -- others have no text of a type

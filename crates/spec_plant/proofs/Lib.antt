@@ -14,3 +14,5 @@ pub mod BlockLemmas
 pub mod CoveringLemmas
 pub mod SoundLemmas
 pub mod FoundLemmas
+pub mod ShapesRead
+pub mod TextsRead

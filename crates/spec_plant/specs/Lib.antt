@@ -20,3 +20,4 @@ pub mod TypeTexts
 pub mod Rights
 pub mod WrittenTypes
 pub mod FoundLaws
+pub mod Shapes

@@ -31,7 +31,7 @@ use Rattle.spec_machine.proofs.Carried.{took-cases}
 use Rattle.spec_laws.specs.Rising.{AreRising, WatchesRise}
 use Rattle.spec_laws.proofs.Exchanges.{produce_all-client}
 use Rattle.spec_laws.proofs.Risen.{handles_rise}
-use Rattle.spec_server.specs.Server.{read_description, server_device, server, server_start_in, server_after_in}
+use Rattle.spec_server.specs.Server.{read_description, server_device, server, start_in, server_after_in}
 use Rattle.spec_promises.specs.Notified.{watch_numbered, watch_of, watch_at, given_to, TickSeen, seen_at, life_of}
 use Rattle.spec_promises.specs.Notified.{GivesByCycle, IsByCycle, GivesOnChange, IsOnChange, ServerNotifies, EachNotifies}
 use Rattle.spec_promises.specs.Asked.{asked_of_piece}
@@ -260,7 +260,7 @@ ended c h s (m ∷ ms) e = rw e refl
 pub after_one : (profile : Profile) (d : Description) (waves : List Wave) (log : List Move) (m : Move)
     → server_after_in profile d waves (log ++ m ∷ []) ≡ state_after_move server (server_after_in profile d waves log) m
 unfolding state_after
-after_one profile d waves log m = state_after-append server log (m ∷ []) (server_start_in profile d waves)
+after_one profile d waves log m = state_after-append server log (m ∷ []) (start_in profile d waves)
 
 -- its number was given
 known : (h low : ℕ) (ws : List (Watch (List Addressed))) (high : ℕ) (w : Watch (List Addressed)) → AreRising low ws high → watch_numbered h ws ≡ Some w

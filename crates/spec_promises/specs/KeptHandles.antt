@@ -18,7 +18,7 @@ use Rattle.spec_machine.specs.Acts.{Outcome}
 use Rattle.spec_machine.specs.SumLaws.{single_outcome}
 use Rattle.spec_machine.specs.Writes.{Asker}
 use Rattle.spec_laws.specs.Histories.{handle_history}
-use Rattle.spec_server.specs.Server.{read_description, server_start_in, server_after_in}
+use Rattle.spec_server.specs.Server.{read_description, start_in, server_after_in}
 
 -- what a connection reads by a handle, so many bytes
 abbrev pub read_by_handle : MachineState World Client → Connection Client → Asker → ℕ → ℕ → Outcome
@@ -64,7 +64,7 @@ abbrev pub HandlesAreHistoryIn : Profile → Description → List Wave → List 
 HandlesAreHistoryIn profile d waves log = (c : ℕ) (k : Connection Client)
     → connection_of c (server_after_in profile d waves log).connections ≡ Some k
     → (handle port : ℕ) → kept_status k.client.handles handle port
-    ≡ status_of (handle_history read_description c (server_start_in profile d waves) log) handle port
+    ≡ status_of (handle_history read_description c (start_in profile d waves) log) handle port
 
 -- So of the server of each profile, over every description and every log.
 abbrev pub EachHandleIsHistory : Type 0

@@ -14,7 +14,7 @@ use Rattle.spec_plant.specs.Accepted.{IsAccepted, IMAGE_LIMIT, are_two_nets, is_
 use Rattle.spec_rules.specs.Written.{WrittenRoute, WrittenSymbol, WrittenPort, Document}
 use Rattle.spec_rules.specs.Places.{first_wrong, first_through}
 use Rattle.spec_rules.specs.Nets.{net_of}
-use Rattle.spec_rules.specs.Shapes.{shape_of_text}
+use Rattle.spec_plant.specs.Shapes.{shape_of_text}
 use Rattle.spec_rules.specs.Described.{symbol_described, port_described, route_described, shape_described, natural_of, types_described, description_of}
 use Rattle.spec_rules.specs.Tables.{is_two, document_in}
 use Rattle.spec_rules.specs.RouteRules.{wrong_net, is_right_route}

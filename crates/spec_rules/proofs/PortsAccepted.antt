@@ -13,7 +13,7 @@ use Rattle.name_paths.specs.Name.{is_symbol_name}
 use Rattle.spec_plant.specs.Accepted.{are_two_names, are_apart, is_symbol, is_signal_right, is_device_name, are_facts, image_size, IMAGE_LIMIT, is_port}
 use Rattle.spec_rules.specs.Written.{WrittenSymbol, WrittenPort}
 use Rattle.spec_rules.specs.Places.{first_wrong}
-use Rattle.spec_rules.specs.Shapes.{shape_of_text}
+use Rattle.spec_plant.specs.Shapes.{shape_of_text}
 use Rattle.spec_rules.specs.Described.{symbol_described, sizes_described, facts_described, port_described, shape_described, natural_of, area_of}
 use Rattle.spec_rules.specs.PortRules.{is_between, is_natural, is_port_name, has_right_sizes, is_right_port, has_right_upload}
 use Rattle.spec_rules.specs.SymbolRules.{neither_begins, is_right_name, is_small, fits_area, is_right_place, is_right_content}

@@ -19,13 +19,13 @@ use Rattle.spec_plant.specs.Accepted.{number_bytes, are_two_nets, begins_with_va
 use Rattle.spec_rules.specs.Written.{WrittenSymbol}
 use Rattle.spec_rules.specs.Places.{first_wrong}
 use Rattle.spec_rules.specs.Nets.{net_of, is_net, numbers_in}
-use Rattle.spec_rules.specs.Shapes.{shape_of_text}
+use Rattle.spec_plant.specs.Shapes.{shape_of_text}
 use Rattle.spec_rules.specs.Described.{shape_described, symbol_described, nets_described, initial_described, default_bytes, bytes_of_hex, natural_of}
 use Rattle.spec_rules.specs.SymbolRules.{is_small, fits_area, are_right_bytes, is_right_initial}
 use Rattle.spec_rules.specs.SymbolRules.{is_right_writer, are_right_writers, is_right_content, is_signal}
 use Rattle.spec_rules.specs.SymbolRules.{has_other_signal}
 use Rattle.spec_rules.proofs.FirstWrong.{both_true, none_of, are_right}
-use Rattle.spec_rules.proofs.TextsRead.{shape_of_text-good}
+use Rattle.spec_plant.proofs.TextsRead.{shape_of_text-good}
 
 -- NetIds of two texts that differ are two
 record IsNetText (text net : List ℕ) : Type 0 where

@@ -14,15 +14,15 @@ use Rattle.spec_plant.specs.AcceptedTypes.{AreTypes, are_types_behind, is_next_t
 use Rattle.spec_plant.specs.AcceptedTypes.{is_member, is_short_identifier, is_comment, is_shape}
 use Rattle.spec_plant.specs.AcceptedTypes.{is_small_shape, is_small_type, is_in_range, is_same_number}
 use Rattle.spec_plant.specs.AcceptedTypes.{are_two_values, is_count, differ, all_pairs}
-use Rattle.spec_rules.specs.Written.{WrittenMember, WrittenValue, WrittenType, WrittenStructure, WrittenEnumeration, written_name, written_members}
+use Rattle.spec_rules.specs.Written.{WrittenMember, WrittenType, WrittenStructure, WrittenEnumeration, written_name, written_members}
 use Rattle.spec_rules.specs.Places.{first_wrong, first_through, lesser}
-use Rattle.spec_rules.specs.Shapes.{shape_of_text}
-use Rattle.spec_rules.specs.Described.{shape_described, member_described, value_described, base_of, type_described, types_behind, types_described}
+use Rattle.spec_plant.specs.Shapes.{shape_of_text}
+use Rattle.spec_rules.specs.Described.{shape_described, member_described, base_of, type_described, types_behind, types_described}
 use Rattle.spec_rules.specs.TypeRules.{is_right_type_name, wrong_type_name, is_right_value, are_right_values}
 use Rattle.spec_rules.specs.TypeRules.{has_right_parts, is_right_member, wrong_member_of, wrong_part}
 use Rattle.spec_rules.specs.SizeRules.{members_of, is_right_size, wrong_size}
 use Rattle.spec_rules.proofs.FirstWrong.{both_true, none_of, first_right, first_through-none, AreRight, are_right, list_all-mapped, all_pairs-mapped}
-use Rattle.spec_rules.proofs.TextsRead.{shape_of_text-good}
+use Rattle.spec_plant.proofs.TextsRead.{shape_of_text-good}
 
 -- a type that a text names is described as that
 shape_described-good : (known : List NamedType) (text : List ℕ) → is_some (shape_of_text known text) ≡ true → is_shape known (shape_described known text) ≡ true
@@ -68,12 +68,12 @@ members_good known (m ∷ ms) h g =
     (members_good known ms (a.1) (b.1))
 
 -- values
-right_values : (base : Kind) (vs : List WrittenValue) → first_wrong (is_right_value base) [] vs ≡ None
-    → AreRight (λ (v : WrittenValue). is_short_identifier v.name && is_in_range base v.number)
-    (λ (e v : WrittenValue). differ e.name v.name && not (is_same_number e.number v.number)) [] vs
+right_values : (base : Kind) (vs : List EnumValue) → first_wrong (is_right_value base) [] vs ≡ None
+    → AreRight (λ (v : EnumValue). is_short_identifier v.name && is_in_range base v.number)
+    (λ (e v : EnumValue). differ e.name v.name && not (is_same_number e.number v.number)) [] vs
 right_values base vs h =
-    are_right (is_right_value base) (λ (v : WrittenValue). is_short_identifier v.name && is_in_range base v.number)
-    (λ (e v : WrittenValue). differ e.name v.name && not (is_same_number e.number v.number)) (λ before v g. and_parts _ _ g) [] vs h
+    are_right (is_right_value base) (λ (v : EnumValue). is_short_identifier v.name && is_in_range base v.number)
+    (λ (e v : EnumValue). differ e.name v.name && not (is_same_number e.number v.number)) (λ before v g. and_parts _ _ g) [] vs h
 
 base_of-base : (text : List ℕ) (k : Kind) → base_of text ≡ Some k → is_base k ≡ true
 base_of-base text k h = go (kind_named text) h
@@ -103,22 +103,22 @@ parts_good known (WrittenStructure name ms) count members small =
     (both_true (is_count (length (map (member_described known) ms))) (list_all (is_member known) (map (member_described known) ms)) counted each) pairs
 parts_good known (WrittenEnumeration name base vs) right members small = bases (base_of base) refl ((and_parts _ _ right).1)
   where
-    counted : is_count (length (map value_described vs)) ≡ true
-    counted = rw (length-map vs value_described) ((and_parts _ _ right).0)
+    counted : is_count (length vs) ≡ true
+    counted = (and_parts _ _ right).0
 
     bases : (o : Option Kind) → base_of base ≡ o → option_map_or (are_right_values vs) o false ≡ true
-        → has_parts known (Enumeration name (unwrap_or o SINT) (map value_described vs)) ≡ true
+        → has_parts known (Enumeration name (unwrap_or o SINT) vs) ≡ true
     bases None q f = cc
     bases (Some k) q f =
         let good = right_values k vs (none_of (first_wrong (is_right_value k) [] vs) f) in
-        let each = list_all-mapped value_described (λ (v : EnumValue). is_short_identifier v.name && is_in_range k v.number) vs good.each in
-        let pairs = all_pairs-mapped value_described are_two_values vs good.pairs in
-        both_true (is_count (length (map value_described vs)) && is_base k
-        && list_all (λ (v : EnumValue). is_short_identifier v.name && is_in_range k v.number) (map value_described vs))
-        (all_pairs are_two_values (map value_described vs))
-        (both_true (is_count (length (map value_described vs)) && is_base k)
-        (list_all (λ (v : EnumValue). is_short_identifier v.name && is_in_range k v.number) (map value_described vs))
-        (both_true (is_count (length (map value_described vs))) (is_base k) counted (base_of-base base k q)) each) pairs
+        let each = good.each in
+        let pairs = good.pairs in
+        both_true (is_count (length vs) && is_base k
+        && list_all (λ (v : EnumValue). is_short_identifier v.name && is_in_range k v.number) vs)
+        (all_pairs are_two_values vs)
+        (both_true (is_count (length vs) && is_base k)
+        (list_all (λ (v : EnumValue). is_short_identifier v.name && is_in_range k v.number) vs)
+        (both_true (is_count (length vs)) (is_base k) counted (base_of-base base k q)) each) pairs
 
 name-described : (known : List NamedType) (t : WrittenType) → type_name (type_described known t) ≡ written_name t
 name-described known (WrittenStructure name ms) = refl

@@ -13,11 +13,11 @@ use Rattle.spec_plant.specs.Description.{Rights, Read, Write, Control, Route, Ar
 use Rattle.spec_plant.specs.Accepted.{number_bytes}
 use Rattle.spec_plant.specs.Trees.{tree_of}
 use Rattle.spec_plant.specs.Sizes.{type_size}
-use Rattle.spec_rules.specs.Written.{WrittenRoute, WrittenMember, WrittenValue, WrittenType, WrittenStructure}
+use Rattle.spec_rules.specs.Written.{WrittenRoute, WrittenMember, WrittenType, WrittenStructure}
 use Rattle.spec_rules.specs.Written.{WrittenEnumeration, WrittenSymbol, WrittenPort, Document}
 use Rattle.spec_rules.specs.Fields.{if_so}
 use Rattle.spec_rules.specs.Nets.{net_of}
-use Rattle.spec_rules.specs.Shapes.{shape_of_text}
+use Rattle.spec_plant.specs.Shapes.{shape_of_text}
 
 -- a number that is not below 0
 abbrev pub natural_of : ℤ → ℕ
@@ -48,14 +48,11 @@ abbrev pub member_described : List NamedType → WrittenMember → Member
 member_described known m =
     record { name = m.name; shape = shape_described known m.type; comment = m.comment }
 
-abbrev pub value_described : WrittenValue → EnumValue
-value_described v = record { name = v.name; number = v.number }
-
 -- a type behind these
 abbrev pub type_described : List NamedType → WrittenType → NamedType
 type_described known (WrittenStructure name members) = Structure name (map (member_described known) members)
 type_described known (WrittenEnumeration name base values) =
-    Enumeration name (unwrap_or (base_of base) SINT) (map value_described values)
+    Enumeration name (unwrap_or (base_of base) SINT) values
 
 -- these types, and those behind them, each in terms of the ones before it
 unfoldable pub types_behind : List NamedType → List WrittenType → List NamedType

@@ -3,7 +3,6 @@ pub mod Fields
 pub mod Tables
 pub mod Places
 pub mod Nets
-pub mod Shapes
 pub mod TypeRules
 pub mod SizeRules
 pub mod RouteRules

@@ -14,7 +14,7 @@ use Rattle.spec_plant.specs.AcceptedTypes.{is_comment, is_small_shape, is_same_n
 use Rattle.spec_rules.specs.Written.{WrittenSymbol, WrittenPort}
 use Rattle.spec_rules.specs.Places.{first_wrong, first_through}
 use Rattle.spec_rules.specs.Nets.{net_of}
-use Rattle.spec_rules.specs.Shapes.{shape_of_text}
+use Rattle.spec_plant.specs.Shapes.{shape_of_text}
 use Rattle.spec_rules.specs.PortRules.{is_natural}
 use Rattle.spec_rules.specs.Described.{area_of, bytes_of_hex, shape_described, symbol_described, sizes_described}
 

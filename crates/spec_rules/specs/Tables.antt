@@ -3,7 +3,7 @@
 use Rattle.std.specs.Prelude.{ℕ, List, [], ◌∷◌, Bool, false, ◌&&◌, ◌==◌, Option, Some, is_some, if◌then◌else◌, codes, ℤ, pos, negsuc}
 use Rattle.toml.specs.Data.{Members, get_member, as_str, as_integer, as_bool}
 use Rattle.spec_rules.specs.Fields.{◌>>=◌, only_keys, required, optional, maybe, array_of, tables_of, if_so}
-use Rattle.spec_rules.specs.Written.{WrittenRoute, WrittenMember, WrittenValue, WrittenType, WrittenStructure}
+use Rattle.spec_rules.specs.Written.{WrittenRoute, WrittenMember, EnumValue, WrittenType, WrittenStructure}
 use Rattle.spec_rules.specs.Written.{WrittenEnumeration, WrittenSymbol, WrittenPort, Document}
 
 unfoldable pub route_in : Members → Option WrittenRoute
@@ -19,7 +19,7 @@ member_in t = if_so (only_keys (codes "name" ∷ codes "type" ∷ codes "comment
   comment ← optional as_str [] (codes "comment") t
   Some (record { name = name; type = type; comment = comment }))
 
-unfoldable pub value_in : Members → Option WrittenValue
+unfoldable pub value_in : Members → Option EnumValue
 value_in t = if_so (only_keys (codes "name" ∷ codes "number" ∷ []) t) (do
   name ← required as_str (codes "name") t
   number ← required as_integer (codes "number") t

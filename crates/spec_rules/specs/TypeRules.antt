@@ -5,9 +5,9 @@ use Rattle.std.specs.List.{list_all}
 use Rattle.spec_plant.specs.Listed.{NamedType}
 use Rattle.spec_plant.specs.Plain.{Kind}
 use Rattle.spec_plant.specs.AcceptedTypes.{differ, is_short_identifier, is_comment, is_type_name, is_in_range, is_same_number, is_count}
-use Rattle.spec_rules.specs.Written.{WrittenMember, WrittenValue, WrittenType, WrittenStructure, WrittenEnumeration, written_name, written_members}
+use Rattle.spec_rules.specs.Written.{WrittenMember, EnumValue, WrittenType, WrittenStructure, WrittenEnumeration, written_name, written_members}
 use Rattle.spec_rules.specs.Places.{first_wrong, first_through, lesser}
-use Rattle.spec_rules.specs.Shapes.{shape_of_text}
+use Rattle.spec_plant.specs.Shapes.{shape_of_text}
 use Rattle.spec_rules.specs.Described.{base_of, types_described}
 
 -- a name that a type may have, and that no earlier type has
@@ -21,12 +21,12 @@ wrong_type_name types =
     lesser (first_wrong is_right_type_name [] types) (if nat_lt 1000 (length types) then Some 1000 else None)
 
 -- a value whose name and number no earlier value has, with a number in the base's range
-abbrev pub is_right_value : Kind → List WrittenValue → WrittenValue → Bool
+abbrev pub is_right_value : Kind → List EnumValue → EnumValue → Bool
 is_right_value base before v =
     is_short_identifier v.name && is_in_range base v.number
-    && list_all (λ (e : WrittenValue). differ e.name v.name && not (is_same_number e.number v.number)) before
+    && list_all (λ (e : EnumValue). differ e.name v.name && not (is_same_number e.number v.number)) before
 
-abbrev pub are_right_values : List WrittenValue → Kind → Bool
+abbrev pub are_right_values : List EnumValue → Kind → Bool
 are_right_values values base = is_none (first_wrong (is_right_value base) [] values)
 
 -- 1 to 1,000 members; or a base, and 1 to 1,000 right values

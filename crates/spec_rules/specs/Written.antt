@@ -1,5 +1,6 @@
 -- A description as its document writes it: texts and numbers under their keys, and nothing decided about them.
 use Rattle.std.specs.Prelude.{ℕ, List, [], Bool, Option, ℤ}
+pub use Rattle.spec_plant.specs.Listed.{EnumValue}
 
 -- `[[route]]`
 pub record WrittenRoute : Type 0 where
@@ -12,15 +13,10 @@ pub record WrittenMember : Type 0 where
   pub type : List ℕ
   pub comment : List ℕ
 
--- `[[type.value]]`
-pub record WrittenValue : Type 0 where
-  pub name : List ℕ
-  pub number : ℤ
-
--- `[[type]]`: a structure by name and members, or an enumeration by name, base and values
+-- `[[type]]`: a structure by name and members, or an enumeration by name, base and values, `[[type.value]]`
 pub data WrittenType : Type 0 where
   WrittenStructure : List ℕ → List WrittenMember → WrittenType
-  WrittenEnumeration : List ℕ → List ℕ → List WrittenValue → WrittenType
+  WrittenEnumeration : List ℕ → List ℕ → List EnumValue → WrittenType
 
 -- `[[port.symbol]]`; an absent key is None where no value stands for it
 pub record WrittenSymbol : Type 0 where

@@ -16,6 +16,7 @@ use Rattle.spec_machine.specs.Profile.{strict}
 use Rattle.spec_machine.specs.World.{World}
 use Rattle.spec_machine.specs.Client.{Client}
 use Rattle.spec_machine.specs.Answers.{answered_group}
+use Rattle.spec_machine.specs.Writes.{may_write}
 use Rattle.spec_machine.specs.Outcomes.{outcome_of_reload}
 use Rattle.spec_machine.specs.AdsDevice.{reloading}
 use Rattle.spec_machine.proofs.Played.{play_keeps_turns}
@@ -24,7 +25,7 @@ use Rattle.spec_laws.proofs.EveryState.{every_state_fits}
 use Rattle.spec_laws.proofs.RepliesFit.{replies_fit}
 use Rattle.spec_laws.proofs.Profiles.{keeps_profile}
 use Rattle.spec_laws.proofs.Refused.{turned_away_changes_nothing, result_changes_nothing, refused_reload_counts, dead_handle_touches_nothing}
-use Rattle.spec_server.specs.Server.{read_of_verdict, read_description, server, server_start_in}
+use Rattle.spec_server.specs.Server.{read_of_verdict, read_description, server, start_in}
 use Rattle.spec_server.specs.ServerLaws.{ReadsDescriptions, IsRefused, TellsReloads, ServerPlaysInTurns}
 use Rattle.spec_server.specs.ServerLaws.{ServerIsIsolated, ServerTakesAsAlone, ServerStateFits}
 use Rattle.spec_server.specs.ServerLaws.{ServerRepliesFit, ServerRefusesDeadHandles, ServerLeavesAllAtRefusals}
@@ -74,7 +75,7 @@ server_is_strict description signals log = server_keeps_profile strict descripti
 
 pub each_plays_in_turns : EachPlaysInTurns
 each_plays_in_turns profile description signals lines =
-    play_keeps_turns World Client server (server_start_in profile description signals) lines
+    play_keeps_turns World Client server (start_in profile description signals) lines
 
 pub server_plays_in_turns : ServerPlaysInTurns
 server_plays_in_turns description signals lines = each_plays_in_turns strict description signals lines
@@ -116,9 +117,13 @@ server_refuses_dead_handles d c k handle code dead =
     let refused = dead_handle_touches_nothing d c k handle code dead in
     record {
       read = λ len. refused.0.read len refl;
-      write = λ bytes may. refused.0.write bytes refl may;
+      write = λ bytes. elim (cases_Bool (may_write k.rights)) [
+        | inl may ↦ rw may (refused.0.write bytes refl may)
+        | inr may ↦ rw may (refused.0.write_without_right bytes refl may)
+      ];
       add = λ len number delay cycle mode known few. refused.0.add len number delay cycle mode refl known few;
-      any_form = refused.1;
+      any_add = refused.1.add;
+      read_write = refused.1.read_write;
     }
 
 pub server_leaves_all_at_refusals : ServerLeavesAllAtRefusals

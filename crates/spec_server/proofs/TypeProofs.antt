@@ -1,4 +1,4 @@
--- The types that texts name are those of a description, and named ones are found by their names.
+-- Named types are found by their names.
 use Rattle.std.proofs.Common.{◌≡◌, ℕ, zero, suc, Bool, true, false, cond, List, [], ◌∷◌, ◌++◌, length, map, refl, sym, ◌∙◌, ap, subst, arith}
 use Rattle.std.specs.Prelude.{Option, Some, None, option_map, option_and_then, slice_get, not, bytes_eq}
 use Rattle.std.specs.List.{list_all, position_or_len}
@@ -16,43 +16,10 @@ use Rattle.spec_plant.specs.WrittenTypes.{name_at}
 use Rattle.spec_plant.proofs.TypeLemmas.{stands_at, type_text-named}
 use Rattle.spec_plant.proofs.ReadBack.{read_back}
 use Rattle.spec_formats.specs.TypeUpload.{entry_of_type}
-use Rattle.spec_machine.specs.TypesByText.{place_of_type, elem_tree_of, bound_of_ends, tree_with, tree_of_type_text, if_small, tree_of_text, entry_by_type}
-use Rattle.spec_rules.specs.Shapes.{elem_at, elem_named, shape_with, shape_named, shape_of_text}
-use Rattle.spec_server.specs.TypeLaws.{TextsAreDescribed, NamedTypesAreListed}
-
--- the types of texts
-
-same_tree : (types : List NamedType) (es : List Ends) (x : Elem) (tree : TypeTree) → elem_tree (trees_of types) x ≡ tree
-    → tree_with es tree ≡ tree_of types (shape_with es x)
-same_tree types [] x tree e = sym e
-same_tree types (d ∷ es) x tree e = ap (ArrayTree (map bound_of_ends (d ∷ es))) (sym e)
-
-at_place : (types : List NamedType) (place : ℕ) → elem_tree (trees_of types) (elem_at types place) ≡ tree_at (trees_of types) place
-at_place types place = go (option_map_or is_structure (slice_get types place) false)
-  where
-    go : (b : Bool) → elem_tree (trees_of types) (cond b (Struct place) (Enum place)) ≡ tree_at (trees_of types) place
-    go true = refl
-    go false = refl
-
-same_elem : (types : List NamedType) (es : List Ends) (e : ElemText)
-    → option_map (tree_with es) (elem_tree_of types e) ≡ option_map (tree_of types) (option_map (shape_with es) (elem_named types e))
-same_elem types es (PlainText kind) = ap Some (same_tree types es _ _ refl)
-same_elem types es (StringText n) = ap Some (same_tree types es _ _ refl)
-same_elem types es (NamedText name) = go (place_of_type types name)
-  where
-    go : (o : Option ℕ) → option_map (tree_with es) (option_map (tree_at (trees_of types)) o)
-        ≡ option_map (tree_of types) (option_map (shape_with es) (option_map (elem_at types) o))
-    go None = refl
-    go (Some place) = ap Some (same_tree types es (elem_at types place) (tree_at (trees_of types) place) (at_place types place))
-
-pub texts_are_described : TextsAreDescribed
-unfolding tree_of_text shape_of_text
-texts_are_described types text = go (type_text_of text)
-  where
-    go : (o : Option TypeText) → option_and_then if_small (option_and_then (tree_of_type_text types) o)
-        ≡ option_and_then if_small (option_map (tree_of types) (option_and_then (shape_named types) o))
-    go None = refl
-    go (Some t) = ap (option_and_then if_small) (same_elem types t.ends t.elem)
+use Rattle.spec_plant.specs.Shapes.{place_named, elem_at, shape_with, shape_named, shape_of_text}
+use Rattle.spec_machine.specs.TypesByText.{if_small, tree_of_text, entry_by_type}
+use Rattle.spec_machine.proofs.TypesNamed.{elem_at-tree, small_named}
+use Rattle.spec_server.specs.TypeLaws.{NamedTypesAreListed}
 
 -- the place of a type by its own name
 
@@ -101,7 +68,7 @@ first_place before (u ∷ us) (suc n) t h e =
     rw (other, there) (omega arith)
 
 own_place : (types : List NamedType) (place : ℕ) (t : NamedType) → AreTypes types → slice_get types place ≡ Some t
-    → place_of_type types (type_name t) ≡ Some place
+    → place_named types (type_name t) ≡ Some place
 own_place types place t a e =
     let first = first_place [] types place t a.each e in
     let within = lt-ltb place (length types) (slice_get_within types place t e) in
@@ -121,12 +88,6 @@ read_name types place (Enumeration name base values) a e =
     let shape : is_shape types (One (Enum place)) ≡ true = rw e refl in
     ap type_text_of (sym text) ∙ read_back types (One (Enum place)) a shape ∙ ap (λ n. Some (record { ends = []; elem = NamedText n })) own
 
-small_named : (types : List NamedType) (place : ℕ) (t : NamedType) → AreTypes types → slice_get types place ≡ Some t
-    → if_small (tree_at (trees_of types) place) ≡ Some (tree_at (trees_of types) place)
-small_named types place (Structure name ms) a e = let there = (stands_at types place (Structure name ms) a e).tree in rw there refl
-small_named types place (Enumeration name base values) a e =
-    let there = (stands_at types place (Enumeration name base values) a e).tree in rw there refl
-
 listed_entry : (types : List NamedType) (place : ℕ) (t : NamedType) → AreTypes types → slice_get types place ≡ Some t
     → entry_by_type (tree_at (trees_of types) place) ∷ [] ≡ entry_of_type (tree_at (trees_of types) place)
 listed_entry types place (Structure name ms) a e = let there = (stands_at types place (Structure name ms) a e).tree in rw there refl
@@ -134,10 +95,11 @@ listed_entry types place (Enumeration name base values) a e =
     let there = (stands_at types place (Enumeration name base values) a e).tree in rw there refl
 
 pub named_types_are_listed : NamedTypesAreListed
-unfolding tree_of_text
+unfolding tree_of_text shape_of_text
 named_types_are_listed types place t a e = record {
-  found = ap (λ o. option_and_then if_small (option_and_then (tree_of_type_text types) o)) (read_name types place t a e)
-      ∙ ap (λ o. option_and_then if_small (option_map (tree_with []) (option_map (tree_at (trees_of types)) o))) (own_place types place t a e)
-      ∙ small_named types place t a e;
+  found = ap (λ o. option_and_then if_small (option_map (tree_of types) (option_and_then (shape_named types) o))) (read_name types place t a e)
+      ∙ ap (λ o. option_and_then if_small (option_map (tree_of types) (option_map (shape_with []) (option_map (elem_at types) o))))
+      (own_place types place t a e)
+      ∙ ap if_small (elem_at-tree types place) ∙ small_named types place t a e;
   entry = listed_entry types place t a e;
 }

@@ -15,7 +15,7 @@ use Rattle.spec_machine.specs.Projection.{projection_of}
 use Rattle.spec_laws.specs.Isolation.{IsUntouchedIn}
 use Rattle.spec_laws.specs.Reachable.{AllFits}
 use Rattle.spec_laws.specs.RepliesFit.{AllAnswersFit}
-use Rattle.spec_server.specs.Server.{read_description, server_device, server, server_start_in, server_after_in, server_output_in, server_after}
+use Rattle.spec_server.specs.Server.{read_description, server_device, server, start_in, server_after_in, server_output_in, server_after}
 
 -- A server keeps its profile over every log; that of the program `ads` is strict, and gives no right to others.
 abbrev pub ServerKeepsProfile : Type 0
@@ -29,8 +29,8 @@ ServerIsStrict = (description : Description) (signals : List Wave) (log : List M
 -- The play of a script keeps the turns.
 abbrev pub EachPlaysInTurns : Type 0
 EachPlaysInTurns = (profile : Profile) (description : Description) (signals : List Wave) (lines : List ScriptLine)
-    → KeepsTurns server (server_start_in profile description signals)
-    (play_of server (server_start_in profile description signals) lines)
+    → KeepsTurns server (start_in profile description signals)
+    (play_of server (start_in profile description signals) lines)
 
 -- A client is given what it would be given alone, where no other writes what it reads.
 abbrev pub EachIsIsolated : Type 0
@@ -41,9 +41,9 @@ EachIsIsolated = (profile : Profile) (description : Description) (signals : List
 -- What such a client took begins what it would be given alone, wherever the log ends; and at the end of a
 -- turn it is all of that, unless its last offer was short, or it was closed by its peer or lost.
 pub record TakesAsAloneIn (profile : Profile) (description : Description) (signals : List Wave) (c : ℕ) (log : List Move) : Type 0 where
-  pub begins : AreOffers server (server_start_in profile description signals) log
+  pub begins : AreOffers server (start_in profile description signals) log
       → IsPrefix (taken_of c log) (server_output_in profile description signals c (projection_of c log))
-  pub all : KeepsTurns server (server_start_in profile description signals) log
+  pub all : KeepsTurns server (start_in profile description signals) log
       → is_short c log ≡ false → is_cut_off c log ≡ false
       → taken_of c log ≡ server_output_in profile description signals c (projection_of c log)
 

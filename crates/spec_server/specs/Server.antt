@@ -7,10 +7,10 @@ use Rattle.spec_plant.specs.Description.{Description}
 use Rattle.spec_rules.specs.TextVerdict.{TextVerdict, Described, Breaks, text_verdict}
 use Rattle.spec_rules.specs.TextVerdict as text
 use Rattle.spec_machine.specs.Device.{Device, DescriptionFault, BreaksRule, NoDocument}
-use Rattle.spec_machine.specs.MachineState.{MachineState, start_of, output_of}
+use Rattle.spec_machine.specs.MachineState.{MachineState, output_of}
 use Rattle.spec_machine.specs.Moves.{EventStep, state_after}
 use Rattle.spec_machine.specs.Profile.{Profile, strict}
-use Rattle.spec_machine.specs.World.{World, world_in}
+use Rattle.spec_machine.specs.World.{World}
 use Rattle.spec_machine.specs.Client.{Client}
 use Rattle.spec_machine.specs.BuiltLines.{all_lines}
 use Rattle.spec_machine.specs.ScriptLine.{ScriptLine}
@@ -18,6 +18,7 @@ use Rattle.spec_machine.specs.Script.{script_of}
 use Rattle.spec_machine.specs.Play.{play_of}
 use Rattle.spec_machine.specs.RunText.{text_of_play}
 use Rattle.spec_machine.specs.AdsDevice.{DescriptionReading, ads_device, server_step}
+pub use Rattle.spec_laws.specs.Isolation.{start_in}
 
 -- a description, or why the text is none
 abbrev pub read_of_verdict : TextVerdict → Result Description DescriptionFault
@@ -35,13 +36,9 @@ server_device = ads_device read_description
 abbrev pub server : EventStep World Client
 server = server_step read_description
 
--- the machine of a profile over a description and signals, before any move
-abbrev pub server_start_in : Profile → Description → List Wave → MachineState World Client
-server_start_in profile description signals = start_of (world_in profile description signals)
-
--- the same after a log
+-- the machine of a profile over a description and signals, after a log
 abbrev pub server_after_in : Profile → Description → List Wave → List Move → MachineState World Client
-server_after_in profile description signals log = state_after server (server_start_in profile description signals) log
+server_after_in profile description signals log = state_after server (start_in profile description signals) log
 
 -- all bytes that a connection was given by the end of a log
 abbrev pub server_output_in : Profile → Description → List Wave → ℕ → List Move → List ℕ
@@ -49,7 +46,7 @@ server_output_in profile description signals c log = output_of c (server_after_i
 
 -- the program `ads` is the strict server, without a right for others
 abbrev pub server_start : Description → List Wave → MachineState World Client
-server_start description signals = server_start_in strict description signals
+server_start description signals = start_in strict description signals
 
 abbrev pub server_after : Description → List Wave → List Move → MachineState World Client
 server_after description signals log = state_after server (server_start description signals) log

@@ -1,5 +1,5 @@
 -- Laws of the server that the program is: of every description, all signals and every log.
-use Rattle.std.specs.Prelude.{◌≡◌, ◌+◌, ◌≤◌, ℕ, List, length, true, false, Some}
+use Rattle.std.specs.Prelude.{◌≡◌, ◌+◌, ◌≤◌, ℕ, List, length, false, Some, if◌then◌else◌}
 use Rattle.signals.specs.Wave.{Wave}
 use Rattle.ads_outside.specs.declared.event.Event.TheVariants as event
 use Rattle.ads_outside.specs.declared.moves.Move.{Move}
@@ -8,8 +8,9 @@ use Rattle.spec_plant.specs.Description.{Description}
 use Rattle.spec_plant.specs.Accepted.{IsAccepted}
 use Rattle.spec_rules.specs.TextVerdict.{Breaks, text_verdict}
 use Rattle.spec_rules.specs.TextVerdict as text
+use Rattle.spec_formats.specs.Codes.{not_permitted}
 use Rattle.spec_formats.specs.Groups.{value_by_handle}
-use Rattle.spec_formats.specs.Request.{Read, Write, AddDeviceNotification}
+use Rattle.spec_formats.specs.Request.{Read, Write, AddDeviceNotification, ReadWrite}
 use Rattle.spec_machine.specs.Device.{DescriptionFault, BreaksRule, NoDocument}
 use Rattle.spec_machine.specs.MachineState.{MachineState}
 use Rattle.spec_machine.specs.Moves.{state_after_move}
@@ -30,7 +31,8 @@ use Rattle.spec_laws.specs.Isolation.{IsUntouched}
 use Rattle.spec_laws.specs.Soundness.{ReadsAccepted}
 use Rattle.spec_laws.specs.Reachable.{AllFits}
 use Rattle.spec_laws.specs.RepliesFit.{AllAnswersFit}
-use Rattle.spec_laws.specs.Refusals.{TurnedAwayChangesNothing, ResultChangesNothing, RefusedReloadCounts, dead_code, RefusesAnyForm}
+use Rattle.spec_laws.specs.Refusals.{TurnedAwayChangesNothing, ResultChangesNothing, RefusedReloadCounts, dead_code}
+use Rattle.spec_laws.specs.Refusals as laws
 use Rattle.spec_server.specs.Server.{read_description, server_device, server, server_start, server_after, server_output, server_play}
 
 -- Each description that is read is an accepted one.
@@ -90,16 +92,16 @@ abbrev pub ServerRepliesFit : Type 0
 ServerRepliesFit = (description : Description) (signals : List Wave) → IsAccepted description (length signals)
     → (log : List Move) → AllAnswersFit server_device (server_after description signals log)
 
--- accesses by a handle that is not live: by its code, unless a check that comes before refuses with another
+-- any access by a handle that is not live is refused, so it touches nothing: by its code, unless a check that comes before refuses it
 pub record ServerRefuses (d : Setup) (c : Client) (k : Asker) (handle code : ℕ) : Type 0 where
   pub read : (len : ℕ) → act_of d c k (Read value_by_handle handle len) ≡ Refusal code
-  pub write : (bytes : List ℕ) → may_write k.rights ≡ true
-      → act_of d c k (Write value_by_handle handle bytes) ≡ Refusal code
+  pub write : (bytes : List ℕ)
+      → act_of d c k (Write value_by_handle handle bytes) ≡ Refusal (if may_write k.rights then code else not_permitted)
   pub add : (len number delay cycle : ℕ) (mode : Mode) → mode_of number ≡ Some mode → len ≤ MAX_WATCHED
-      → act_of d c k (AddDeviceNotification value_by_handle handle len number delay cycle)
-      ≡ Refusal code
-  -- and nothing is touched in any form
-  pub any_form : RefusesAnyForm d c k handle
+      → act_of d c k (AddDeviceNotification value_by_handle handle len number delay cycle) ≡ Refusal code
+  pub any_add : (len number delay cycle : ℕ)
+      → laws.IsRefused (act_of d c k (AddDeviceNotification value_by_handle handle len number delay cycle))
+  pub read_write : (len : ℕ) (bytes : List ℕ) → laws.IsRefused (act_of d c k (ReadWrite value_by_handle handle len bytes))
 
 abbrev pub ServerRefusesDeadHandles : Type 0
 ServerRefusesDeadHandles = (d : Setup) (c : Client) (k : Asker) (handle code : ℕ)

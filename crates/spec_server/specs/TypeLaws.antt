@@ -1,16 +1,10 @@
 -- Laws of the types that the wide server tells by their texts.
-use Rattle.std.specs.Prelude.{◌≡◌, ℕ, List, [], ◌∷◌, Some, slice_get, option_map, option_and_then}
+use Rattle.std.specs.Prelude.{◌≡◌, ℕ, List, [], ◌∷◌, Some, slice_get}
 use Rattle.spec_plant.specs.Listed.{NamedType, type_name}
-use Rattle.spec_plant.specs.Trees.{tree_at, tree_of, trees_of}
+use Rattle.spec_plant.specs.Trees.{tree_at, trees_of}
 use Rattle.spec_plant.specs.AcceptedTypes.{AreTypes}
 use Rattle.spec_formats.specs.TypeUpload.{entry_of_type}
-use Rattle.spec_machine.specs.TypesByText.{if_small, tree_of_text, entry_by_type}
-use Rattle.spec_rules.specs.Shapes.{shape_of_text}
-
--- A text names the type that it names in a description with these types, where that is small enough for one.
-abbrev pub TextsAreDescribed : Type 0
-TextsAreDescribed = (types : List NamedType) (text : List ℕ)
-    → tree_of_text types text ≡ option_and_then if_small (option_map (tree_of types) (shape_of_text types text))
+use Rattle.spec_machine.specs.TypesByText.{tree_of_text, entry_by_type}
 
 -- By its name each type of an accepted description is found, and its entry is that of the type upload.
 pub record IsListed (types : List NamedType) (place : ℕ) (t : NamedType) : Type 0 where

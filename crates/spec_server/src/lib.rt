@@ -6,7 +6,7 @@ ghost use Rattle.spec_server.specs.ServerLaws.{ServerIsIsolated, ServerTakesAsAl
 ghost use Rattle.spec_server.specs.ServerLaws.{ServerStateFits, ServerRepliesFit, ServerRefusesDeadHandles};
 ghost use Rattle.spec_server.specs.ProfileLaws.{ServerKeepsProfile, ServerIsStrict, EachPlaysInTurns};
 ghost use Rattle.spec_server.specs.ProfileLaws.{EachIsIsolated, EachTakesAsAlone, EachStateFits, EachRepliesFit};
-ghost use Rattle.spec_server.specs.TypeLaws.{TextsAreDescribed, NamedTypesAreListed};
+ghost use Rattle.spec_server.specs.TypeLaws.{NamedTypesAreListed};
 
 /// Each description that the server reads is an accepted one; a reload of any other text is told its least broken rule
 /// and the least item in it, or that it is no TOML document, and changes the count of refusals alone.
@@ -53,9 +53,7 @@ pub fn each_profile_keeps_the_laws()
     ensures replies { EachRepliesFit }
 {}
 
-/// To the wide server a text names the type that it names in a description; and by its name each type of the description is
-/// found, with its entry in the type upload.
+/// By its name the wide server finds each type of the description, with its entry in the type upload.
 pub fn types_are_found_by_texts()
-    ensures texts { TextsAreDescribed }
-    ensures named { NamedTypesAreListed }
+    ensures { NamedTypesAreListed }
 {}

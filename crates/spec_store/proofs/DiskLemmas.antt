@@ -3,19 +3,19 @@ use Rattle.std.proofs.Common.{◌≡◌, ℕ, ◌+◌, ◌-◌, ◌≤◌, min, 
 use Rattle.std.specs.Prelude.{replicate}
 use Rattle.std.proofs.lemmas.Bool.{cases_lt}
 use Rattle.std.proofs.lemmas.List.{length-take-le, length-drop, length-replicate, take-take, take-append-le, take_all, drop-drop, drop_at, drop_more}
-use Rattle.spec_store.specs.Disk.{filled_to, written, Torn}
+use Rattle.spec_store.specs.Disk.{filled, written, Torn}
 
-length-filled_to : (at : ℕ) (f : List ℕ) → length (filled_to at f) ≡ length f + (at - length f)
-length-filled_to at f = length-append f (replicate (at - length f) 0) ∙ ap (λ (n : ℕ). length f + n) (length-replicate (at - length f) 0)
+length-filled : (at : ℕ) (f : List ℕ) → length (filled at f) ≡ length f + (at - length f)
+length-filled at f = length-append f (replicate (at - length f) 0) ∙ ap (λ (n : ℕ). length f + n) (length-replicate (at - length f) 0)
 
-front : (at : ℕ) (f : List ℕ) → length (take at (filled_to at f)) ≡ at
-front at f = length-take-le at (filled_to at f) (omega (arith, length-filled_to at f))
+front : (at : ℕ) (f : List ℕ) → length (take at (filled at f)) ≡ at
+front at f = length-take-le at (filled at f) (omega (arith, length-filled at f))
 
 -- the bytes stand at their place, and behind them what stood there
 pub drop-written : (at : ℕ) (bytes f : List ℕ) → drop at (written at bytes f) ≡ bytes ++ drop (at + length bytes) f
 drop-written at bytes f =
     let rest = drop (at + length bytes) f in
-    ap (λ (l : List ℕ). drop at l) (append_right (take at (filled_to at f)) bytes rest) ∙ drop_at (take at (filled_to at f)) (bytes ++ rest) at (front at f)
+    ap (λ (l : List ℕ). drop at l) (append_right (take at (filled at f)) bytes rest) ∙ drop_at (take at (filled at f)) (bytes ++ rest) at (front at f)
   where
     append_right : (a b c : List ℕ) → a ++ b ++ c ≡ a ++ (b ++ c)
     append_right [] b c = refl
@@ -24,20 +24,20 @@ drop-written at bytes f =
 pub length-written : (at : ℕ) (bytes f : List ℕ) → length (written at bytes f) ≡ at + length bytes + (length f - (at + length bytes))
 length-written at bytes f =
     let rest = drop (at + length bytes) f in
-    let whole = length-append (take at (filled_to at f) ++ bytes) rest in
-    let first = length-append (take at (filled_to at f)) bytes in
+    let whole = length-append (take at (filled at f) ++ bytes) rest in
+    let first = length-append (take at (filled at f)) bytes in
     omega (arith, whole, first, front at f, length-drop (at + length bytes) f)
 
 before-written : (at : ℕ) (bytes f : List ℕ) → take (min at (length f)) (written at bytes f) ≡ take at f
 before-written at bytes f =
     let n = min at (length f) in
     let rest = drop (at + length bytes) f in
-    let head = take at (filled_to at f) in
+    let head = take at (filled at f) in
     let whole = length-append head bytes in
     let first : take n (head ++ bytes ++ rest) ≡ take n (head ++ bytes) = take-append-le n (head ++ bytes) rest (omega (arith, whole, front at f)) in
     let second : take n (head ++ bytes) ≡ take n head = take-append-le n head bytes (omega (arith, front at f)) in
-    let third : take n head ≡ take n (filled_to at f) = take-take n at (filled_to at f) (omega arith) in
-    let fourth : take n (filled_to at f) ≡ take n f = take-append-le n f (replicate (at - length f) 0) (omega arith) in
+    let third : take n head ≡ take n (filled at f) = take-take n at (filled at f) (omega arith) in
+    let fourth : take n (filled at f) ≡ take n f = take-append-le n f (replicate (at - length f) 0) (omega arith) in
     first ∙ second ∙ third ∙ fourth ∙ same at f
   where
     same : (at : ℕ) (f : List ℕ) → take (min at (length f)) f ≡ take at f

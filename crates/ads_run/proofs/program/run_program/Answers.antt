@@ -36,7 +36,7 @@ returns-in-Err-clause-ends g c =
     g.S.Sink.state c.args.out.now c.run_signals.new.out (g.S.Sink.state c.end_without_memory.new.out)
     (λ w. (g.W.Wire.state w).history) c.args.wire.now c.run_signals.new.wire
     g.L.Link.tells g.L.Link.state c.args.link.now c.run_signals.new.link
-    (disk_used g.D.Disk.contents g.D.Disk.may_leave g.D.Disk.moment g.D.Disk.left_since g.D.Disk.fault_count c.args.disk.now c.run_signals.new.disk)
+    (disk_used g.D.Disk.contents g.D.Disk.may_leave g.D.Disk.moment g.D.Disk.left_since g.D.Disk.marked g.D.Disk.fault_count c.args.disk.now c.run_signals.new.disk)
     (keeper_used g.K.Keeper.state c.args.keeper.now c.run_signals.new.keeper) (
       untouched_same g.D.Disk.may_leave g.D.Disk.moment g.D.Disk.left_since g.met.D.Disk.only_now c.args.disk.now c.run_signals.new.disk
           c.in-Err.ensures.no_memory.4,
@@ -50,7 +50,7 @@ returns-in-Err-clause-cause g c = cause_without_memory (asked_task (words_behind
     (uses (g.S.Sink.state c.args.out.now) (g.S.Sink.state c.end_without_memory.new.out)
     (g.W.Wire.state c.args.wire.now).history (g.W.Wire.state c.run_signals.new.wire).history
     (link_used g.L.Link.tells g.L.Link.state c.args.link.now c.run_signals.new.link)
-    (disk_used g.D.Disk.contents g.D.Disk.may_leave g.D.Disk.moment g.D.Disk.left_since g.D.Disk.fault_count c.args.disk.now c.run_signals.new.disk)
+    (disk_used g.D.Disk.contents g.D.Disk.may_leave g.D.Disk.moment g.D.Disk.left_since g.D.Disk.marked g.D.Disk.fault_count c.args.disk.now c.run_signals.new.disk)
     (keeper_used g.K.Keeper.state c.args.keeper.now c.run_signals.new.keeper)) c.end_without_memory.ensures.memory
 
 pub returns-in-Err-clause-complete : goal.returns-in-Err-clause-complete
@@ -59,7 +59,7 @@ returns-in-Err-clause-complete g c = λ nothing. own_without_memory (g.F.Files.s
     (uses (g.S.Sink.state c.args.out.now) (g.S.Sink.state c.end_without_memory.new.out)
     (g.W.Wire.state c.args.wire.now).history (g.W.Wire.state c.run_signals.new.wire).history
     (link_used g.L.Link.tells g.L.Link.state c.args.link.now c.run_signals.new.link)
-    (disk_used g.D.Disk.contents g.D.Disk.may_leave g.D.Disk.moment g.D.Disk.left_since g.D.Disk.fault_count c.args.disk.now c.run_signals.new.disk)
+    (disk_used g.D.Disk.contents g.D.Disk.may_leave g.D.Disk.moment g.D.Disk.left_since g.D.Disk.marked g.D.Disk.fault_count c.args.disk.now c.run_signals.new.disk)
     (keeper_used g.K.Keeper.state c.args.keeper.now c.run_signals.new.keeper)) c.end_without_memory.ensures.memory
 
 pub returns-in-Err-clause-migrated : goal.returns-in-Err-clause-migrated

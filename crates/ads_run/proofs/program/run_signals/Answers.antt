@@ -35,7 +35,7 @@ returns-clause-runs g c =
     (uses (g.S.Sink.state c.args.out.now) (g.S.Sink.state c.run.new.out)
     (g.W.Wire.state c.args.wire.now).history (g.W.Wire.state c.run.new.wire).history
     (link_used g.L.Link.tells g.L.Link.state c.args.link.now c.run.new.link)
-    (disk_used g.D.Disk.contents g.D.Disk.may_leave g.D.Disk.moment g.D.Disk.left_since g.D.Disk.fault_count c.args.disk.now c.run.new.disk)
+    (disk_used g.D.Disk.contents g.D.Disk.may_leave g.D.Disk.moment g.D.Disk.left_since g.D.Disk.marked g.D.Disk.fault_count c.args.disk.now c.run.new.disk)
     (keeper_used g.K.Keeper.state c.args.keeper.now c.run.new.keeper)) waves
     (ap (map string_bytes) behind ∙ c.in_ok-all.ensures.words)
     (record { ends = c.run.ensures.ends; complete = c.run.ensures.complete; migrated = c.run.ensures.migrated; promises = c.run.ensures.promises })

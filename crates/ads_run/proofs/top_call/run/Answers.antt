@@ -20,7 +20,7 @@ returns-clause-usage g c =
     (uses (g.S.Sink.state c.args.out.now) (g.S.Sink.state c.run_words-status.new.out)
     (g.W.Wire.state c.args.wire.now).history (g.W.Wire.state c.run_words-status.new.wire).history
     (link_used g.L.Link.tells g.L.Link.state c.args.link.now c.run_words-status.new.link)
-    (disk_used g.D.Disk.contents g.D.Disk.may_leave g.D.Disk.moment g.D.Disk.left_since g.D.Disk.fault_count c.args.disk.now c.run_words-status.new.disk)
+    (disk_used g.D.Disk.contents g.D.Disk.may_leave g.D.Disk.moment g.D.Disk.left_since g.D.Disk.marked g.D.Disk.fault_count c.args.disk.now c.run_words-status.new.disk)
     (keeper_used g.K.Keeper.state c.args.keeper.now c.run_words-status.new.keeper)) c.run_words-status.ensures.ends).usage
 
 pub returns-clause-write_fault : goal.returns-clause-write_fault
@@ -30,7 +30,7 @@ returns-clause-write_fault g c =
     (uses (g.S.Sink.state c.args.out.now) (g.S.Sink.state c.run_words-status.new.out)
     (g.W.Wire.state c.args.wire.now).history (g.W.Wire.state c.run_words-status.new.wire).history
     (link_used g.L.Link.tells g.L.Link.state c.args.link.now c.run_words-status.new.link)
-    (disk_used g.D.Disk.contents g.D.Disk.may_leave g.D.Disk.moment g.D.Disk.left_since g.D.Disk.fault_count c.args.disk.now c.run_words-status.new.disk)
+    (disk_used g.D.Disk.contents g.D.Disk.may_leave g.D.Disk.moment g.D.Disk.left_since g.D.Disk.marked g.D.Disk.fault_count c.args.disk.now c.run_words-status.new.disk)
     (keeper_used g.K.Keeper.state c.args.keeper.now c.run_words-status.new.keeper)) c.run_words-status.ensures.ends).write_fault
 
 pub returns-clause-cause : goal.returns-clause-cause
@@ -40,7 +40,7 @@ returns-clause-cause g c =
     (uses (g.S.Sink.state c.args.out.now) (g.S.Sink.state c.run_words-status.new.out)
     (g.W.Wire.state c.args.wire.now).history (g.W.Wire.state c.run_words-status.new.wire).history
     (link_used g.L.Link.tells g.L.Link.state c.args.link.now c.run_words-status.new.link)
-    (disk_used g.D.Disk.contents g.D.Disk.may_leave g.D.Disk.moment g.D.Disk.left_since g.D.Disk.fault_count c.args.disk.now c.run_words-status.new.disk)
+    (disk_used g.D.Disk.contents g.D.Disk.may_leave g.D.Disk.moment g.D.Disk.left_since g.D.Disk.marked g.D.Disk.fault_count c.args.disk.now c.run_words-status.new.disk)
     (keeper_used g.K.Keeper.state c.args.keeper.now c.run_words-status.new.keeper)) c.run_words-status.ensures.ends).cause
 
 pub returns-clause-store_fault : goal.returns-clause-store_fault
@@ -49,14 +49,14 @@ returns-clause-store_fault g c =
     (uses (g.S.Sink.state c.args.out.now) (g.S.Sink.state c.run_words-status.new.out)
     (g.W.Wire.state c.args.wire.now).history (g.W.Wire.state c.run_words-status.new.wire).history
     (link_used g.L.Link.tells g.L.Link.state c.args.link.now c.run_words-status.new.link)
-    (disk_used g.D.Disk.contents g.D.Disk.may_leave g.D.Disk.moment g.D.Disk.left_since g.D.Disk.fault_count c.args.disk.now c.run_words-status.new.disk)
+    (disk_used g.D.Disk.contents g.D.Disk.may_leave g.D.Disk.moment g.D.Disk.left_since g.D.Disk.marked g.D.Disk.fault_count c.args.disk.now c.run_words-status.new.disk)
     (keeper_used g.K.Keeper.state c.args.keeper.now c.run_words-status.new.keeper))
     (facts_of (g.F.Files.state c.args.files.now).held (g.G.Sources.waves c.args.signals) (asked_task (map string_bytes c.args.words.now))
     (Rose (g.F.Files.state c.args.files.now).faults (g.F.Files.state c.run_words-status.new.files).faults) c.run_words-status.result
     (uses (g.S.Sink.state c.args.out.now) (g.S.Sink.state c.run_words-status.new.out)
     (g.W.Wire.state c.args.wire.now).history (g.W.Wire.state c.run_words-status.new.wire).history
     (link_used g.L.Link.tells g.L.Link.state c.args.link.now c.run_words-status.new.link)
-    (disk_used g.D.Disk.contents g.D.Disk.may_leave g.D.Disk.moment g.D.Disk.left_since g.D.Disk.fault_count c.args.disk.now c.run_words-status.new.disk)
+    (disk_used g.D.Disk.contents g.D.Disk.may_leave g.D.Disk.moment g.D.Disk.left_since g.D.Disk.marked g.D.Disk.fault_count c.args.disk.now c.run_words-status.new.disk)
     (keeper_used g.K.Keeper.state c.args.keeper.now c.run_words-status.new.keeper)) c.run_words-status.ensures.ends).cause
 
 pub returns-clause-keeper_fault : goal.returns-clause-keeper_fault
@@ -65,14 +65,14 @@ returns-clause-keeper_fault g c =
     (uses (g.S.Sink.state c.args.out.now) (g.S.Sink.state c.run_words-status.new.out)
     (g.W.Wire.state c.args.wire.now).history (g.W.Wire.state c.run_words-status.new.wire).history
     (link_used g.L.Link.tells g.L.Link.state c.args.link.now c.run_words-status.new.link)
-    (disk_used g.D.Disk.contents g.D.Disk.may_leave g.D.Disk.moment g.D.Disk.left_since g.D.Disk.fault_count c.args.disk.now c.run_words-status.new.disk)
+    (disk_used g.D.Disk.contents g.D.Disk.may_leave g.D.Disk.moment g.D.Disk.left_since g.D.Disk.marked g.D.Disk.fault_count c.args.disk.now c.run_words-status.new.disk)
     (keeper_used g.K.Keeper.state c.args.keeper.now c.run_words-status.new.keeper))
     (facts_of (g.F.Files.state c.args.files.now).held (g.G.Sources.waves c.args.signals) (asked_task (map string_bytes c.args.words.now))
     (Rose (g.F.Files.state c.args.files.now).faults (g.F.Files.state c.run_words-status.new.files).faults) c.run_words-status.result
     (uses (g.S.Sink.state c.args.out.now) (g.S.Sink.state c.run_words-status.new.out)
     (g.W.Wire.state c.args.wire.now).history (g.W.Wire.state c.run_words-status.new.wire).history
     (link_used g.L.Link.tells g.L.Link.state c.args.link.now c.run_words-status.new.link)
-    (disk_used g.D.Disk.contents g.D.Disk.may_leave g.D.Disk.moment g.D.Disk.left_since g.D.Disk.fault_count c.args.disk.now c.run_words-status.new.disk)
+    (disk_used g.D.Disk.contents g.D.Disk.may_leave g.D.Disk.moment g.D.Disk.left_since g.D.Disk.marked g.D.Disk.fault_count c.args.disk.now c.run_words-status.new.disk)
     (keeper_used g.K.Keeper.state c.args.keeper.now c.run_words-status.new.keeper)) c.run_words-status.ensures.ends).cause
 
 pub returns-clause-complete : goal.returns-clause-complete
@@ -83,7 +83,7 @@ returns-clause-complete g c =
     (uses (g.S.Sink.state c.args.out.now) (g.S.Sink.state c.run_words-status.new.out)
     (g.W.Wire.state c.args.wire.now).history (g.W.Wire.state c.run_words-status.new.wire).history
     (link_used g.L.Link.tells g.L.Link.state c.args.link.now c.run_words-status.new.link)
-    (disk_used g.D.Disk.contents g.D.Disk.may_leave g.D.Disk.moment g.D.Disk.left_since g.D.Disk.fault_count c.args.disk.now c.run_words-status.new.disk)
+    (disk_used g.D.Disk.contents g.D.Disk.may_leave g.D.Disk.moment g.D.Disk.left_since g.D.Disk.marked g.D.Disk.fault_count c.args.disk.now c.run_words-status.new.disk)
     (keeper_used g.K.Keeper.state c.args.keeper.now c.run_words-status.new.keeper)) c.run_words-status.ensures.ends
 
 pub returns-clause-relayed : goal.returns-clause-relayed

@@ -19,7 +19,7 @@ returns-in-Ok-Some-clause-ends g c =
     (uses (g.S.Sink.state c.args.out.now) (g.S.Sink.state c.run_task.new.out)
     (g.W.Wire.state c.args.wire.now).history (g.W.Wire.state c.run_task.new.wire).history
     (link_used g.L.Link.tells g.L.Link.state c.args.link.now c.run_task.new.link)
-    (disk_used g.D.Disk.contents g.D.Disk.may_leave g.D.Disk.moment g.D.Disk.left_since g.D.Disk.fault_count c.args.disk.now c.run_task.new.disk)
+    (disk_used g.D.Disk.contents g.D.Disk.may_leave g.D.Disk.moment g.D.Disk.left_since g.D.Disk.marked g.D.Disk.fault_count c.args.disk.now c.run_task.new.disk)
     (keeper_used g.K.Keeper.state c.args.keeper.now c.run_task.new.keeper))
     (sym c.in-Ok-Some.ensures.asked ∙ c.in-Ok-Some.field-0-is) c.run_task.ensures.ends
 
@@ -31,12 +31,12 @@ returns-in-Ok-None-clause-ends g c =
     (uses (g.S.Sink.state c.args.out.now) (g.S.Sink.state c.print_and_end.new.out)
     (g.W.Wire.state c.args.wire.now).history (g.W.Wire.state c.args.wire.now).history
     (link_used g.L.Link.tells g.L.Link.state c.args.link.now c.args.link.now)
-    (disk_used g.D.Disk.contents g.D.Disk.may_leave g.D.Disk.moment g.D.Disk.left_since g.D.Disk.fault_count c.args.disk.now c.args.disk.now)
+    (disk_used g.D.Disk.contents g.D.Disk.may_leave g.D.Disk.moment g.D.Disk.left_since g.D.Disk.marked g.D.Disk.fault_count c.args.disk.now c.args.disk.now)
     (keeper_used g.K.Keeper.state c.args.keeper.now c.args.keeper.now))
     (sym c.in-Ok-None.ensures.asked ∙ c.in-Ok-None.field-0-is)
     (runs_usage held (g.G.Sources.waves c.args.signals) failed c.print_and_end.result (g.S.Sink.state c.args.out.now) (g.S.Sink.state c.print_and_end.new.out)
     (g.W.Wire.state c.args.wire.now).history (link_used g.L.Link.tells g.L.Link.state c.args.link.now c.args.link.now)
-    (disk_used g.D.Disk.contents g.D.Disk.may_leave g.D.Disk.moment g.D.Disk.left_since g.D.Disk.fault_count c.args.disk.now c.args.disk.now)
+    (disk_used g.D.Disk.contents g.D.Disk.may_leave g.D.Disk.moment g.D.Disk.left_since g.D.Disk.marked g.D.Disk.fault_count c.args.disk.now c.args.disk.now)
     (keeper_used g.K.Keeper.state c.args.keeper.now c.args.keeper.now) c.print_and_end.ensures)
 
 pub returns-in-Err-clause-ends : goal.returns-in-Err-clause-ends
@@ -46,7 +46,7 @@ returns-in-Err-clause-ends g c =
     (Rose (g.F.Files.state c.args.files.now).faults (g.F.Files.state c.args.files.now).faults) c.end_without_memory.result
     (g.S.Sink.state c.args.out.now) (g.S.Sink.state c.end_without_memory.new.out) (g.W.Wire.state c.args.wire.now).history
     (g.L.Link.tells c.args.link.now) (g.L.Link.state c.args.link.now)
-    (disk_used g.D.Disk.contents g.D.Disk.may_leave g.D.Disk.moment g.D.Disk.left_since g.D.Disk.fault_count c.args.disk.now c.args.disk.now)
+    (disk_used g.D.Disk.contents g.D.Disk.may_leave g.D.Disk.moment g.D.Disk.left_since g.D.Disk.marked g.D.Disk.fault_count c.args.disk.now c.args.disk.now)
     (keeper_used g.K.Keeper.state c.args.keeper.now c.args.keeper.now)
     (g.met.D.Disk.only_now c.args.disk.now, refl) c.end_without_memory.ensures.memory c.end_without_memory.ensures.line
 

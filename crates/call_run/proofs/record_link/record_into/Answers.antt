@@ -20,7 +20,7 @@ returns-in-Ok-clause-ends g c =
     (g.S.Sink.state c.args.out.now) (g.S.Sink.state c.run_record-answer.new.out) (g.S.Sink.state c.print_recorded.new.out)
     (g.L.Link.tells c.args.link.now) (g.L.Link.tells c.run_record-answer.new.link) (g.L.Link.state c.args.link.now)
     (g.L.Link.state c.run_record-answer.new.link) (g.K.Keeper.state c.args.keeper.now) (g.K.Keeper.state c.run_record-answer.new.keeper)
-    (same_calling _ _ _ _ _ _ _ _ refl refl call refl)
+    (same_calling _ _ _ _ _ _ _ _ refl refl call refl) tt
     c.run_record-answer.ensures.recorded c.run_record-answer.ensures.out_later c.print_recorded.ensures
 
 pub returns-in-Ok-clause-grows : goal.returns-in-Ok-clause-grows

@@ -25,7 +25,7 @@ returns-in-Err-clause-ends g c =
     let name = c.args.description.now in
     let listen = c.args.listen.now in
     let d = c.args.disk.now in
-    let disk = disk_used g.D.Disk.contents g.D.Disk.may_leave g.D.Disk.moment g.D.Disk.left_since g.D.Disk.fault_count d d in
+    let disk = disk_used g.D.Disk.contents g.D.Disk.may_leave g.D.Disk.moment g.D.Disk.left_since g.D.Disk.marked g.D.Disk.fault_count d d in
     let out = g.S.Sink.state c.args.out.now in
     let out_new = g.S.Sink.state c.end_without_memory.new.out in
     let s = c.end_without_memory.result in
@@ -34,7 +34,7 @@ returns-in-Err-clause-ends g c =
     wants_described (serves_plant h) (λ x. EndsPlant h x s out out_new disk wire wire) ((wire ≡ wire) × (d ≡ d)) (g.F.Files.state c.args.files.now).held
     (length h.waves) (λ bytes x. serves_plant h (plant_of name listen bytes x)) name
     (Rose (g.F.Files.state c.args.files.now).faults (g.F.Files.state c.read_description.new.files).faults) s out out_new (refl, refl) wants
-    (λ bytes x. plant_wanting g.D.Disk.contents g.D.Disk.may_leave g.D.Disk.moment g.D.Disk.left_since g.D.Disk.fault_count h (plant_of name listen bytes x)
+    (λ bytes x. plant_wanting g.D.Disk.contents g.D.Disk.may_leave g.D.Disk.moment g.D.Disk.left_since g.D.Disk.marked g.D.Disk.fault_count h (plant_of name listen bytes x)
     ((wire ≡ wire) × (d ≡ d)) d s out out_new wire (g.met.D.Disk.only_now d) wants)
 
 pub returns-in-Ok-Err-clause-ends : goal.returns-in-Ok-Err-clause-ends
@@ -43,7 +43,7 @@ returns-in-Ok-Err-clause-ends g c =
     let name = c.args.description.now in
     let listen = c.args.listen.now in
     let d = c.args.disk.now in
-    let disk = disk_used g.D.Disk.contents g.D.Disk.may_leave g.D.Disk.moment g.D.Disk.left_since g.D.Disk.fault_count d d in
+    let disk = disk_used g.D.Disk.contents g.D.Disk.may_leave g.D.Disk.moment g.D.Disk.left_since g.D.Disk.marked g.D.Disk.fault_count d d in
     let out = g.S.Sink.state c.args.out.now in
     let out_new = g.S.Sink.state c.print_outcome.new.out in
     let wire = (g.W.Wire.state c.args.wire.now).history in
@@ -61,7 +61,7 @@ returns-in-None-clause-ends g c =
     let name = c.args.description.now in
     let listen = c.args.listen.now in
     let d = c.args.disk.now in
-    let disk = disk_used g.D.Disk.contents g.D.Disk.may_leave g.D.Disk.moment g.D.Disk.left_since g.D.Disk.fault_count d d in
+    let disk = disk_used g.D.Disk.contents g.D.Disk.may_leave g.D.Disk.moment g.D.Disk.left_since g.D.Disk.marked g.D.Disk.fault_count d d in
     let out = g.S.Sink.state c.args.out.now in
     let out_new = g.S.Sink.state c.serve_read.new.out in
     let wire = (g.W.Wire.state c.args.wire.now).history in
@@ -88,7 +88,7 @@ returns-in-Some-clause-ends g c =
     let listen = c.args.listen.now in
     let d = c.args.disk.now in
     let e = c.keep_read.new.disk in
-    let disk = disk_used g.D.Disk.contents g.D.Disk.may_leave g.D.Disk.moment g.D.Disk.left_since g.D.Disk.fault_count d e in
+    let disk = disk_used g.D.Disk.contents g.D.Disk.may_leave g.D.Disk.moment g.D.Disk.left_since g.D.Disk.marked g.D.Disk.fault_count d e in
     let out = g.S.Sink.state c.args.out.now in
     let out_new = g.S.Sink.state c.keep_read.new.out in
     let wire = (g.W.Wire.state c.args.wire.now).history in
@@ -139,7 +139,7 @@ returns-in-None-clause-done g c =
     plant_done (g.F.Files.state c.args.files.now).held h (d ≡ d) c.args.description.now c.args.listen.now
     (Rose (g.F.Files.state c.args.files.now).faults (g.F.Files.state c.read_description.new.files).faults) c.serve_read.result
     (g.S.Sink.state c.args.out.now) (g.S.Sink.state c.serve_read.new.out)
-    (disk_used g.D.Disk.contents g.D.Disk.may_leave g.D.Disk.moment g.D.Disk.left_since g.D.Disk.fault_count d d)
+    (disk_used g.D.Disk.contents g.D.Disk.may_leave g.D.Disk.moment g.D.Disk.left_since g.D.Disk.marked g.D.Disk.fault_count d d)
     (g.W.Wire.state c.args.wire.now).history (g.W.Wire.state c.serve_read.new.wire).history (returns-in-None-clause-ends g c)
 
 pub returns-in-Some-clause-done : goal.returns-in-Some-clause-done
@@ -150,7 +150,7 @@ returns-in-Some-clause-done g c =
     plant_done (g.F.Files.state c.args.files.now).held h (e ≡ d) c.args.description.now c.args.listen.now
     (Rose (g.F.Files.state c.args.files.now).faults (g.F.Files.state c.read_description.new.files).faults) c.keep_read.result
     (g.S.Sink.state c.args.out.now) (g.S.Sink.state c.keep_read.new.out)
-    (disk_used g.D.Disk.contents g.D.Disk.may_leave g.D.Disk.moment g.D.Disk.left_since g.D.Disk.fault_count d e)
+    (disk_used g.D.Disk.contents g.D.Disk.may_leave g.D.Disk.moment g.D.Disk.left_since g.D.Disk.marked g.D.Disk.fault_count d e)
     (g.W.Wire.state c.args.wire.now).history (g.W.Wire.state c.keep_read.new.wire).history (returns-in-Some-clause-ends g c)
 
 pub returns-in-Err-clause-opens : goal.returns-in-Err-clause-opens

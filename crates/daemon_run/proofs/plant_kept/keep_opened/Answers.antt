@@ -45,7 +45,7 @@ returns-clause-ends g c =
     let bytes = c.args.read.bytes in
     ends_on_as c.args.every _ profile waves d stored standing c.args.listen.now c.args.name.now bytes c.keep_posted.result
     (g.S.Sink.state c.args.out.now) (g.S.Sink.state c.keep_posted.new.out)
-    g.D.Disk.contents g.D.Disk.may_leave g.D.Disk.moment g.D.Disk.left_since g.D.Disk.fault_count c.args.disk.now c.keep_posted.new.disk
+    g.D.Disk.contents g.D.Disk.may_leave g.D.Disk.moment g.D.Disk.left_since g.D.Disk.marked g.D.Disk.fault_count c.args.disk.now c.keep_posted.new.disk
     (g.W.Wire.state c.args.wire.now).history (g.W.Wire.state c.keep_posted.new.wire).history
     (started_with c.args.listen.now c.as_str.result.now c.args.name.now c.as_str-2.result.now bytes c.as_slice.result.now c.as_str.ensures
     c.as_str-2.ensures c.as_slice.ensures)

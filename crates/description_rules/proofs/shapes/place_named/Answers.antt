@@ -3,7 +3,7 @@ use Rattle.std.proofs.Common.{◌≡◌, Some, map, sym, ◌∙◌, arith}
 use Rattle.std.proofs.lemmas.List.{length-map}
 use Rattle.spec_plant.specs.Listed.{type_name}
 use Rattle.spec_plant.specs.TypeTexts.{is_same_word}
-use Rattle.spec_rules.specs.Shapes.{place_named}
+use Rattle.spec_plant.specs.Shapes.{place_named}
 use Rattle.type_layout.specs.NamedTypes.{types_of, named_type_of}
 use Rattle.name_index.proofs.CallerLemmas.{first_called-map, position-within}
 use Rattle.description_rules.proofs.shapes.place_named.Goals as goal

@@ -1,7 +1,7 @@
 use Rattle.std.proofs.Common.{◌≡◌, ◌≤◌, ◌*◌, ◌^◌, [], length, map, false}
 use Rattle.std.specs.Option.{option_map_or}
 use Rattle.spec_rules.specs.Places.{first_wrong}
-use Rattle.spec_rules.specs.Shapes.{shape_of_text}
+use Rattle.spec_plant.specs.Shapes.{shape_of_text}
 use Rattle.spec_rules.specs.Written.{WrittenPort, WrittenSymbol}
 use Rattle.spec_rules.specs.SymbolRules.{wrong_type, is_small}
 use Rattle.type_layout.specs.NamedTypes.{types_of}

@@ -1,14 +1,16 @@
 -- Each way out of the loop, and one turn more.
-use Rattle.std.proofs.Common.{◌≡◌, ◌+◌, ◌-◌, ◌^◌, ◌<◌, refl, sym, subst, ◌∙◌, arith}
+use Rattle.std.proofs.Common.{◌≡◌, ◌+◌, ◌-◌, ◌^◌, ◌<◌, refl, sym, subst, ◌∙◌, inl, inr, arith}
 use Rattle.std.proofs.Math.Nat.{le_refl, le_trans}
 use Rattle.persist_store.proofs.NameLemmas.{only_none, only_join}
 use Rattle.serve_loop.proofs.TurnLemmas.{stops_kept, stops_later}
 use Rattle.serve_loop.proofs.WantLemmas.{wanting_later}
+use Rattle.ads_outside.specs.declared.end.End.TheVariants as end
 use Rattle.keep_loop.specs.declared.save_counts.SaveCounts.{SaveCounts}
-use Rattle.keep_loop.specs.Looking.{AreFew, ServesOnSoFar}
+use Rattle.keep_loop.specs.Looking.{none_counted, counted, AreFew, ServesOnSoFar}
 use Rattle.keep_loop.proofs.OnLemmas.{last_there, never_memory, none_rose}
 use Rattle.keep_loop.proofs.OnLemmas.{on_first, on_other, on_passed, on_looked, some_at_tick, some_at_last}
 use Rattle.keep_loop.proofs.OnLemmas.{ends_done, ends_fault, ends_budget, ends_memory, few_more, few_within, few_first, failed_rose, rose_so_far}
+use Rattle.keep_loop.proofs.OnMarkLemmas.{AlsoMarks, marks_first, marks_other, marks_passed, marks_looked, memory_marked, ends_on_marked}
 use Rattle.keep_loop.proofs.keeping_on.keep_on.Goals as goal
 use Rattle.keep_loop.proofs.keeping_on.keep_on.Goals.{in-Tick, in-Tick-2, in-Other}
 
@@ -16,11 +18,12 @@ pub loop-taken-init : goal.loop-taken-init
 loop-taken-init g c =
     let serves = g.M.Persistent.serves c.args.served.now in
     let history = (g.W.Wire.state c.args.wire.now).history in
-    let P : SaveCounts → Type 0 = λ counts. ServesOnSoFar c.args.every g.M.Persistent.body_of g.M.Persistent.steps g.M.Persistent.noted g.D.Disk.contents g.D.Disk.may_leave g.D.Disk.moment g.D.Disk.left_since
+    let P : SaveCounts → Type 0 = λ counts. ServesOnSoFar (AlsoMarks c.args.every g.M.Persistent.body_of g.M.Persistent.steps g.M.Persistent.noted g.D.Disk.contents g.D.Disk.may_leave g.D.Disk.moment g.D.Disk.left_since g.D.Disk.marked (g.W.Wire.state c.args.wire.now).history c.args.disk.now c.args.disk.now c.args.store.now counts) c.args.every g.M.Persistent.body_of g.M.Persistent.steps g.M.Persistent.noted g.D.Disk.contents g.D.Disk.may_leave g.D.Disk.moment g.D.Disk.left_since
     serves serves history history 0 (c.args.every - 1) c.args.disk.now c.args.disk.now c.args.store.now c.args.store.now counts in
     record {
       so_far = subst P (sym c.nothing-counts.ensures) (on_first c.args.every g.M.Persistent.body_of g.M.Persistent.steps g.M.Persistent.noted g.D.Disk.contents g.D.Disk.may_leave g.D.Disk.moment g.D.Disk.left_since
-          serves history c.args.disk.now c.args.store.now g.met.D.Disk.only_now c.requires.ready c.requires.open);
+          (AlsoMarks c.args.every g.M.Persistent.body_of g.M.Persistent.steps g.M.Persistent.noted g.D.Disk.contents g.D.Disk.may_leave g.D.Disk.moment g.D.Disk.left_since g.D.Disk.marked (g.W.Wire.state c.args.wire.now).history c.args.disk.now c.args.disk.now c.args.store.now none_counted) serves history c.args.disk.now c.args.store.now
+          (marks_first c.args.every g.M.Persistent.body_of g.M.Persistent.steps g.M.Persistent.noted g.D.Disk.contents g.D.Disk.may_leave g.D.Disk.moment g.D.Disk.left_since g.D.Disk.marked history c.args.disk.now c.args.store.now none_counted) g.met.D.Disk.only_now c.requires.ready c.requires.open);
       ready = c.requires.ready;
       few = subst (λ counts. AreFew counts 0) (sym c.nothing-counts.ensures) few_first;
       failed = λ more. none_rose _ c.nothing-counts.result c.nothing-counts.ensures more;
@@ -78,7 +81,8 @@ look_last-requires-2-clause-few g c =
 
 pub returns-in-End-clause-keeps : goal.returns-in-End-clause-keeps
 returns-in-End-clause-keeps g c =
-    ends_done c.args.every g.M.Persistent.body_of g.M.Persistent.steps g.M.Persistent.noted g.D.Disk.contents g.D.Disk.may_leave g.D.Disk.moment g.D.Disk.left_since c.look_last.result
+    ends_done c.args.every g.M.Persistent.body_of g.M.Persistent.steps g.M.Persistent.noted g.D.Disk.contents g.D.Disk.may_leave g.D.Disk.moment g.D.Disk.left_since
+    (AlsoMarks c.args.every g.M.Persistent.body_of g.M.Persistent.steps g.M.Persistent.noted g.D.Disk.contents g.D.Disk.may_leave g.D.Disk.moment g.D.Disk.left_since g.D.Disk.marked (g.W.Wire.state c.args.wire.now).history c.args.disk.now c.loop-taken.disk c.args.store.now c.loop-taken.counts) c.look_last.result
     (g.M.Persistent.serves c.args.served.now) (g.M.Persistent.serves c.loop-taken.served) (g.M.Persistent.serves c.turn.new.self) (g.W.Wire.state c.args.wire.now) (g.W.Wire.state c.loop-taken.wire).history (g.W.Wire.state c.turn.new.wire)
     c.loop-taken._taken c.loop-taken.left c.args.limit c.args.disk.now c.loop-taken.disk c.look_last.new.disk
     c.args.store.now c.loop-taken.store c.look_last.new.store c.loop-taken.counts g.met.D.Disk.leaves_contents g.met.D.Disk.counts_now c.loop-taken.invariant.so_far
@@ -89,7 +93,8 @@ returns-in-LinkFault-clause-keeps g c =
     let stops = stops_later (g.W.Wire.state c.args.wire.now) (g.W.Wire.state c.loop-taken.wire) (g.W.Wire.state c.turn.new.wire)
     (stops_kept _ _ (g.M.Persistent.serves c.args.served.now) (g.M.Persistent.serves c.loop-taken.served) (g.W.Wire.state c.args.wire.now).history (g.W.Wire.state c.loop-taken.wire).history c.loop-taken._taken c.loop-taken.invariant.so_far.turns)
     c.loop-taken.invariant.wire_later c.in-LinkFault.ensures.turn.0 in
-    ends_fault c.args.every g.M.Persistent.body_of g.M.Persistent.steps g.M.Persistent.noted g.D.Disk.contents g.D.Disk.may_leave g.D.Disk.moment g.D.Disk.left_since c.look_last-in-LinkFault.result
+    ends_fault c.args.every g.M.Persistent.body_of g.M.Persistent.steps g.M.Persistent.noted g.D.Disk.contents g.D.Disk.may_leave g.D.Disk.moment g.D.Disk.left_since
+    (AlsoMarks c.args.every g.M.Persistent.body_of g.M.Persistent.steps g.M.Persistent.noted g.D.Disk.contents g.D.Disk.may_leave g.D.Disk.moment g.D.Disk.left_since g.D.Disk.marked (g.W.Wire.state c.args.wire.now).history c.args.disk.now c.loop-taken.disk c.args.store.now c.loop-taken.counts) c.look_last-in-LinkFault.result
     (g.M.Persistent.serves c.args.served.now) (g.M.Persistent.serves c.loop-taken.served) (g.M.Persistent.serves c.turn.new.self) (g.W.Wire.state c.args.wire.now) (g.W.Wire.state c.loop-taken.wire).history (g.W.Wire.state c.turn.new.wire)
     c.loop-taken._taken c.loop-taken.left c.args.limit c.args.disk.now c.loop-taken.disk c.look_last-in-LinkFault.new.disk
     c.args.store.now c.loop-taken.store c.look_last-in-LinkFault.new.store c.loop-taken.counts g.met.D.Disk.leaves_contents g.met.D.Disk.counts_now c.loop-taken.invariant.so_far
@@ -98,13 +103,15 @@ returns-in-LinkFault-clause-keeps g c =
 pub returns-in-Memory-clause-keeps : goal.returns-in-Memory-clause-keeps
 returns-in-Memory-clause-keeps g c =
     ends_memory c.args.every g.M.Persistent.body_of g.M.Persistent.steps g.M.Persistent.noted g.D.Disk.contents g.D.Disk.may_leave g.D.Disk.moment g.D.Disk.left_since
+    (AlsoMarks c.args.every g.M.Persistent.body_of g.M.Persistent.steps g.M.Persistent.noted g.D.Disk.contents g.D.Disk.may_leave g.D.Disk.moment g.D.Disk.left_since g.D.Disk.marked (g.W.Wire.state c.args.wire.now).history c.args.disk.now c.loop-taken.disk c.args.store.now c.loop-taken.counts)
     (g.M.Persistent.serves c.args.served.now) (g.M.Persistent.serves c.loop-taken.served) (g.M.Persistent.serves c.turn.new.self) (g.W.Wire.state c.args.wire.now) (g.W.Wire.state c.loop-taken.wire).history (g.W.Wire.state c.turn.new.wire)
     c.loop-taken._taken c.loop-taken.left c.args.limit c.args.disk.now c.loop-taken.disk
     c.args.store.now c.loop-taken.store c.loop-taken.counts c.loop-taken.invariant.so_far c.loop-taken-test.true c.in-Memory.ensures.turn c.loop-taken.invariant.ready
 
 pub returns-clause-keeps : goal.returns-clause-keeps
 returns-clause-keeps g c =
-    ends_budget c.args.every g.M.Persistent.body_of g.M.Persistent.steps g.M.Persistent.noted g.D.Disk.contents g.D.Disk.may_leave g.D.Disk.moment g.D.Disk.left_since c.look_last-2.result
+    ends_budget c.args.every g.M.Persistent.body_of g.M.Persistent.steps g.M.Persistent.noted g.D.Disk.contents g.D.Disk.may_leave g.D.Disk.moment g.D.Disk.left_since
+    (AlsoMarks c.args.every g.M.Persistent.body_of g.M.Persistent.steps g.M.Persistent.noted g.D.Disk.contents g.D.Disk.may_leave g.D.Disk.moment g.D.Disk.left_since g.D.Disk.marked (g.W.Wire.state c.args.wire.now).history c.args.disk.now c.loop-taken.disk c.args.store.now c.loop-taken.counts) c.look_last-2.result
     (g.M.Persistent.serves c.args.served.now) (g.M.Persistent.serves c.loop-taken.served) (g.W.Wire.state c.args.wire.now) (g.W.Wire.state c.loop-taken.wire)
     c.loop-taken._taken c.loop-taken.left c.args.limit c.args.disk.now c.loop-taken.disk c.look_last-2.new.disk
     c.args.store.now c.loop-taken.store c.look_last-2.new.store c.loop-taken.counts g.met.D.Disk.leaves_contents g.met.D.Disk.counts_now c.loop-taken.invariant.so_far
@@ -156,10 +163,47 @@ returns-in-LinkFault-clause-named g c = only_join _ _ _ c.args.name.now c.loop-t
 pub returns-clause-named : goal.returns-clause-named
 returns-clause-named g c = only_join _ _ _ c.args.name.now c.loop-taken.invariant.named c.look_last-2.ensures.named
 
+pub returns-in-End-clause-marks : goal.returns-in-End-clause-marks
+returns-in-End-clause-marks g c =
+    ends_on_marked c.args.every g.M.Persistent.body_of g.M.Persistent.steps g.M.Persistent.noted g.D.Disk.contents g.D.Disk.may_leave g.D.Disk.moment g.D.Disk.left_since g.D.Disk.marked c.look_last.result end.Done refl (g.M.Persistent.serves c.args.served.now) (g.M.Persistent.serves c.loop-taken.served) (g.M.Persistent.serves c.turn.new.self)
+    (g.W.Wire.state c.args.wire.now) (g.W.Wire.state c.loop-taken.wire).history (g.W.Wire.state c.turn.new.wire) c.loop-taken._taken c.loop-taken.left
+    c.args.disk.now c.loop-taken.disk c.look_last.new.disk c.args.store.now c.loop-taken.store c.look_last.new.store c.loop-taken.counts
+    g.met.D.Disk.leaves_contents g.met.D.Disk.counts_now c.loop-taken.invariant.so_far (inr (inl c.in-End.ensures.turn.0)) c.in-End.ensures.turn.1
+    c.look_last.ensures.ends c.look_last.ensures.ready c.look_last.ensures.marks
+
+pub returns-in-LinkFault-clause-marks : goal.returns-in-LinkFault-clause-marks
+returns-in-LinkFault-clause-marks g c =
+    ends_on_marked c.args.every g.M.Persistent.body_of g.M.Persistent.steps g.M.Persistent.noted g.D.Disk.contents g.D.Disk.may_leave g.D.Disk.moment g.D.Disk.left_since g.D.Disk.marked c.look_last-in-LinkFault.result end.LinkFault refl (g.M.Persistent.serves c.args.served.now) (g.M.Persistent.serves c.loop-taken.served) (g.M.Persistent.serves c.turn.new.self)
+    (g.W.Wire.state c.args.wire.now) (g.W.Wire.state c.loop-taken.wire).history (g.W.Wire.state c.turn.new.wire) c.loop-taken._taken c.loop-taken.left
+    c.args.disk.now c.loop-taken.disk c.look_last-in-LinkFault.new.disk c.args.store.now c.loop-taken.store c.look_last-in-LinkFault.new.store c.loop-taken.counts
+    g.met.D.Disk.leaves_contents g.met.D.Disk.counts_now c.loop-taken.invariant.so_far (inr (inr (stops_later (g.W.Wire.state c.args.wire.now) (g.W.Wire.state c.loop-taken.wire) (g.W.Wire.state c.turn.new.wire)
+    (stops_kept _ _ (g.M.Persistent.serves c.args.served.now) (g.M.Persistent.serves c.loop-taken.served) (g.W.Wire.state c.args.wire.now).history (g.W.Wire.state c.loop-taken.wire).history c.loop-taken._taken c.loop-taken.invariant.so_far.turns)
+    c.loop-taken.invariant.wire_later c.in-LinkFault.ensures.turn.0))) c.in-LinkFault.ensures.turn.1
+    c.look_last-in-LinkFault.ensures.ends c.look_last-in-LinkFault.ensures.ready c.look_last-in-LinkFault.ensures.marks
+
+pub returns-clause-marks : goal.returns-clause-marks
+returns-clause-marks g c =
+    ends_on_marked c.args.every g.M.Persistent.body_of g.M.Persistent.steps g.M.Persistent.noted g.D.Disk.contents g.D.Disk.may_leave g.D.Disk.moment g.D.Disk.left_since g.D.Disk.marked c.look_last-2.result end.Budget refl (g.M.Persistent.serves c.args.served.now) (g.M.Persistent.serves c.loop-taken.served) (g.M.Persistent.serves c.loop-taken.served)
+    (g.W.Wire.state c.args.wire.now) (g.W.Wire.state c.loop-taken.wire).history (g.W.Wire.state c.loop-taken.wire) c.loop-taken._taken c.loop-taken.left
+    c.args.disk.now c.loop-taken.disk c.look_last-2.new.disk c.args.store.now c.loop-taken.store c.look_last-2.new.store c.loop-taken.counts
+    g.met.D.Disk.leaves_contents g.met.D.Disk.counts_now c.loop-taken.invariant.so_far (inl refl) (λ x stands. stands)
+    c.look_last-2.ensures.ends c.look_last-2.ensures.ready c.look_last-2.ensures.marks
+
+pub returns-in-Memory-clause-marks : goal.returns-in-Memory-clause-marks
+returns-in-Memory-clause-marks g c =
+    memory_marked c.args.every g.M.Persistent.body_of g.M.Persistent.steps g.M.Persistent.noted g.D.Disk.contents g.D.Disk.may_leave g.D.Disk.moment g.D.Disk.left_since g.D.Disk.marked (g.M.Persistent.serves c.args.served.now) (g.M.Persistent.serves c.loop-taken.served)
+    (g.W.Wire.state c.args.wire.now) (g.W.Wire.state c.loop-taken.wire).history (g.W.Wire.state c.turn.new.wire) c.loop-taken._taken c.loop-taken.left
+    c.args.disk.now c.loop-taken.disk c.args.store.now c.loop-taken.store c.loop-taken.counts c.in-Memory.ensures.turn.breaks.moves
+    c.loop-taken.invariant.so_far (let count = c.in-Memory.ensures.turn.breaks.events in let most = c.in-Memory.ensures.turn.within in omega (arith, count, most))
+    c.in-Memory.ensures.turn.breaks.logged
+
 pub loop-taken-preserved : goal.loop-taken-preserved
 loop-taken-preserved g c = elim c.match-turn.branch [
   | in-Tick w ↦ rw (w.store-is, w.disk-is, w.counts-is, w.left-is) record {
-    so_far = on_passed c.args.every g.M.Persistent.body_of g.M.Persistent.steps g.M.Persistent.noted g.D.Disk.contents g.D.Disk.may_leave g.D.Disk.moment g.D.Disk.left_since (g.M.Persistent.serves c.args.served.now) (g.M.Persistent.serves c.loop-taken.served) (g.M.Persistent.serves c.turn.new.self) (g.W.Wire.state c.args.wire.now).history (g.W.Wire.state c.loop-taken.wire).history (g.W.Wire.state c.turn.new.wire).history c.loop-taken._taken c.loop-taken.left c.args.disk.now c.loop-taken.disk c.args.store.now c.loop-taken.store c.loop-taken.counts w.if-left-gt0.true c.loop-taken.invariant.so_far w.in-Tick.ensures.turn;
+    so_far = on_passed c.args.every g.M.Persistent.body_of g.M.Persistent.steps g.M.Persistent.noted g.D.Disk.contents g.D.Disk.may_leave g.D.Disk.moment g.D.Disk.left_since
+        (AlsoMarks c.args.every g.M.Persistent.body_of g.M.Persistent.steps g.M.Persistent.noted g.D.Disk.contents g.D.Disk.may_leave g.D.Disk.moment g.D.Disk.left_since g.D.Disk.marked (g.W.Wire.state c.args.wire.now).history c.args.disk.now c.loop-taken.disk c.args.store.now c.loop-taken.counts) (AlsoMarks c.args.every g.M.Persistent.body_of g.M.Persistent.steps g.M.Persistent.noted g.D.Disk.contents g.D.Disk.may_leave g.D.Disk.moment g.D.Disk.left_since g.D.Disk.marked (g.W.Wire.state c.args.wire.now).history c.args.disk.now c.loop-taken.disk c.args.store.now c.loop-taken.counts) (g.M.Persistent.serves c.args.served.now) (g.M.Persistent.serves c.loop-taken.served) (g.M.Persistent.serves c.turn.new.self) (g.W.Wire.state c.args.wire.now).history (g.W.Wire.state c.loop-taken.wire).history (g.W.Wire.state c.turn.new.wire).history c.loop-taken._taken c.loop-taken.left c.args.disk.now c.loop-taken.disk c.args.store.now c.loop-taken.store c.loop-taken.counts w.if-left-gt0.true
+        (marks_passed c.args.every g.M.Persistent.body_of g.M.Persistent.steps g.M.Persistent.noted g.D.Disk.contents g.D.Disk.may_leave g.D.Disk.moment g.D.Disk.left_since g.D.Disk.marked (g.W.Wire.state c.args.wire.now).history (g.W.Wire.state c.turn.new.wire).history c.loop-taken.left c.args.disk.now c.loop-taken.disk
+        c.args.store.now c.loop-taken.store c.loop-taken.counts w.if-left-gt0.true) c.loop-taken.invariant.so_far w.in-Tick.ensures.turn;
     ready = c.loop-taken.invariant.ready;
     few = few_within c.loop-taken.counts c.loop-taken._taken _ (omega arith) c.loop-taken.invariant.few;
     failed = c.loop-taken.invariant.failed;
@@ -170,8 +214,13 @@ loop-taken-preserved g c = elim c.match-turn.branch [
     wire_later = le_trans c.loop-taken.invariant.wire_later c.turn.ensures.later;
     wanted = le_trans c.loop-taken.invariant.wanted c.turn.ensures.wanted;
   }
-  | in-Tick-2 w ↦ rw (w.store-is, w.disk-is, w.counts-is, w.left-is) record {
-    so_far = subst (λ counts. ServesOnSoFar c.args.every g.M.Persistent.body_of g.M.Persistent.steps g.M.Persistent.noted g.D.Disk.contents g.D.Disk.may_leave g.D.Disk.moment g.D.Disk.left_since (g.M.Persistent.serves c.args.served.now) (g.M.Persistent.serves c.turn.new.self) (g.W.Wire.state c.args.wire.now).history (g.W.Wire.state c.turn.new.wire).history (c.loop-taken._taken + 1) (c.args.every - 1) c.args.disk.now w.look.new.disk c.args.store.now w.look.new.store counts) (sym w.after-counts.ensures) (on_looked c.args.every g.M.Persistent.body_of g.M.Persistent.steps g.M.Persistent.noted g.D.Disk.contents g.D.Disk.may_leave g.D.Disk.moment g.D.Disk.left_since w.look.result (g.M.Persistent.serves c.args.served.now) (g.M.Persistent.serves c.loop-taken.served) (g.M.Persistent.serves c.turn.new.self) (g.W.Wire.state c.args.wire.now).history (g.W.Wire.state c.loop-taken.wire).history (g.W.Wire.state c.turn.new.wire).history c.loop-taken._taken c.loop-taken.left c.args.disk.now c.loop-taken.disk w.look.new.disk c.args.store.now c.loop-taken.store w.look.new.store c.loop-taken.counts (omega (arith, w.if-left-gt0.false)) g.met.D.Disk.leaves_contents g.met.D.Disk.counts_now c.loop-taken.invariant.so_far w.in-Tick-2.ensures.turn w.look.ensures.looked);
+  | in-Tick-2 w ↦ rw (w.store-is, w.disk-is, w.mark.ensures.nothing, w.counts-is, w.left-is) record {
+    so_far = subst (λ counts. ServesOnSoFar (AlsoMarks c.args.every g.M.Persistent.body_of g.M.Persistent.steps g.M.Persistent.noted g.D.Disk.contents g.D.Disk.may_leave g.D.Disk.moment g.D.Disk.left_since g.D.Disk.marked (g.W.Wire.state c.args.wire.now).history c.args.disk.now w.look.new.disk c.args.store.now counts) c.args.every g.M.Persistent.body_of g.M.Persistent.steps g.M.Persistent.noted g.D.Disk.contents g.D.Disk.may_leave g.D.Disk.moment g.D.Disk.left_since (g.M.Persistent.serves c.args.served.now) (g.M.Persistent.serves c.turn.new.self) (g.W.Wire.state c.args.wire.now).history (g.W.Wire.state c.turn.new.wire).history (c.loop-taken._taken + 1) (c.args.every - 1) c.args.disk.now w.look.new.disk c.args.store.now w.look.new.store counts) (sym w.after-counts.ensures) (on_looked c.args.every g.M.Persistent.body_of g.M.Persistent.steps g.M.Persistent.noted g.D.Disk.contents g.D.Disk.may_leave g.D.Disk.moment g.D.Disk.left_since
+        (AlsoMarks c.args.every g.M.Persistent.body_of g.M.Persistent.steps g.M.Persistent.noted g.D.Disk.contents g.D.Disk.may_leave g.D.Disk.moment g.D.Disk.left_since g.D.Disk.marked (g.W.Wire.state c.args.wire.now).history c.args.disk.now c.loop-taken.disk c.args.store.now c.loop-taken.counts) (AlsoMarks c.args.every g.M.Persistent.body_of g.M.Persistent.steps g.M.Persistent.noted g.D.Disk.contents g.D.Disk.may_leave g.D.Disk.moment g.D.Disk.left_since g.D.Disk.marked (g.W.Wire.state c.args.wire.now).history c.args.disk.now w.look.new.disk c.args.store.now (counted w.look.result c.loop-taken.counts)) w.look.result (g.M.Persistent.serves c.args.served.now) (g.M.Persistent.serves c.loop-taken.served) (g.M.Persistent.serves c.turn.new.self) (g.W.Wire.state c.args.wire.now).history (g.W.Wire.state c.loop-taken.wire).history (g.W.Wire.state c.turn.new.wire).history c.loop-taken._taken c.loop-taken.left c.args.disk.now c.loop-taken.disk w.look.new.disk c.args.store.now c.loop-taken.store w.look.new.store c.loop-taken.counts (omega (arith, w.if-left-gt0.false)) g.met.D.Disk.leaves_contents g.met.D.Disk.counts_now
+        (marks_looked c.args.every g.M.Persistent.body_of g.M.Persistent.steps g.M.Persistent.noted g.D.Disk.contents g.D.Disk.may_leave g.D.Disk.moment g.D.Disk.left_since g.D.Disk.marked w.look.result (g.W.Wire.state c.args.wire.now).history (g.W.Wire.state c.turn.new.wire).history c.loop-taken.left c.args.disk.now
+        c.loop-taken.disk w.look.new.disk c.args.store.now w.look.new.store c.loop-taken.counts (omega (arith, w.if-left-gt0.false)) w.look.ensures.ready
+        (λ marks told. (rw w.mark.ensures.nothing at w.mark.ensures.marks) marks (w.look.ensures.marks marks told)))
+        c.loop-taken.invariant.so_far w.in-Tick-2.ensures.turn w.look.ensures.looked);
     ready = w.look.ensures.ready;
     few = subst (λ counts. AreFew counts (c.loop-taken._taken + 1)) (sym w.after-counts.ensures) (few_more w.look.result c.loop-taken.counts c.loop-taken._taken c.loop-taken.invariant.few);
     failed = λ more. rose_so_far (g.D.Disk.fault_count c.args.disk.now) (g.D.Disk.fault_count c.loop-taken.disk) (g.D.Disk.fault_count w.look.new.disk)
@@ -185,7 +234,10 @@ loop-taken-preserved g c = elim c.match-turn.branch [
     wanted = le_trans c.loop-taken.invariant.wanted c.turn.ensures.wanted;
   }
   | in-Other w ↦ rw (w.store-is, w.disk-is, w.counts-is, w.left-is) record {
-    so_far = on_other c.args.every g.M.Persistent.body_of g.M.Persistent.steps g.M.Persistent.noted g.D.Disk.contents g.D.Disk.may_leave g.D.Disk.moment g.D.Disk.left_since (g.M.Persistent.serves c.args.served.now) (g.M.Persistent.serves c.loop-taken.served) (g.M.Persistent.serves c.turn.new.self) (g.W.Wire.state c.args.wire.now).history (g.W.Wire.state c.loop-taken.wire).history (g.W.Wire.state c.turn.new.wire).history c.loop-taken._taken c.loop-taken.left c.args.disk.now c.loop-taken.disk c.args.store.now c.loop-taken.store c.loop-taken.counts c.loop-taken.invariant.so_far w.in-Other.ensures.turn;
+    so_far = on_other c.args.every g.M.Persistent.body_of g.M.Persistent.steps g.M.Persistent.noted g.D.Disk.contents g.D.Disk.may_leave g.D.Disk.moment g.D.Disk.left_since
+        (AlsoMarks c.args.every g.M.Persistent.body_of g.M.Persistent.steps g.M.Persistent.noted g.D.Disk.contents g.D.Disk.may_leave g.D.Disk.moment g.D.Disk.left_since g.D.Disk.marked (g.W.Wire.state c.args.wire.now).history c.args.disk.now c.loop-taken.disk c.args.store.now c.loop-taken.counts) (AlsoMarks c.args.every g.M.Persistent.body_of g.M.Persistent.steps g.M.Persistent.noted g.D.Disk.contents g.D.Disk.may_leave g.D.Disk.moment g.D.Disk.left_since g.D.Disk.marked (g.W.Wire.state c.args.wire.now).history c.args.disk.now c.loop-taken.disk c.args.store.now c.loop-taken.counts) (g.M.Persistent.serves c.args.served.now) (g.M.Persistent.serves c.loop-taken.served) (g.M.Persistent.serves c.turn.new.self) (g.W.Wire.state c.args.wire.now).history (g.W.Wire.state c.loop-taken.wire).history (g.W.Wire.state c.turn.new.wire).history c.loop-taken._taken c.loop-taken.left c.args.disk.now c.loop-taken.disk c.args.store.now c.loop-taken.store c.loop-taken.counts
+        (marks_other c.args.every g.M.Persistent.body_of g.M.Persistent.steps g.M.Persistent.noted g.D.Disk.contents g.D.Disk.may_leave g.D.Disk.moment g.D.Disk.left_since g.D.Disk.marked (g.W.Wire.state c.args.wire.now).history (g.W.Wire.state c.turn.new.wire).history c.loop-taken.left c.args.disk.now c.loop-taken.disk
+        c.args.store.now c.loop-taken.store c.loop-taken.counts) c.loop-taken.invariant.so_far w.in-Other.ensures.turn;
     ready = c.loop-taken.invariant.ready;
     few = few_within c.loop-taken.counts c.loop-taken._taken _ (omega arith) c.loop-taken.invariant.few;
     failed = c.loop-taken.invariant.failed;

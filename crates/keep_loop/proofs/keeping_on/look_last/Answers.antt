@@ -9,12 +9,15 @@ use Rattle.keep_loop.proofs.keeping_on.look_last.Goals as goal
 pub returns-clause-ends : goal.returns-clause-ends
 returns-clause-ends g c =
     let r : SaveCounts → KeptOn = λ counts. record { ended = c.args.ended; last = Some c.look-became.result; counts = counts } in
-    record { by = c.look-became.result; is = ap r c.after.ensures; looks = c.look-became.ensures.looked }
+    rw c.mark.ensures.nothing (record { by = c.look-became.result; is = ap r c.after.ensures; looks = c.look-became.ensures.looked })
+
+pub returns-clause-ready : goal.returns-clause-ready
+returns-clause-ready g c = rw c.mark.ensures.nothing c.look-became.ensures.ready
 
 pub returns-clause-failed : goal.returns-clause-failed
 returns-clause-failed g c = λ more.
     let P : SaveCounts → Type 0 = λ counts. 0 < counts.failed in
-    failed_rose c.look-became.result c.args.counts _ c.look-became.ensures.failed (subst P c.after.ensures more)
+    rw c.mark.ensures.nothing (failed_rose c.look-became.result c.args.counts _ c.look-became.ensures.failed (subst P c.after.ensures more))
 
 pub returns-clause-last_failed : goal.returns-clause-last_failed
 returns-clause-last_failed g c = λ last.

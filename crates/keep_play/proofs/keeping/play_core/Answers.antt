@@ -4,7 +4,7 @@ use Rattle.persist_store.specs.Store.{body_of}
 use Rattle.keep_play.specs.Begun.{begun}
 use Rattle.keep_play.specs.declared.played.Played.TheVariants as played
 use Rattle.keep_play.specs.KeptScript.{StandsAfter}
-use Rattle.keep_play.proofs.CoreLemmas.{unused_begun, core_left, core_ends, text_saved, all_saved}
+use Rattle.keep_play.proofs.CoreLemmas.{unused_begun, core_left, core_ends, core_marked, text_saved, all_saved}
 use Rattle.keep_play.proofs.keeping.play_core.Goals as goal
 
 pub returns-in-Err-clause-left : goal.returns-in-Err-clause-left
@@ -42,7 +42,7 @@ returns-in-Ok-StoreFault-clause-ends g c = λ d waves stands. c.in-Ok-StoreFault
 
 pub returns-in-Ok-StoreLimit-clause-ends : goal.returns-in-Ok-StoreLimit-clause-ends
 returns-in-Ok-StoreLimit-clause-ends g c = λ d waves stands.
-    core_ends played.StoreLimit c.keep_script.new.served d waves c.args.script c.args.store.now.standing (body_of c.args.store.now) (λ saves. Unit)
+    core_ends played.StoreLimit c.keep_script.new.served d waves c.args.script c.args.store.now.standing (body_of c.args.store.now) (λ saves. Unit) _
     ((rw c.in-Ok-StoreLimit.field-0-is at c.in-Ok-StoreLimit.ensures.ends) (begun d waves) stands (unused_begun d waves))
 
 pub returns-clause-ends : goal.returns-clause-ends
@@ -52,9 +52,11 @@ returns-clause-ends g c = λ d waves stands.
     let log = c.in-Ok-Done.log in
     let count = c.in-Ok-Done.saved in
     let new = c.keep_script.new.served in
-    let whole = core_ends (played.Done log count) new d waves c.args.script c.args.store.now.standing (body_of c.args.store.now) After
+    let whole = core_ends (played.Done log count) new d waves c.args.script c.args.store.now.standing (body_of c.args.store.now) After _
     ((rw c.in-Ok-Done.field-0-is at c.in-Ok-Done.ensures.ends) (begun d waves) stands (unused_begun d waves)) in (
-      text_saved c.kept.inside.core new d waves c.args.script log count c.in-Ok.text c.args.store.now.standing _ After c.kept.view_is whole c.in-Ok.ensures,
-      all_saved g.D.Disk.contents g.D.Disk.may_leave g.D.Disk.moment g.D.Disk.left_since g.D.Disk.fault_count
-          c.args.disk.now c.keep_script.new.disk new d waves c.args.script log count c.args.store.now.standing _ whole,
+      text_saved c.kept.inside.core new d waves c.args.script log count c.in-Ok.text c.args.store.now.standing _ After _ c.kept.view_is whole c.in-Ok.ensures,
+      all_saved g.D.Disk.contents g.D.Disk.may_leave g.D.Disk.moment g.D.Disk.left_since g.D.Disk.marked g.D.Disk.fault_count
+          c.args.disk.now c.keep_script.new.disk new d waves c.args.script log count c.args.store.now.standing _ _ whole,
+      core_marked (g.D.Disk.marked c.args.disk.now) (g.D.Disk.marked c.keep_script.new.disk) d waves c.args.script (g.D.Disk.contents c.args.disk.now)
+          c.args.store.now.standing whole.marked,
     )

@@ -7,6 +7,7 @@ use Rattle.persist_store.specs.Store.{body_of}
 use Rattle.stored_values.specs.StoredBodies.{bytes_lent}
 use Rattle.keep_play.specs.declared.kept_play.KeptPlay.{KeptPlay}
 use Rattle.keep_play.specs.KeptDisk.{disk_used}
+use Rattle.keep_play.specs.KeptMarks.{MarkedOver}
 use Rattle.keep_play.specs.KeptPlay.{EndsSo}
 use Rattle.keep_play.specs.KeptSaves.{saves_over, saved_text}
 use Rattle.keep_play.proofs.CoreLemmas.{kept_is, kept_may_begin, stands_begun, serves_begun, left_kept, ends_kept, ends_at}
@@ -49,11 +50,12 @@ returns-clause-ends g c =
     c.in-Ok.ensures c.body.ensures in
     let stands = stands_begun c.in-Ok-build.core (description_of c.in-Ok.stored) (g.G.Sources.waves c.args.signals)
     c.in-Ok-build.ensures.serves c.in-Ok-build.ensures.counted c.in-Ok-build.ensures.notes in
-    let disk = disk_used g.D.Disk.contents g.D.Disk.may_leave g.D.Disk.moment g.D.Disk.left_since g.D.Disk.fault_count
+    let disk = disk_used g.D.Disk.contents g.D.Disk.may_leave g.D.Disk.moment g.D.Disk.left_since g.D.Disk.marked g.D.Disk.fault_count
     c.args.disk.now c.play_core.new.disk in
     let stood = body_of c.args.store.now in
     let Ends : KeptPlay → Description → List Wave → Type 0 = λ end d waves.
-    EndsSo (saved_text d waves c.args.script (length (saves_over d waves c.args.script stood))) disk end c.args.store.now.standing
+    EndsSo (saved_text d waves c.args.script (length (saves_over d waves c.args.script stood)))
+    (MarkedOver d waves c.args.script disk c.args.store.now.standing) disk end c.args.store.now.standing
     (saves_over d waves c.args.script stood) in
     ends_kept c.play_core.result disk (description_of c.args.description) (description_of c.in-Ok.stored) (g.G.Sources.waves c.args.signals) c.args.script
     c.args.store.now.standing is

@@ -1,7 +1,7 @@
 -- The turns so far begin the script's play, so the saves so far begin those of the play.
 use Rattle.std.proofs.Common.{inr}
 use Rattle.persist_store.specs.Store.{body_of}
-use Rattle.keep_play.proofs.ScriptLemmas.{is_wire_of, some_over, done_whole, done_left, stop_left, stop_over, never_fails, never_spent, left_none}
+use Rattle.keep_play.proofs.ScriptLemmas.{is_wire_of, some_over, done_whole, done_left, stop_left, stop_over, over_unused, script_marked, never_fails, never_spent, left_none}
 use Rattle.keep_play.proofs.playing.keep_script.Goals as goal
 
 pub keep_turns-ended-requires-clause-some : goal.keep_turns-ended-requires-clause-some
@@ -36,8 +36,11 @@ returns-in-Done-clause-ends g c = λ x stands unused.
     done_whole g.M.Persistent.body_of g.M.Persistent.steps g.M.Persistent.noted g.D.Disk.contents g.D.Disk.may_leave g.D.Disk.moment
     g.D.Disk.left_since c.in-Done.saved (g.M.Persistent.serves c.args.served.now) (g.M.Persistent.serves c.keep_turns-ended.new.served)
     c.args.script c.new-wire.result c.keep_turns-ended.new.wire c.into_log-log.result
-    (body_of c.args.store.now) c.in-Some.limit c.args.store.now.standing c.args.disk.now c.keep_turns-ended.new.disk wire
+    (body_of c.args.store.now) c.in-Some.limit c.args.store.now.standing c.args.disk.now c.keep_turns-ended.new.disk _ wire
     c.in-Done.ensures.keeps x stands unused
+    (λ play marks told. script_marked g.M.Persistent.body_of g.M.Persistent.steps x.running.state c.args.script c.new-wire.result
+    c.keep_turns-ended.new.wire c.into_log-log.result (g.D.Disk.contents c.args.disk.now) c.args.store.now.standing
+    (g.D.Disk.marked c.keep_turns-ended.new.disk) marks wire play (c.in-Done.ensures.marks x (over_unused _ _ x stands unused) marks told))
 
 pub returns-in-Done-clause-left : goal.returns-in-Done-clause-left
 returns-in-Done-clause-left g c = λ x stands unused.

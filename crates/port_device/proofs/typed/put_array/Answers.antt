@@ -4,17 +4,18 @@ use Rattle.spec_plant.specs.Listed.{Bound}
 use Rattle.spec_plant.specs.Sizes.{element_count}
 use Rattle.spec_plant.specs.AcceptedTypes.{LIMIT, are_bounds}
 use Rattle.spec_plant.specs.Trees.{ArrayTree, elem_tree, trees_of}
-use Rattle.spec_machine.specs.TypesByText.{bound_of_ends, tree_with, if_small}
+use Rattle.spec_plant.specs.Shapes.{bound_between}
+use Rattle.spec_machine.specs.TypesByText.{if_small}
 use Rattle.type_layout.specs.NamedTypes.{types_of}
 use Rattle.type_layout.specs.Shapes.{elem_of, bounds_of}
-use Rattle.port_device.specs.TypesPut.{ends_read}
+use Rattle.port_device.specs.TypesPut.{ends_read, tree_with}
 use Rattle.port_device.proofs.TypesPut.{array_with, bounds_fine, too_many, put_none, put_along}
 use Rattle.port_device.proofs.typed.put_array.Goals as goal
 
 pub returns-then-count-gt-GREATEST-clause-put : goal.returns-then-count-gt-GREATEST-clause-put
 returns-then-count-gt-GREATEST-clause-put c =
     let t = c.args.t.now in
-    let bounds = map bound_of_ends (ends_read t) in
+    let bounds = map bound_between (ends_read t) in
     let tree = elem_tree (trees_of (types_of c.args.types.now)) (elem_of c.args.elem) in
     put_none (if_small (tree_with (ends_read t) tree)) c.args.out.now
     (ap if_small (array_with t tree c.requires.array) ∙ too_many bounds tree c.element_count-count.result c.element_count-count.ensures.count c.if-count-gt-GREATEST.true)
@@ -22,7 +23,7 @@ returns-then-count-gt-GREATEST-clause-put c =
 pub put_bounds-requires-clause-small : goal.put_bounds-requires-clause-small
 put_bounds-requires-clause-small c =
     let few : c.element_count-count.result ≤ LIMIT = omega (arith, c.if-count-gt-GREATEST.false) in
-    le-leb (element_count (map bound_of_ends (ends_read c.args.t.now))) LIMIT (subst (λ n. n ≤ LIMIT) c.element_count-count.ensures.count few)
+    le-leb (element_count (map bound_between (ends_read c.args.t.now))) LIMIT (subst (λ n. n ≤ LIMIT) c.element_count-count.ensures.count few)
 
 pub put_few-requires-clause-bounds : goal.put_few-requires-clause-bounds
 put_few-requires-clause-bounds c =

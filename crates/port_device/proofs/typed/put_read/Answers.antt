@@ -2,11 +2,11 @@ use Rattle.std.proofs.Common.{◌≡◌, sym, arith}
 use Rattle.std.specs.Prelude.{Some, None}
 use Rattle.std.proofs.lemmas.List.{length-map}
 use Rattle.spec_plant.specs.Trees.{elem_tree, trees_of}
-use Rattle.spec_machine.specs.TypesByText.{elem_tree_of, tree_with, if_small}
+use Rattle.spec_machine.specs.TypesByText.{if_small}
 use Rattle.type_layout.specs.NamedTypes.{types_of, named_type_of}
 use Rattle.type_layout.specs.ReadTexts.{elem_text_of}
 use Rattle.type_layout.specs.Shapes.{elem_of}
-use Rattle.port_device.specs.TypesPut.{ends_read, tree_read}
+use Rattle.port_device.specs.TypesPut.{ends_read, elem_tree_of, tree_with, tree_read}
 use Rattle.port_device.proofs.TypesPut.{read_none, read_some, put_none, put_along}
 use Rattle.port_device.proofs.typed.put_read.Goals as goal
 

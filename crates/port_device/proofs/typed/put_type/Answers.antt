@@ -1,10 +1,10 @@
 use Rattle.std.proofs.Common.{◌≡◌, [], refl, ap}
 use Rattle.std.proofs.lemmas.Bool.{eq-eqb}
 use Rattle.spec_plant.specs.Trees.{elem_tree, trees_of}
-use Rattle.spec_machine.specs.TypesByText.{tree_with, if_small}
+use Rattle.spec_machine.specs.TypesByText.{if_small}
 use Rattle.type_layout.specs.NamedTypes.{types_of}
 use Rattle.type_layout.specs.Shapes.{elem_of}
-use Rattle.port_device.specs.TypesPut.{ends_read}
+use Rattle.port_device.specs.TypesPut.{ends_read, tree_with}
 use Rattle.port_device.proofs.TypesPut.{put_along}
 use Rattle.port_device.proofs.typed.put_type.Goals as goal
 

@@ -1,12 +1,11 @@
--- The map's look-up is that of the routes.
-use Rattle.std.proofs.Common.{◌∙◌, ap, map}
+-- The first route, and all of them.
+use Rattle.std.proofs.Common.{sym, ◌∙◌, ap}
 use Rattle.std.specs.Prelude.{option_map}
-use Rattle.spec_plant.specs.Rights.{rights_of}
-use Rattle.type_layout.specs.Descriptions as seen
-use Rattle.net_routes.proofs.RouteLemmas.{rights_of-shown}
+use Rattle.type_layout.specs.Descriptions as plain
+use Rattle.net_routes.proofs.RouteLemmas.{walked-to}
 use Rattle.net_routes.proofs.routes.Routes.rights.Goals as goal
 
-pub returns : goal.returns
-returns c =
-    let read = c.copied.ensures ∙ c.get.ensures.value in
-    ap (option_map seen.rights_of) read ∙ rights_of-shown c.args.net.bytes c.self.inside.by_net.entries ∙ ap (rights_of c.args.net.bytes) c.self.view_is
+pub returns-in-Some : goal.returns-in-Some
+returns-in-Some c =
+    let there = sym c.rights_at.ensures ∙ ap (λ o. option_map plain.rights_of o) c.in-Some.is in
+    sym (walked-to c.args.net.bytes c.args.self.now 0 (plain.rights_of c.in-Some.rights) there)

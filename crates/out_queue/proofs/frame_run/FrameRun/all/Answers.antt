@@ -8,7 +8,7 @@ pub returns : goal.returns
 returns c =
     let gone = c.self.inside.gone in
     let bytes = c.self.inside.bytes.items in
-    let lens = c.self.inside.lens.items in
+    let lens = c.self.inside.lens in
     let seen = c.deref.result.now in
     let all : gone + sum lens ≡ length bytes = c.self.invariant in
     let left : sum lens ≡ length (drop gone bytes) = omega (arith, all, length-drop gone bytes) in

@@ -4,14 +4,14 @@ use Rattle.out_queue.specs.Runs.{frames_in}
 use Rattle.out_queue.proofs.RunLemmas.{frames_in-append}
 use Rattle.out_queue.proofs.frame_run.FrameRun.push.Goals as goal
 
-pub returns-clause-ok : goal.returns-clause-ok
-returns-clause-ok c =
+pub returns-in-Ok-clause-ok : goal.returns-in-Ok-clause-ok
+returns-in-Ok-clause-ok c =
     let frame = c.args.frame.now in
     let gone = c.self.inside.gone in
     let bytes = c.self.inside.bytes.items in
-    let lens = c.self.inside.lens.items in
+    let lens = c.self.inside.lens in
     let all : gone + sum lens ≡ length bytes = c.self.invariant in
-    let lens_is = c.push_back_reserved.ensures.items ∙ ap (λ ls. ls ++ length frame ∷ []) c.in_ok-reserve.ensures.items in
+    let lens_is = c.in-Ok.ensures.ok in
     let inside : gone ≤ length bytes = omega (arith, all) in
     let run_is = ap (drop gone) c.in_ok-extend_from_slice.ensures.items ∙ drop-append-le gone bytes frame inside in
     let left : sum lens ≡ length (drop gone bytes) = omega (arith, all, length-drop gone bytes) in

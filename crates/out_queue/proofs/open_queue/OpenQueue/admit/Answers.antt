@@ -32,27 +32,27 @@ returns-in-Ok-clause-done c = λ e.
     let o = c.args.self.now in
     let n = c.len-all.result - (o.gone + o.taken + o.queued) in
     (admitted_at o _ c.len-all.result c.requires c.len-all.ensures c.if-len-self.false refl refl refl
-    (c.push_back_reserved.ensures.items ∙ ap (λ (ls : List ℕ). ls ++ n ∷ []) c.reserve.ensures.items) refl).frames_
+    c.in-Ok.ensures.ok refl).frames_
 
 pub returns-in-Ok-clause-open : goal.returns-in-Ok-clause-open
 returns-in-Ok-clause-open c =
     let o = c.args.self.now in
     let n = c.len-all.result - (o.gone + o.taken + o.queued) in
     (admitted_at o _ c.len-all.result c.requires c.len-all.ensures c.if-len-self.false refl refl refl
-    (c.push_back_reserved.ensures.items ∙ ap (λ (ls : List ℕ). ls ++ n ∷ []) c.reserve.ensures.items) refl).open_
+    c.in-Ok.ensures.ok refl).open_
 
 pub returns-in-Ok-clause-tail : goal.returns-in-Ok-clause-tail
 returns-in-Ok-clause-tail c =
     let o = c.args.self.now in
     let n = c.len-all.result - (o.gone + o.taken + o.queued) in
     (admitted_at o _ c.len-all.result c.requires c.len-all.ensures c.if-len-self.false refl refl refl
-    (c.push_back_reserved.ensures.items ∙ ap (λ (ls : List ℕ). ls ++ n ∷ []) c.reserve.ensures.items) refl).tail
+    c.in-Ok.ensures.ok refl).tail
 
 pub returns-in-Err-clause-no_memory : goal.returns-in-Err-clause-no_memory
-returns-in-Err-clause-no_memory c = (cut_away c.args.self.now _ c.requires c.cut-in-Err.ensures c.reserve.ensures.items refl refl refl).frames_
+returns-in-Err-clause-no_memory c = (cut_away c.args.self.now _ c.requires c.cut-in-Err.ensures c.in-Err.ensures.no_memory refl refl refl).frames_
 
 pub returns-in-Err-clause-open : goal.returns-in-Err-clause-open
-returns-in-Err-clause-open c = (cut_away c.args.self.now _ c.requires c.cut-in-Err.ensures c.reserve.ensures.items refl refl refl).open_
+returns-in-Err-clause-open c = (cut_away c.args.self.now _ c.requires c.cut-in-Err.ensures c.in-Err.ensures.no_memory refl refl refl).open_
 
 pub returns-in-Err-clause-tail : goal.returns-in-Err-clause-tail
-returns-in-Err-clause-tail c = (cut_away c.args.self.now _ c.requires c.cut-in-Err.ensures c.reserve.ensures.items refl refl refl).tail
+returns-in-Err-clause-tail c = (cut_away c.args.self.now _ c.requires c.cut-in-Err.ensures c.in-Err.ensures.no_memory refl refl refl).tail

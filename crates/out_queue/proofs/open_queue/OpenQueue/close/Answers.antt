@@ -11,11 +11,11 @@ pub of-requires-2 : goal.of-requires-2
 of-requires-2 c =
     let o = c.args.self in
     subst (λ (fs : List (List ℕ)). CanStand o.taken o.queued fs)
-    (sym (c.of.ensures ∙ ap (λ (bs : List ℕ). frames_in o.lens.items (drop o.gone bs)) c.into_vec.ensures))
+    (sym (c.of.ensures ∙ ap (λ (bs : List ℕ). frames_in o.lens (drop o.gone bs)) c.into_vec.ensures))
     (closed o c.requires.open c.requires.tail).stands
 
 pub returns : goal.returns
 returns c =
     let o = c.args.self in
-    c.of-2.ensures ∙ ap (left_of o.taken) (c.of.ensures ∙ ap (λ (bs : List ℕ). frames_in o.lens.items (drop o.gone bs)) c.into_vec.ensures)
+    c.of-2.ensures ∙ ap (left_of o.taken) (c.of.ensures ∙ ap (λ (bs : List ℕ). frames_in o.lens (drop o.gone bs)) c.into_vec.ensures)
     ∙ (closed o c.requires.open c.requires.tail).frames_

@@ -1,4 +1,4 @@
--- The dimensions that are read from a text are those that a description may have.
+-- A type that is read from a text is one that a description may have.
 use Rattle.std.proofs.Common.{◌≡◌, ℕ, zero, suc, ◌+◌, ◌≤◌, Bool, true, false, List, [], ◌∷◌, length, map, take, drop, refl, ap, subst, arith, inl, inr}
 use Rattle.std.specs.Prelude.{Option, Some, None, option_map, option_and_then, ◌&&◌, ◌==◌, nat_le, nat_lt, ℤ}
 use Rattle.std.specs.Prelude.{pos, int_le, neg_ℤ, nat_abs, bytes_eq, codes, ◌+ℤ◌, ◌-ℤ◌, ◌≤ℤ◌}
@@ -10,7 +10,7 @@ use Rattle.name_paths.specs.Name.{is_full_stop}
 use Rattle.name_paths.specs.Path.{is_comma}
 use Rattle.spec_plant.specs.TypeTexts.{Ends, ends_in_order, ends_of, high_text_of, all_ends_of, dimensions_of}
 use Rattle.spec_plant.specs.AcceptedTypes.{is_index, is_bound}
-use Rattle.spec_machine.specs.TypesByText.{bound_of_ends}
+use Rattle.spec_plant.specs.Shapes.{bound_between}
 
 -- two tests that pass
 pub both_true : (a b : Bool) → a ≡ true → b ≡ true → (a && b) ≡ true
@@ -146,16 +146,16 @@ between low high h = grind (arith, ints)
 order_of : (x y : ℤ) → int_le x y ≡ true → x ≤ℤ y
 order_of x y h = grind (arith, ints)
 
-bound_of_ends-good : (e : Ends) → good_ends e ≡ true → is_bound (bound_of_ends e) ≡ true
-bound_of_ends-good e h =
+bound_between-good : (e : Ends) → good_ends e ≡ true → is_bound (bound_between e) ≡ true
+bound_between-good e h =
     let outer = and_parts (is_index e.low && is_index e.high) (int_le e.low e.high) h in
     let inner = and_parts (is_index e.low) (is_index e.high) (outer.0) in
     let high = between e.low e.high (order_of e.low e.high (outer.1)) in
     let some = lt-ltb 0 (nat_abs (e.high -ℤ e.low) + 1) (omega arith) in
     rw (some, inner.0, high, inner.1) refl
 
-pub bounds_between-good : (es : List Ends) → list_all good_ends es ≡ true → list_all is_bound (map bound_of_ends es) ≡ true
+pub bounds_between-good : (es : List Ends) → list_all good_ends es ≡ true → list_all is_bound (map bound_between es) ≡ true
 bounds_between-good [] h = refl
 bounds_between-good (e ∷ es) h =
     let parts = and_parts (good_ends e) (list_all good_ends es) h in
-    both_true (is_bound (bound_of_ends e)) (list_all is_bound (map bound_of_ends es)) (bound_of_ends-good e (parts.0)) (bounds_between-good es (parts.1))
+    both_true (is_bound (bound_between e)) (list_all is_bound (map bound_between es)) (bound_between-good e (parts.0)) (bounds_between-good es (parts.1))

@@ -12,12 +12,11 @@ use Rattle.spec_plant.specs.TypeTexts.{type_text_of, array_text_of, array_elem_o
 use Rattle.spec_plant.specs.TypeTexts.{string_length_of, named_text_of, kind_named, is_same_word, is_closing}
 use Rattle.spec_plant.specs.TypeTexts.{dimensions_of}
 use Rattle.spec_plant.specs.AcceptedTypes.{is_shape, is_elem, is_bound, are_bounds}
-use Rattle.spec_rules.specs.Shapes.{place_named, elem_at, elem_named, shape_with, shape_named, shape_of_text, bound_between}
-use Rattle.spec_rules.proofs.FirstWrong.{both_true}
-use Rattle.spec_rules.proofs.ShapesRead.{AreDimensions, dimensions_of-good, bounds_between-good}
+use Rattle.spec_plant.specs.Shapes.{place_named, elem_at, elem_named, shape_with, shape_named, shape_of_text, bound_between}
+use Rattle.spec_plant.proofs.ShapesRead.{both_true, AreDimensions, dimensions_of-good, bounds_between-good}
 
 -- the length of a text type is in range
-abbrev good_elem : ElemText → Bool
+abbrev pub good_elem : ElemText → Bool
 good_elem (PlainText kind) = true
 good_elem (StringText n) = nat_le n 65534
 good_elem (NamedText name) = true
@@ -82,9 +81,9 @@ elem_text_of-good text e h = kinds (kind_named text) refl h
         subst P same refl
 
 -- a type text with at most three good dimensions and a good element
-record IsGoodText (t : TypeText) : Type 0 where
-  ends : AreDimensions t.ends
-  elem_ : good_elem t.elem ≡ true
+pub record IsGoodText (t : TypeText) : Type 0 where
+  pub ends : AreDimensions t.ends
+  pub elem_ : good_elem t.elem ≡ true
 
 array_elem_of-good : (text : List ℕ) (e : ElemText) → array_elem_of text ≡ Some e → good_elem e ≡ true
 array_elem_of-good text e h =
@@ -116,7 +115,7 @@ array_text_of-good text t h = dims (dimensions_of inside) refl h
     dims None q f = cc
     dims (Some es) q f = elems es (array_elem_of behind) (dimensions_of-good inside es q) refl f
 
-type_text_of-good : (text : List ℕ) (t : TypeText) → type_text_of text ≡ Some t → IsGoodText t
+pub type_text_of-good : (text : List ℕ) (t : TypeText) → type_text_of text ≡ Some t → IsGoodText t
 type_text_of-good text t h =
     elim (cases_Bool (is_same_word (take 7 text) (codes "ARRAY ["))) [
       | inl s ↦ array_text_of-good (drop 7 text) t (rw s at h)

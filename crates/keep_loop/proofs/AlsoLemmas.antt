@@ -1,0 +1,199 @@
+-- The marks of a run with a store go on with a turn, and how they end.
+use Rattle.std.proofs.Common.{◌≡◌, ℕ, ◌+◌, ◌≤◌, List, [], ◌∷◌, ◌++◌, length, true, false, refl, sym, ap, ◌∙◌, subst, append-nil, inl, arith}
+use Rattle.std.specs.Prelude.{Bool, Option, Some}
+use Rattle.ads_outside.specs.declared.moves.Move.{Move}
+use Rattle.ads_outside.specs.WireState.{WireState, WireHistory, history_after}
+use Rattle.spec_machine.specs.MachineState.{MachineState}
+use Rattle.spec_machine.specs.Moves.{EventStep}
+use Rattle.ads_served.specs.Standing.{Standing, Noting}
+use Rattle.spec_store.specs.Slots as slots
+use Rattle.spec_store.specs.Runs as runs
+use Rattle.serve_loop.specs.Leads.{events_in}
+use Rattle.serve_loop.specs.TurnTaken.{StandsOver, Stays}
+use Rattle.persist_store.specs.Marks.{Mark, MarksOne, MarksStay}
+use Rattle.persist_store.specs.Store.{StoreState, body_of, IsReady}
+use Rattle.keep_loop.specs.declared.keep_end.KeepEnd.{KeepEnd}
+use Rattle.keep_loop.specs.declared.run_end.RunEnd.{RunEnd}
+use Rattle.keep_loop.specs.declared.run_end.RunEnd.TheVariants as run
+use Rattle.keep_loop.specs.declared.save_end.SaveEnd.{SaveEnd}
+use Rattle.keep_loop.specs.declared.save_end.SaveEnd.TheVariants as save
+use Rattle.keep_loop.specs.Bodies.{BodyOf, bodies_at_ticks, paced, bodies_looked_at, bodies_to_end, saves_in}
+use Rattle.keep_loop.specs.Ending.{EndsBySave, end_of, end_by_save}
+use Rattle.keep_loop.specs.Keeping.{EndsAfter, KeepsSoFar}
+use Rattle.keep_loop.specs.Marking.{HoldsSaves, MarksRun, MarksMore, MarksAtEnd, MarksOf, is_to_end}
+use Rattle.keep_loop.specs.Saving.{StaysTold, StaysSame, IsSaved, AfterSave}
+use Rattle.keep_loop.proofs.KeepLemmas.{IsBodyOf, AlsoPasses, AlsoLooks, same_adds, other_adds}
+use Rattle.keep_loop.proofs.MarkLemmas.{marked_none, marked_passed, marked_looked, marked_some, marked_all, holds_saves}
+use Rattle.keep_loop.proofs.SaveLemmas.{last_of, standing_then, told_then, told_same}
+use Rattle.keep_loop.proofs.TurnLemmas.{keeps_to, saves_to_end}
+use Rattle.serve_loop.proofs.TurnLemmas.{stands_over}
+
+module _ {W C D : Type 0} (every : ℕ) (of_world : BodyOf W) (step : EventStep W C) (noted : Noting W C) (contents : D → Option (List ℕ))
+    (may_leave : D → List ℕ → Type 0) (moment : D → ℕ) (left_since : D → ℕ → List ℕ → Type 0) (marked : D → List Mark → Type 0) where
+  -- the marks behind some moves
+  abbrev pub Also : WireHistory → D → D → StoreState → Standing W C → List Move → Type 0
+  Also old first_disk disk first =
+      MarksOf every of_world step marked old (HoldsSaves (contents first_disk) first.standing) first_disk disk
+
+  abbrev SoFar : (Standing W C → List Move → Type 0) → (Standing W C → Type 0) → (Standing W C → Type 0) → WireHistory → WireHistory → ℕ → ℕ
+      → D → D → StoreState → StoreState → ℕ → Type 0
+  SoFar Holds old_serves new_serves old new count left old_disk new_disk first now saved =
+      KeepsSoFar Holds every of_world step noted contents moment left_since old_serves new_serves old new count left old_disk new_disk first now saved
+
+  pub also_first : (old : WireHistory) (disk : D) (first : StoreState) (x : Standing W C) → Also old disk disk first x []
+  unfolding bodies_at_ticks paced
+  also_first old disk first x = λ marks told.
+      marked_none (bodies_looked_at every of_world step x.running.state) old (HoldsSaves (contents disk) first.standing) marks (marked disk) refl told
+
+  pub also_passes : (old : WireHistory) (first_disk disk : D) (first : StoreState)
+      → AlsoPasses every of_world step noted contents may_leave moment left_since (Also old first_disk disk first) (Also old first_disk disk first)
+  also_passes old first_disk disk first = λ x ms ns same also marks told.
+      let Holds : List (List ℕ) → Option (List ℕ) → Type 0 = HoldsSaves (contents first_disk) first.standing in
+      marked_passed (bodies_looked_at every of_world step x.running.state) old Holds Holds ms ns marks (λ looked file holds. holds)
+      (marked disk) same (also marks told)
+
+  also_looks : (old new : WireHistory) (first_disk mid_disk disk : D) (first now : StoreState) (saves : List (List ℕ))
+      → MarksOne marked mid_disk disk new (contents disk) → StaysTold contents first_disk disk → IsReady contents may_leave disk now → now.shut ≡ false
+      → now.standing ≡ runs.standing_after_all first.standing saves
+      → AlsoLooks every of_world step noted contents may_leave moment left_since (Also old first_disk mid_disk first) (Also old first_disk disk first)
+      (body_of first) old new saves
+  also_looks old new first_disk mid_disk disk first now saves mark told ready open_ standing = λ x ms ns one logged more are also marks here.
+      let Holds : List (List ℕ) → Option (List ℕ) → Type 0 = HoldsSaves (contents first_disk) first.standing in
+      marked_looked (bodies_looked_at every of_world step x.running.state) old Holds Holds ms ns marks (λ looked file holds. holds)
+      (marked mid_disk) (marked disk) (record { wire = new; file = contents disk }) one more logged
+      (holds_saves contents may_leave first_disk disk first now saves (bodies_looked_at every of_world step x.running.state (ms ++ ns)) told ready
+      open_ standing are) mark (also marks here)
+
+  -- a tick whose body stands already, and one whose body was saved
+  pub also_same : (Any : Standing W C → List Move → Type 0) (old_serves mid_serves new_serves : Standing W C → Type 0) (old mid new : WireHistory)
+      (count left : ℕ) (old_disk mid_disk disk : D) (first mid_store now : StoreState) (saved : ℕ)
+      → (so_far : SoFar Any old_serves mid_serves old mid count left old_disk mid_disk first mid_store saved)
+      → StaysSame (IsBodyOf of_world new_serves) mid_disk disk mid_store now → IsReady contents may_leave disk now
+      → MarksOne marked mid_disk disk new (contents disk)
+      → AlsoLooks every of_world step noted contents may_leave moment left_since (Also old old_disk mid_disk first) (Also old old_disk disk first)
+      (body_of first) old new so_far.saves
+  also_same Any old_serves mid_serves new_serves old mid new count left old_disk mid_disk disk first mid_store now saved so_far same ready mark =
+      also_looks old new old_disk mid_disk disk first now so_far.saves mark
+      (told_same contents moment left_since old_disk mid_disk disk so_far.told same.disk) ready
+      (ap (λ (s : StoreState). s.shut) same.store ∙ so_far.open_) (ap (λ (s : StoreState). s.standing) same.store ∙ so_far.standing)
+
+  pub also_saved : (Any : Standing W C → List Move → Type 0) (old_serves mid_serves new_serves : Standing W C → Type 0) (old mid new : WireHistory)
+      (count left : ℕ) (old_disk mid_disk disk : D) (first mid_store now : StoreState) (saved : ℕ)
+      → (so_far : SoFar Any old_serves mid_serves old mid count left old_disk mid_disk first mid_store saved)
+      → (s : IsSaved (IsBodyOf of_world new_serves) contents moment left_since mid_disk disk mid_store now) → IsReady contents may_leave disk now
+      → MarksOne marked mid_disk disk new (contents disk)
+      → AlsoLooks every of_world step noted contents may_leave moment left_since (Also old old_disk mid_disk first) (Also old old_disk disk first)
+      (body_of first) old new (so_far.saves ++ s.body ∷ [])
+  also_saved Any old_serves mid_serves new_serves old mid new count left old_disk mid_disk disk first mid_store now saved so_far s ready mark =
+      also_looks old new old_disk mid_disk disk first now (so_far.saves ++ s.body ∷ []) mark
+      (told_then contents moment left_since old_disk mid_disk disk so_far.told s.told) ready
+      (ap (λ (t : StoreState). t.shut) s.store)
+      (ap (λ (t : StoreState). t.standing) s.store ∙ standing_then so_far.saves s.body first.standing mid_store.standing so_far.standing)
+
+  -- a run that ended in a turn, or in the save behind it
+  pub some_marked : (old_serves mid_serves : Standing W C → Type 0) (old : WireState) (mid : WireHistory) (new : WireState) (count left : ℕ)
+      (old_disk mid_disk disk : D) (first mid_store : StoreState) (saved : ℕ) (later : List Move)
+      → SoFar (Also old.history old_disk mid_disk first) old_serves mid_serves old.history mid count left old_disk mid_disk first mid_store saved
+      → events_in later ≤ 1 → EndsAfter old new (history_after mid later) → MarksStay marked mid_disk disk
+      → (x : Standing W C) → StandsOver old_serves old.history.opened x → (marks : List Mark) → marked old_disk marks
+      → MarksMore (marked disk) marks (MarksRun false every of_world step x.running.state (HoldsSaves (contents old_disk) first.standing) old.history new.history)
+  some_marked old_serves mid_serves old mid new count left old_disk mid_disk disk first mid_store saved later so_far few ended stay x over marks told =
+      let Holds : List (List ℕ) → Option (List ℕ) → Type 0 = HoldsSaves (contents old_disk) first.standing in
+      let turns = so_far.paced.keeps.turns in
+      marked_some every of_world step x.running.state Holds Holds old mid new turns.moves (marked mid_disk) (marked disk) marks (λ looked file holds. holds)
+      later few turns.logged ended stay (so_far.paced.also x over marks told)
+
+  -- one that came to its end, and whose last save was done
+  last_marked : (old_serves mid_serves new_serves : Standing W C → Type 0) (old : WireState) (mid : WireHistory) (new : WireState) (count left : ℕ)
+      (old_disk mid_disk disk : D) (first mid_store now : StoreState) (saved : ℕ) (more : List (List ℕ))
+      → (so_far : SoFar (Also old.history old_disk mid_disk first) old_serves mid_serves old.history mid count left old_disk mid_disk first mid_store saved)
+      → EndsAfter old new (history_after mid []) → Stays mid_serves new_serves → MarksOne marked mid_disk disk new.history (contents disk)
+      → StaysTold contents old_disk disk → IsReady contents may_leave disk now → now.shut ≡ false
+      → now.standing ≡ runs.standing_after_all first.standing (so_far.saves ++ more)
+      → ((z : Standing W C) → StandsOver new_serves mid.opened z → saves_in (last_of (body_of first) so_far.saves) (of_world z.running.state.world ∷ []) ≡ more)
+      → (x : Standing W C) → StandsOver old_serves old.history.opened x → (marks : List Mark) → marked old_disk marks
+      → MarksMore (marked disk) marks (MarksRun true every of_world step x.running.state (HoldsSaves (contents old_disk) first.standing) old.history new.history)
+  last_marked old_serves mid_serves new_serves old mid new count left old_disk mid_disk disk first mid_store now saved more so_far ended stays mark told
+      ready open_ standing adds x over marks here =
+      let Holds : List (List ℕ) → Option (List ℕ) → Type 0 = HoldsSaves (contents old_disk) first.standing in
+      let keeps = so_far.paced.keeps in
+      let to = stands_over mid_serves new_serves mid.opened stays in
+      let are = saves_to_end every of_world step noted old_serves mid_serves (body_of first) old.history mid count so_far.saves more keeps
+      (λ z there. adds z (to z there)) x over in
+      marked_all every of_world step x.running.state Holds Holds old mid new keeps.turns.moves (marked mid_disk) (marked disk) marks (λ looked file holds. holds)
+      (contents disk) keeps.turns.logged ended mark
+      (holds_saves contents may_leave old_disk disk first now (so_far.saves ++ more) (bodies_to_end every of_world step x.running.state keeps.turns.moves)
+      told ready open_ standing are) (so_far.paced.also x over marks here)
+
+  -- so the marks of a run end
+  abbrev pub EndsMarked : Bool → (Standing W C → Type 0) → WireState → WireState → D → D → StoreState → Type 0
+  EndsMarked to_end old_serves old new old_disk disk first =
+      (x : Standing W C) → StandsOver old_serves old.history.opened x → (marks : List Mark) → marked old_disk marks
+      → MarksMore (marked disk) marks (MarksRun to_end every of_world step x.running.state (HoldsSaves (contents old_disk) first.standing) old.history new.history)
+
+  none_after : (old new : WireState) (mid : WireHistory) → EndsAfter old new mid → EndsAfter old new (history_after mid [])
+  unfolding history_after
+  none_after old new mid ended = ended
+
+  came_to_end : (ended : RunEnd) (n : ℕ) → is_to_end (end_of ended n) ≡ true
+  came_to_end run.Done n = refl
+  came_to_end run.LinkFault n = refl
+  came_to_end run.Budget n = refl
+
+  -- by its last save
+  by_marked : (by : SaveEnd) (ended : RunEnd) (old_serves mid_serves new_serves : Standing W C → Type 0) (old : WireState) (mid : WireHistory)
+      (new : WireState) (count left : ℕ) (old_disk mid_disk disk : D) (first mid_store now : StoreState) (saved : ℕ)
+      → SoFar (Also old.history old_disk mid_disk first) old_serves mid_serves old.history mid count left old_disk mid_disk first mid_store saved
+      → EndsAfter old new (history_after mid []) → Stays mid_serves new_serves
+      → AfterSave by (IsBodyOf of_world new_serves) contents moment left_since mid_disk disk mid_store now → IsReady contents may_leave disk now
+      → MarksAtEnd (is_to_end (end_by_save by ended saved)) marked mid_disk disk new.history (contents disk)
+      → EndsMarked (is_to_end (end_by_save by ended saved)) old_serves old new old_disk disk first
+  by_marked save.Same ended old_serves mid_serves new_serves old mid new count left old_disk mid_disk disk first mid_store now saved so_far after stays same
+      ready mark =
+      let B : Bool → Type 0 = λ b. MarksAtEnd b marked mid_disk disk new.history (contents disk) → EndsMarked b old_serves old new old_disk disk first in
+      subst B (sym (came_to_end ended saved))
+      (λ one. last_marked old_serves mid_serves new_serves old mid new count left old_disk mid_disk disk first mid_store now saved [] so_far after stays one
+      (told_same contents moment left_since old_disk mid_disk disk so_far.told same.disk) ready
+      (ap (λ (s : StoreState). s.shut) same.store ∙ so_far.open_)
+      (ap (λ (s : StoreState). s.standing) same.store ∙ (so_far.standing ∙ ap (runs.standing_after_all first.standing) (sym (append-nil so_far.saves))))
+      (λ z over. same_adds every of_world step noted contents may_leave moment left_since first mid_store so_far.saves same.body
+      (of_world z.running.state.world) so_far.standing same.stands (same.is z over.stands))) mark
+  by_marked save.Saved ended old_serves mid_serves new_serves old mid new count left old_disk mid_disk disk first mid_store now saved so_far after stays s
+      ready mark =
+      let B : Bool → Type 0 = λ b. MarksAtEnd b marked mid_disk disk new.history (contents disk) → EndsMarked b old_serves old new old_disk disk first in
+      subst B (sym (came_to_end ended (saved + 1)))
+      (λ one. last_marked old_serves mid_serves new_serves old mid new count left old_disk mid_disk disk first mid_store now saved (s.body ∷ []) so_far after
+      stays one (told_then contents moment left_since old_disk mid_disk disk so_far.told s.told) ready
+      (ap (λ (t : StoreState). t.shut) s.store)
+      (ap (λ (t : StoreState). t.standing) s.store ∙ standing_then so_far.saves s.body first.standing mid_store.standing so_far.standing)
+      (λ z over. other_adds every of_world step noted contents may_leave moment left_since first mid_store so_far.saves s.body
+      (of_world z.running.state.world) so_far.standing s.differs (s.is z over.stands))) mark
+  by_marked save.Failed ended old_serves mid_serves new_serves old mid new count left old_disk mid_disk disk first mid_store now saved so_far after stays failed
+      ready mark = some_marked old_serves mid_serves old mid new count left old_disk mid_disk disk first mid_store saved [] so_far (omega arith) after mark
+  by_marked save.Limit ended old_serves mid_serves new_serves old mid new count left old_disk mid_disk disk first mid_store now saved so_far after stays refused
+      ready mark = some_marked old_serves mid_serves old mid new count left old_disk mid_disk disk first mid_store saved [] so_far (omega arith) after mark
+  by_marked save.Memory ended old_serves mid_serves new_serves old mid new count left old_disk mid_disk disk first mid_store now saved so_far after stays wanted
+      ready mark = some_marked old_serves mid_serves old mid new count left old_disk mid_disk disk first mid_store saved [] so_far (omega arith) after mark
+
+  pub ends_marked : (end : KeepEnd) (ended : RunEnd) (old_serves mid_serves new_serves : Standing W C → Type 0) (old : WireState) (mid : WireHistory)
+      (new : WireState) (count left : ℕ) (old_disk mid_disk disk : D) (first mid_store now : StoreState) (saved : ℕ)
+      → SoFar (Also old.history old_disk mid_disk first) old_serves mid_serves old.history mid count left old_disk mid_disk first mid_store saved
+      → EndsAfter old new mid → Stays mid_serves new_serves
+      → EndsBySave end ended saved (IsBodyOf of_world new_serves) contents moment left_since mid_disk disk mid_store now → IsReady contents may_leave disk now
+      → MarksAtEnd (is_to_end end) marked mid_disk disk new.history (contents disk)
+      → EndsMarked (is_to_end end) old_serves old new old_disk disk first
+  ends_marked end ended old_serves mid_serves new_serves old mid new count left old_disk mid_disk disk first mid_store now saved so_far after stays ends ready =
+      let P : KeepEnd → Type 0 = λ e. MarksAtEnd (is_to_end e) marked mid_disk disk new.history (contents disk)
+      → EndsMarked (is_to_end e) old_serves old new old_disk disk first in
+      subst P (sym ends.is)
+      (by_marked ends.by ended old_serves mid_serves new_serves old mid new count left old_disk mid_disk disk first mid_store now saved so_far
+      (none_after old new mid after) stays ends.saves ready)
+
+  -- the turn that memory ended, or in the save behind which the run ended
+  pub stops_marked : (old_serves mid_serves : Standing W C → Type 0) (old : WireState) (mid : WireHistory) (new : WireState) (count left : ℕ)
+      (old_disk mid_disk disk : D) (first mid_store : StoreState) (saved : ℕ) (later : List Move)
+      → SoFar (Also old.history old_disk mid_disk first) old_serves mid_serves old.history mid count left old_disk mid_disk first mid_store saved
+      → events_in later ≤ 1 → new.history ≡ history_after mid later → MarksStay marked mid_disk disk
+      → EndsMarked false old_serves old new old_disk disk first
+  stops_marked old_serves mid_serves old mid new count left old_disk mid_disk disk first mid_store saved later so_far few logged stay =
+      some_marked old_serves mid_serves old mid new count left old_disk mid_disk disk first mid_store saved later so_far few (inl logged) stay

@@ -1,0 +1,166 @@
+-- Marks behind looks go on with a turn.
+use Rattle.std.proofs.Common.{◌≡◌, ℕ, ◌+◌, ◌≤◌, List, [], ◌∷◌, ◌++◌, length, true, false, refl, sym, ap, ◌∙◌, subst, append_assoc, append-nil, inl, inr, arith}
+use Rattle.std.proofs.lemmas.List.{length-append}
+use Rattle.std.specs.Prelude.{Bool, Option, Some}
+use Rattle.ads_outside.specs.declared.moves.Move.{Move}
+use Rattle.ads_outside.specs.WireState.{WireState, WireHistory, history_after}
+use Rattle.spec_machine.specs.MachineState.{MachineState}
+use Rattle.spec_machine.specs.Moves.{EventStep}
+use Rattle.ads_served.specs.Standing.{Standing, Noting}
+use Rattle.spec_store.specs.Slots as slots
+use Rattle.spec_store.specs.Runs as runs
+use Rattle.serve_loop.specs.Leads.{events_in}
+use Rattle.persist_store.specs.Marks.{Mark, MarksOne, MarksStay}
+use Rattle.persist_store.specs.Store.{StoreState, body_of, IsReady}
+use Rattle.keep_loop.specs.Bodies.{BodyOf, bodies_looked_at, bodies_to_end, saves_in}
+use Rattle.keep_loop.specs.Keeping.{EndsAfter}
+use Rattle.keep_loop.specs.Marking.{HoldsSaves, MarksLook, AreMarks, MarksLast, MarksToEnd, IsBehind, IsUpToEnd, MarksRun, MarksMore, MarksSoFar, MarksOf}
+use Rattle.keep_loop.specs.Saving.{StaysTold}
+
+pub marks_more : (Is : ℕ → Mark → Type 0) (count : ℕ) (looks : List Mark) (mark : Mark) → AreMarks Is count looks → Is (count + length looks) mark
+    → AreMarks Is count (looks ++ mark ∷ [])
+marks_more Is count [] mark are is =
+    let none : count + 0 ≡ count = omega arith in
+    (subst (λ n. Is n mark) none is, tt)
+marks_more Is count (look ∷ looks) mark are is =
+    let next : count + (length looks + 1) ≡ count + 1 + length looks = omega arith in
+    (are.0, marks_more Is (count + 1) looks mark are.1 (subst (λ n. Is n mark) next is))
+
+-- what holds of a file and of bodies, in other words
+abbrev pub Follows : (List (List ℕ) → Option (List ℕ) → Type 0) → (List (List ℕ) → Option (List ℕ) → Type 0) → Type 0
+Follows Holds Then = (looked : List (List ℕ)) (file : Option (List ℕ)) → Holds looked file → Then looked file
+
+pub marks_later : (bodies : List Move → List (List ℕ)) (IsAt : WireHistory → List Move → Type 0) (Holds Then : List (List ℕ) → Option (List ℕ) → Type 0)
+    (moves more : List Move) (count : ℕ) (looks : List Mark) → Follows Holds Then
+    → AreMarks (MarksLook bodies IsAt Holds moves) count looks → AreMarks (MarksLook bodies IsAt Then (moves ++ more)) count looks
+marks_later bodies IsAt Holds Then moves more count [] follows are = tt
+marks_later bodies IsAt Holds Then moves more count (look ∷ looks) follows are =
+    let is = are.0 in (
+      record {
+        before = is.before;
+        turn = is.turn;
+        later = is.later ++ more;
+        are = ap (λ l. l ++ more) is.are ∙ append_assoc (is.before ++ is.turn) is.later more;
+        one = is.one;
+        so_far = is.so_far;
+        due = is.due;
+        wire = is.wire;
+        holds = follows (bodies (is.before ++ is.turn)) look.file is.holds;
+      },
+      marks_later bodies IsAt Holds Then moves more (count + 1) looks follows are.1,
+    )
+
+module _ (bodies : List Move → List (List ℕ)) (old : WireHistory) (Holds Then : List (List ℕ) → Option (List ℕ) → Type 0) (ms ns : List Move)
+    (marks : List Mark) (follows : Follows Holds Then) where
+  -- a turn behind which nothing is looked at
+  pub marked_passed : (Marked : List Mark → Type 0) → bodies (ms ++ ns) ≡ bodies ms → MarksSoFar Marked marks bodies old Holds ms
+      → MarksSoFar Marked marks bodies old Then (ms ++ ns)
+  marked_passed Marked same s = record {
+    looks = s.looks;
+    told = s.told;
+    each = s.each ∙ sym (ap length same);
+    are = marks_later bodies (IsBehind old) Holds Then ms ns 0 s.looks follows s.are;
+  }
+
+  -- one behind which a body is looked at, and marked
+  pub marked_looked : (Marked Now : List Mark → Type 0) (mark : Mark) → events_in ns ≡ 1 → length (bodies (ms ++ ns)) ≡ length (bodies ms) + 1
+      → mark.wire ≡ history_after old (ms ++ ns) → Then (bodies (ms ++ ns)) mark.file → ((l : List Mark) → Marked l → Now (l ++ mark ∷ []))
+      → MarksSoFar Marked marks bodies old Holds ms → MarksSoFar Now marks bodies old Then (ms ++ ns)
+  marked_looked Marked Now mark one more wire holds adds s =
+      let each = s.each in
+      let due : length (bodies (ms ++ ns)) ≡ 0 + length s.looks + 1 = omega (arith, each, more) in
+      let so_far : length (bodies ms) ≡ 0 + length s.looks = omega (arith, each) in
+      record {
+        looks = s.looks ++ mark ∷ [];
+        told = subst Now (append_assoc marks s.looks (mark ∷ [])) (adds (marks ++ s.looks) s.told);
+        each = length-append s.looks (mark ∷ []) ∙ (ap (λ n. n + 1) each ∙ sym more);
+        are = marks_more (MarksLook bodies (IsBehind old) Then (ms ++ ns)) 0 s.looks mark
+            (marks_later bodies (IsBehind old) Holds Then ms ns 0 s.looks follows s.are)
+            (record {
+              before = ms;
+              turn = ns;
+              later = [];
+              are = sym (append-nil (ms ++ ns));
+              one = one;
+              so_far = so_far;
+              due = due;
+              wire = wire;
+              holds = holds;
+            });
+      }
+
+pub marked_none : (bodies : List Move → List (List ℕ)) (old : WireHistory) (Holds : List (List ℕ) → Option (List ℕ) → Type 0) (marks : List Mark)
+    (Marked : List Mark → Type 0) → bodies [] ≡ [] → Marked marks → MarksSoFar Marked marks bodies old Holds []
+marked_none bodies old Holds marks Marked none told = record {
+  looks = [];
+  told = subst Marked (sym (append-nil marks)) told;
+  each = sym (ap length none);
+  are = tt;
+}
+
+up_to_end : (old new : WireState) (last : WireHistory) → EndsAfter old new last → IsUpToEnd new.history last
+up_to_end old new last (inl same) = subst (λ h. IsUpToEnd h last) (sym same) refl
+up_to_end old new last (inr (inl ended)) = subst (λ h. IsUpToEnd h last) (sym ended) refl
+up_to_end old new last (inr (inr stops)) =
+    stops.same ∙ ap (λ n. record last { ends = n; stops = new.history.stops }) (sym (ap (λ (h : WireHistory). h.ends) stops.same))
+
+-- how a run ends that was marked so far
+module _ {W C : Type 0} (every : ℕ) (of_world : BodyOf W) (step : EventStep W C) (s : MachineState W C) (Holds Then : List (List ℕ) → Option (List ℕ) → Type 0)
+    (old : WireState) (mid : WireHistory) (new : WireState) (moves : List Move) (Marked Now : List Mark → Type 0) (marks : List Mark)
+    (follows : Follows Holds Then) where
+  -- with these moves behind the whole turns
+  pub marked_some : (later : List Move) → events_in later ≤ 1 → mid ≡ history_after old.history moves → EndsAfter old new (history_after mid later)
+      → ((l : List Mark) → Marked l → Now l)
+      → MarksSoFar Marked marks (bodies_looked_at every of_world step s) old.history Holds moves
+      → MarksMore Now marks (MarksRun false every of_world step s Then old.history new.history)
+  marked_some later few logged ended stay so_far = record {
+    more = so_far.looks;
+    told = stay (marks ++ so_far.looks) so_far.told;
+    are = record {
+      moves = moves;
+      later = later;
+      few = few;
+      ended = subst (λ h. IsUpToEnd new.history (history_after h later)) logged (up_to_end old new (history_after mid later) ended);
+      looks = so_far.looks;
+      each = so_far.each;
+      are = let P : List Move → Type 0 = λ l. AreMarks (MarksLook (bodies_looked_at every of_world step s) (IsBehind old.history) Then l) 0 so_far.looks in
+          subst P (append-nil moves)
+          (marks_later (bodies_looked_at every of_world step s) (IsBehind old.history) Holds Then moves [] 0 so_far.looks follows so_far.are);
+      all = refl;
+    };
+  }
+
+  pub marked_all : (file : Option (List ℕ)) → mid ≡ history_after old.history moves → EndsAfter old new (history_after mid [])
+      → ((l : List Mark) → Marked l → Now (l ++ record { wire = new.history; file = file } ∷ [])) → Then (bodies_to_end every of_world step s moves) file
+      → MarksSoFar Marked marks (bodies_looked_at every of_world step s) old.history Holds moves
+      → MarksMore Now marks (MarksRun true every of_world step s Then old.history new.history)
+  marked_all file logged ended adds holds so_far =
+      let mark : Mark = record { wire = new.history; file = file } in
+      record {
+        more = so_far.looks ++ mark ∷ [];
+        told = subst Now (append_assoc marks so_far.looks (mark ∷ [])) (adds (marks ++ so_far.looks) so_far.told);
+        are = record {
+          moves = moves;
+          later = [];
+          few = omega arith;
+          ended = subst (λ h. IsUpToEnd new.history (history_after h [])) logged (up_to_end old new (history_after mid []) ended);
+          looks = so_far.looks;
+          each = so_far.each;
+          are = let P : List Move → Type 0 = λ l. AreMarks (MarksLook (bodies_looked_at every of_world step s) (IsBehind old.history) Then l) 0 so_far.looks in
+              subst P (append-nil moves)
+              (marks_later (bodies_looked_at every of_world step s) (IsBehind old.history) Holds Then moves [] 0 so_far.looks follows so_far.are);
+          all = record { whole = refl; last = mark; are = refl; wire = refl; holds = holds };
+        };
+      }
+
+-- the file behind some saves, where the store is ready
+pub holds_saves : {D : Type 0} (contents : D → Option (List ℕ)) (may_leave : D → List ℕ → Type 0) (old_disk disk : D) (first now : StoreState)
+    (saves looked : List (List ℕ)) → StaysTold contents old_disk disk → IsReady contents may_leave disk now → now.shut ≡ false
+    → now.standing ≡ runs.standing_after_all first.standing saves → saves ≡ saves_in (body_of first) looked
+    → HoldsSaves (contents old_disk) first.standing looked (contents disk)
+holds_saves contents may_leave old_disk disk first now saves looked told ready open_ standing are = λ file here.
+    let there = told file here in (
+      there.0,
+      there.1,
+      (ready there.0 there.1 open_).1 ∙ (standing ∙ ap (runs.standing_after_all first.standing) are),
+    )
