@@ -15,7 +15,7 @@ use Rattle.spec_plant.specs.Trees.{trees_behind, trees_of}
 use Rattle.spec_plant.specs.Sizes.{type_align, greatest_align, type_size, members_end, type_depth, greatest_depth}
 use Rattle.spec_plant.specs.Spelling.{type_text}
 use Rattle.spec_rules.specs.Tables.{route_in, member_in, value_in, structure_in, enumeration_in, type_in, symbol_in, port_in, document_in}
-use Rattle.spec_rules.specs.Shapes.{shape_of_text}
+use Rattle.spec_plant.specs.Shapes.{shape_of_text}
 use Rattle.spec_rules.specs.Described.{types_behind}
 use Rattle.spec_rules.specs.RouteRules.{wrong_schema, wrong_net, wrong_rights}
 use Rattle.spec_rules.specs.TypeRules.{wrong_type_name, wrong_part}
@@ -49,8 +49,8 @@ use Rattle.daemon_run.specs.Kept.{EndsKept, HoldsBody, KeepsBodies, RunsKept, Sa
 use Rattle.daemon_run.specs.Plant.{Plant, Serving, events_with, plant_kept, plant_of, service_of, serves_plant, serving, start_kept, verdict_on}
 use Rattle.daemon_run.specs.PlantEnds.{EndsPlant, PlantBy}
 use Rattle.daemon_run.specs.Printed.{counts_saved, ending_so}
-use Rattle.run_examples.proofs.KeptExamples.{all_saved, disk, disk_with, empty, file}
-use Rattle.run_examples.proofs.PromisesExamples.{sink, unused}
+use Rattle.run_examples.proofs.KeptExamples.{all_saved, disk, disk_with, empty, file, unused}
+use Rattle.run_examples.proofs.PromisesExamples.{sink}
 use Rattle.run_examples.proofs.VerdictExamples.{text}
 
 -- so many saves done, failed, wanting memory, and over the limit

@@ -49,21 +49,27 @@ use Rattle.ads_outside.specs.declared.event.Event.TheVariants as event
 use Rattle.ads_outside.specs.declared.moves.Move.{Move}
 use Rattle.ads_outside.specs.declared.put.Put.TheVariants as put
 use Rattle.ads_outside.specs.SinkState.{SinkState}
+use Rattle.ads_outside.specs.Streams.{none_taken}
+use Rattle.ads_outside.specs.WireState.{WireHistory, history_after}
 use Rattle.hex.specs.Hex.{encode_with}
 use Rattle.spec_machine.specs.LogText.{log_text_of}
 use Rattle.spec_machine.specs.Offers.{left_after}
 use Rattle.spec_machine.specs.Peers.{offers_to, peers_after}
 use Rattle.spec_machine.specs.Play.{moves_of_each, turns_of}
 use Rattle.spec_machine.specs.ScriptLine.{ScriptLine, Happens}
+use Rattle.spec_server.specs.Server.{server, server_start}
 use Rattle.spec_store.specs.BodyText.{entry_of, entries_in, entries_of}
 use Rattle.spec_store.specs.Runs.{IsOneOf, standing_after_all}
 use Rattle.spec_store.specs.Slots.{Standing, behind_gate, slot_of, standing_of}
 use Rattle.spec_persistent.specs.Persistent.{body_of}
 use Rattle.type_layout.specs.Forms.{form_of}
 use Rattle.stored_values.specs.StoredBodies.{entries_stored}
+use Rattle.persist_store.specs.Marks.{Mark}
 use Rattle.keep_loop.specs.Bodies.{bodies_at_ticks, bodies_looked_at, bodies_to_end, is_any_over, paced, saves_in}
 use Rattle.keep_loop.specs.KeepingOn.{LooksAt}
+use Rattle.keep_loop.specs.Marking.{HoldsSaves, MarksRun}
 use Rattle.keep_play.specs.KeptDisk.{DiskUse, FileStands, disk_used}
+use Rattle.keep_play.specs.KeptMarks.{AllMarked}
 use Rattle.keep_play.specs.KeptPlay.{AllSaved, PlaysOverStore}
 use Rattle.keep_play.specs.KeptSaves.{bodies_of_play, body_of_world, description_kept, kept_text, saved_line, saves_of_play, saves_over}
 use Rattle.run_tasks.specs.declared.status.Status.TheVariants as status
@@ -156,10 +162,19 @@ file = 1 ∷ behind_gate (record { sequence = 1; body = empty })
 abbrev ask : Keeping
 ask = keeping built_in [] []
 
+-- a wire that was never used, which tells all that it is asked
+abbrev pub unused : WireHistory
+unused = record { log = Some []; streams = Some none_taken; starts = Some []; opened = []; events = 0; ends = 0; stops = 0 }
+
 -- the disk tells its file: it was new, and then it is this one, of which nothing is pending; a stop in between may leave either
+-- a mark of it may be told, at the end of a play without an event
+abbrev mark : Mark
+mark = record { wire = unused; file = Some file }
+
 abbrev pub disk_with : List ℕ → ℕ → DiskUse
 disk_with now faults = disk_used {D = ℕ} (λ (d : ℕ). if d == 0 then Some [] else Some now) (λ (d : ℕ) bytes. bytes ≡ (if d == 0 then [] else now))
-    (λ (d : ℕ). d) (λ (d : ℕ) since bytes. (bytes ≡ []) ⊎ (bytes ≡ now)) (λ (d : ℕ). if d == 0 then 0 else faults) 0 1
+    (λ (d : ℕ). d) (λ (d : ℕ) since bytes. (bytes ≡ []) ⊎ (bytes ≡ now))
+    (λ (d : ℕ) marks. marks ≡ (if d == 0 then [] else mark ∷ [])) (λ (d : ℕ). if d == 0 then 0 else faults) 0 1
 
 abbrev pub disk : DiskUse
 disk = disk_with file 0
@@ -198,6 +213,30 @@ not_saved h = false≢true (not_standing (h.stands [] refl))
     not_standing : FileStands (disk_with [] 0) (standing_after_all None (empty ∷ [])) → false ≡ true
     not_standing f = ap (λ s. sequence_in s == 1) (ap (λ o. standing_of (bytes_in o)) f.told ∙ f.stands)
 
+-- behind the play, that had no tick, one mark is told: at its end, when the file stood for its save
+marked : AllMarked built_in [] [] disk None
+unfolding ams_length_of is_header front_of packet_of behind_frame frames_from frames_of left_behind rest_of has_same_parts has_same_members part_behind
+    type_align greatest_align type_size members_end type_depth greatest_depth found_of byte_at with_byte trees_behind trees_of type_text group_in group_of
+    request_in request_of byte_range bit_range size_range range_in header_of written_bytes reply_in notes_of connection_after_tick connection_after_reload
+    state_after_event state_after_move state_after given_in_turn left_in_turn sum_refusal packed handles_after_all memory_after_puts world_after_tick
+    client_after_tick read_write_group act_of plain_act produce produce_all connection_of put_back grant_in is_released_in place_after handle_in
+    with_released handles_after write_group control_act client_after client_after_reload ended_of watches_after_reload ended_watches name_behind
+    comment_behind entry_of_part numbers_from name_at names_at content_of projection_of acts_of_packets acts_of_move acts_of_log acts_by_others
+    reply_in_forms outcome_in_all response_packet performed grouped frames_of_samples samples_at watches_after_tick reach_of outcomes_of memory_after_acts
+    client_after_acts is_kept memory_after_reload world_after_reload client_reloaded answered_group after_packet after_packets after_piece read_group
+    acts_of decide_request decide digits body_of bodies_at_ticks paced saves_in saves_over left_after offers_to peers_after moves_of_each turns_of slot_of
+    standing_of entry_of entries_in entries_of standing_after_all
+marked = λ marks e. record {
+  more = mark ∷ [];
+  told = ap (λ l. l ++ mark ∷ []) e;
+  are = record {
+    looks = [];
+    each = refl;
+    are = tt;
+    last = record { whole = refl; last = mark; are = refl; wire = refl; holds = λ first told. (file, (refl, refl)) };
+  };
+}
+
 record PlayRows : Type 0 where
   its_text : kept_text built_in [] [] None ≡ text
   ending : kept_ending ask None ≡ record { status = status.Done; text = text }
@@ -213,9 +252,9 @@ record PlayRows : Type 0 where
 
 no_fault_told : PrintsKept ask status.StoreFault (sink []) (sink (codes "ads: store fault\n")) disk None (empty ∷ []) → ⊥
 unfolding is_any_over
-no_fault_told (inl (all, inl (same, put))) = omega (arith, ap number_of same)
-no_fault_told (inl (all, inr (inl (same, put)))) = omega (arith, ap number_of same)
-no_fault_told (inl (all, inr (inr (same, put)))) = omega (arith, ap number_of same)
+no_fault_told (inl (all, (inl (same, put), marks))) = omega (arith, ap number_of same)
+no_fault_told (inl (all, (inr (inl (same, put)), marks))) = omega (arith, ap number_of same)
+no_fault_told (inl (all, (inr (inr (same, put)), marks))) = omega (arith, ap number_of same)
 no_fault_told (inr (inl (over, printed))) = false≢true over
 no_fault_told (inr (inr (inl (rose, printed)))) = omega (arith, rose)
 no_fault_told (inr (inr (inr (same, put)))) = omega (arith, ap number_of same)
@@ -236,12 +275,12 @@ play_rows = record {
   its_text = refl;
   ending = refl;
   its_saves = refl;
-  printed = inl (all_saved, inl (refl, refl));
+  printed = inl (all_saved, (inl (refl, refl), marked));
   ends = record {
     standing = None;
     stood = λ old e. ap (λ o. standing_of (bytes_in o)) e;
     left = λ old e bytes l. left bytes l;
-    ends = inl (all_saved, inl (refl, refl));
+    ends = inl (all_saved, (inl (refl, refl), marked));
   };
   by_the_verdict = inl (inr (record {
     made = ask;
@@ -250,9 +289,62 @@ play_rows = record {
       standing = None;
       stood = λ old e. ap (λ o. standing_of (bytes_in o)) e;
       left = λ old e bytes l. left bytes l;
-      ends = inl (all_saved, inl (refl, refl));
+      ends = inl (all_saved, (inl (refl, refl), marked));
     };
   }));
   failed = inr (inr (inl (lit≤ tt, inl (refl, refl))));
   no_fault = no_fault_told;
 }
+
+-- A run of one tick: a mark behind its turn, when the save was done, and one at the end, when nothing had to be saved.
+abbrev ticked : WireHistory
+ticked = history_after unused (tick 1 ∷ [])
+
+abbrev mark_behind : WireHistory → Mark
+mark_behind wire = record { wire = wire; file = Some file }
+
+marks : MarksRun true 1 body_of_world server (server_start built_in []) (HoldsSaves (Some []) None) unused ticked
+    (mark_behind ticked ∷ mark_behind ticked ∷ [])
+unfolding ams_length_of is_header front_of packet_of behind_frame frames_from frames_of left_behind rest_of has_same_parts has_same_members part_behind
+    type_align greatest_align type_size members_end type_depth greatest_depth found_of byte_at with_byte trees_behind trees_of type_text group_in group_of
+    request_in request_of byte_range bit_range size_range range_in header_of written_bytes reply_in notes_of connection_after_tick connection_after_reload
+    state_after_event state_after_move state_after given_in_turn left_in_turn sum_refusal packed handles_after_all memory_after_puts world_after_tick
+    client_after_tick read_write_group act_of plain_act produce produce_all connection_of put_back grant_in is_released_in place_after handle_in
+    with_released handles_after write_group control_act client_after client_after_reload ended_of watches_after_reload ended_watches name_behind
+    comment_behind entry_of_part numbers_from name_at names_at content_of projection_of acts_of_packets acts_of_move acts_of_log acts_by_others
+    reply_in_forms outcome_in_all response_packet performed grouped frames_of_samples samples_at watches_after_tick reach_of outcomes_of memory_after_acts
+    client_after_acts is_kept memory_after_reload world_after_reload client_reloaded answered_group after_packet after_packets after_piece read_group
+    acts_of decide_request decide digits body_of bodies_at_ticks paced saves_in history_after slot_of standing_of entry_of entries_in entries_of
+    standing_after_all
+marks = record {
+  moves = tick 1 ∷ [];
+  later = [];
+  few = lit≤ tt;
+  ended = refl;
+  looks = mark_behind ticked ∷ [];
+  each = refl;
+  are = (
+    record {
+      before = [];
+      turn = tick 1 ∷ [];
+      later = [];
+      are = refl;
+      one = refl;
+      so_far = refl;
+      due = refl;
+      wire = refl;
+      holds = λ first told. (file, (refl, refl));
+    },
+    tt,
+  );
+  all = record { whole = refl; last = mark_behind ticked; are = refl; wire = refl; holds = λ first told. (file, (refl, refl)) };
+}
+
+-- what stands for another body holds no save
+holds_no_save : HoldsSaves (Some []) None (empty ∷ []) (Some []) → ⊥
+unfolding saves_in slot_of standing_of entry_of entries_in entries_of standing_after_all
+holds_no_save h = no_sequence (h [] refl)
+  where
+    no_sequence : (now : List ℕ) × (Some [] ≡ Some now)
+        × (standing_of now ≡ standing_after_all None (saves_in None (empty ∷ []))) → ⊥
+    no_sequence (now, (same, stands)) = false≢true (ap (λ o. sequence_in (standing_of (bytes_in o)) == 1) same ∙ ap (λ s. sequence_in s == 1) stands)

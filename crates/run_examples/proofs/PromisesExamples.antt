@@ -55,11 +55,13 @@ use Rattle.ads_outside.specs.Streams.{Streams, none_taken}
 use Rattle.ads_outside.specs.WireState.{WireHistory, end_answered, history_after, listened}
 use Rattle.spec_plant.specs.World.{Block, ByteName, SymbolPart}
 use Rattle.spec_machine.specs.Delivery.{is_cut_off, is_short_from}
-use Rattle.spec_machine.specs.Offers.{blocked_after, left_after, taken_of}
+use Rattle.spec_machine.specs.Offers.{taken_of}
+use Rattle.spec_machine.specs.Play.{turns_of}
 use Rattle.spec_machine.specs.Profile.{strict}
-use Rattle.spec_machine.specs.Turns.{AreTurns, Serves, ServesEach}
-use Rattle.spec_laws.specs.Isolation.{IsAmong}
-use Rattle.spec_server.specs.Server.{server_after_in, server_output_in}
+use Rattle.spec_machine.specs.Turns.{AreTurns}
+use Rattle.spec_laws.specs.Isolation.{IsAmong, IsUntouchedIn}
+use Rattle.spec_server.specs.Server.{read_description, server_after_in, server_output_in}
+use Rattle.spec_promises.specs.Written.{HoldsWritesIn}
 use Rattle.spec_relay.specs.Passages.{passages_of}
 use Rattle.spec_relay.specs.RelayLaws.{AreMarked}
 use Rattle.spec_relay.specs.RelayPromises.{RelayKeepsPromisesAt}
@@ -71,11 +73,12 @@ use Rattle.run_tasks.specs.BuiltIn.{built_in}
 use Rattle.run_tasks.specs.Service.{OfRelay, OfServer, Service, counts_after, ending_after}
 use Rattle.run_tasks.specs.StatusTable.{number_of}
 use Rattle.run_tasks.specs.Verdict.{Serves as IsServed}
-use Rattle.file_run.specs.Promises.{BeginsAsAloneIn, ChangesByWritesIn, GivesFramesInOrderIn, HoldsThroughoutIn, IsServedAsAloneIn, IsUntouchedHereIn}
-use Rattle.file_run.specs.Promises.{KeepsPromises, KeepsPromisesAtIn, KeepsPromisesIn, KeepsPromisesSoFarIn, PlayKeepsPromises}
+use Rattle.file_run.specs.Promises.{ChangesByWritesIn, HoldsAcceptedIn, HoldsThroughoutIn, KeepsPromises, KeepsPromisesAtIn, KeepsPromisesIn}
+use Rattle.file_run.specs.Promises.{KeepsPromisesSoFarIn, PlayKeepsPromises}
 use Rattle.file_run.specs.ServiceEnds.{ServesBy}
 use Rattle.file_run.specs.Serving.{AddsToLog, AddsToStreams, CannotRun, CannotStart, CannotTell, EndsBehind, EndsService, MakesMoves, MovesKeepPromises}
 use Rattle.file_run.specs.Serving.{PrintsAt, RunsService, StopsBehind}
+use Rattle.run_examples.proofs.KeptExamples.{unused}
 use Rattle.spec_machine.proofs.Plant.{a, opened, piece, plant, q, step, start, tick, waves}
 
 -- connection 1 asks the state, and the response of 46 bytes is taken whole
@@ -118,12 +121,23 @@ abbrev head_of : List ℕ → ℕ
 head_of [] = 1
 head_of (x ∷ xs) = x
 
--- what is asked of the promises, where they stand
+-- a client whose bytes another writes is not given what it would be given alone
+touched : IsUntouchedIn read_description strict plant waves 1 across → ⊥
+unfolding ams_length_of is_header front_of packet_of behind_frame frames_from frames_of left_behind rest_of has_same_parts has_same_members part_behind
+    type_align greatest_align type_size members_end type_depth greatest_depth found_of byte_at with_byte trees_behind trees_of type_text group_in group_of
+    request_in request_of byte_range bit_range size_range range_in header_of written_bytes reply_in notes_of connection_after_tick connection_after_reload
+    state_after_event state_after_move state_after given_in_turn left_in_turn sum_refusal packed handles_after_all memory_after_puts world_after_tick
+    client_after_tick read_write_group act_of plain_act produce produce_all connection_of put_back grant_in is_released_in place_after handle_in
+    with_released handles_after write_group control_act client_after client_after_reload ended_of watches_after_reload ended_watches name_behind
+    comment_behind entry_of_part numbers_from name_at names_at content_of projection_of acts_of_packets acts_of_move acts_of_log acts_by_others
+    reply_in_forms outcome_in_all response_packet performed grouped frames_of_samples samples_at watches_after_tick reach_of outcomes_of memory_after_acts
+    client_after_acts is_kept memory_after_reload world_after_reload client_reloaded answered_group after_packet after_packets after_piece read_group
+    acts_of decide_request decide digits
+touched u = u (byte_named (codes "main.count") 3) (inr (inr (inr (inl refl)))) (inl refl)
+
+-- what the promises come to, and where they are broken
 record PromiseRows : Type 0 where
-  -- nothing happened
-  no_move : GivesFramesInOrderIn strict plant waves []
-  alone_without_a_move : IsServedAsAloneIn strict plant waves 1 []
-  -- the frames of a log in which the response was taken whole
+  -- the frames of a log in which the response was taken whole: what was taken is what was given
   given : KeepsPromises plant waves (opened 1 ∷ asks ∷ took reply ∷ []) → reply ++ [] ≡ server_output_in strict plant waves 1 (opened 1 ∷ asks ∷ [])
   -- they are broken where other bytes were taken, and where nothing was that waits
   other_bytes : KeepsPromisesSoFarIn strict plant waves (opened 1 ∷ asks ∷ took (7 ∷ []) ∷ []) → ⊥
@@ -131,17 +145,17 @@ record PromiseRows : Type 0 where
   at_its_end : KeepsPromisesAtIn end.Budget strict plant waves (opened 1 ∷ asks ∷ []) → ⊥
   served_end : MovesKeepPromises end.Done (OfServer strict plant waves) (opened 1 ∷ asks ∷ []) → ⊥
   memory_end : MovesKeepPromises end.Memory (OfServer strict plant waves) (opened 1 ∷ asks ∷ took (7 ∷ []) ∷ []) → ⊥
-  -- a client whose bytes another writes is not given what it would be given alone; one beside whom another writes is
-  touched : IsUntouchedHereIn strict plant waves 1 across → ⊥
-  not_alone : IsServedAsAloneIn strict plant waves 1 across → ⊥
-  not_alone_so_far : BeginsAsAloneIn strict plant waves 1 across → ⊥
-  alone : KeepsPromisesIn strict plant waves beside
+  -- a client beside whom another writes is given what it would be given alone
+  alone : KeepsPromisesSoFarIn strict plant waves beside
       → server_output_in strict plant waves 2 beside ≡ server_output_in strict plant waves 2 (opened 2 ∷ writes_flags ∷ [])
   -- a byte that no request names stays
   stays : ChangesByWritesIn strict plant waves (opened 2 ∷ []) writes_count
       → byte_of (opened 2 ∷ writes_count ∷ []) (byte_named (codes "main.count") 2) ≡ byte_of (opened 2 ∷ []) (byte_named (codes "main.count") 2)
   throughout : HoldsThroughoutIn strict plant waves (opened 2 ∷ writes_count ∷ [])
       → byte_of (opened 2 ∷ writes_count ∷ []) (byte_named (codes "main.count") 2) ≡ byte_of (opened 2 ∷ []) (byte_named (codes "main.count") 2)
+  -- a write in it holds what is promised of it, at its place in the log
+  held : HoldsAcceptedIn strict plant waves beside → HoldsWritesIn strict plant waves (opened 1 ∷ opened 2 ∷ []) writes_flags
+  of_a_play : PlayKeepsPromises plant waves [] → KeepsPromises plant waves []
 
 promise_rows : PromiseRows
 unfolding ams_length_of is_header front_of packet_of behind_frame frames_from frames_of left_behind rest_of has_same_parts has_same_members part_behind
@@ -153,22 +167,19 @@ unfolding ams_length_of is_header front_of packet_of behind_frame frames_from fr
     comment_behind entry_of_part numbers_from name_at names_at content_of projection_of acts_of_packets acts_of_move acts_of_log acts_by_others
     reply_in_forms outcome_in_all response_packet performed grouped frames_of_samples samples_at watches_after_tick reach_of outcomes_of memory_after_acts
     client_after_acts is_kept memory_after_reload world_after_reload client_reloaded answered_group after_packet after_packets after_piece read_group
-    acts_of decide_request decide digits blocked_after left_after Serves ServesEach AreTurns taken_of is_cut_off is_short_from
+    acts_of decide_request decide digits taken_of is_cut_off is_short_from turns_of
 promise_rows = record {
-  no_move = record { turns = record { turns = []; whole = refl; served = tt }; begins = λ c. ([], refl); all = λ c short cut. refl };
-  alone_without_a_move = record { given = refl; begins = ([], refl); all = λ short cut. refl };
-  given = λ k. k.frames.all 1 refl refl;
+  given = λ k. k.all 1 refl refl;
   other_bytes = λ k. false≢true (ap (λ l. head_of l == 7) ((k.begins 1).1));
-  nothing_taken = λ k. false≢true (sym (ap (λ l. head_of l == 1) (k.frames.all 1 refl refl)));
-  at_its_end = λ k. false≢true (sym (ap (λ l. head_of l == 1) (k.frames.all 1 refl refl)));
-  served_end = λ k. false≢true (sym (ap (λ l. head_of l == 1) (k.frames.all 1 refl refl)));
+  nothing_taken = λ k. false≢true (sym (ap (λ l. head_of l == 1) (k.all 1 refl refl)));
+  at_its_end = λ k. false≢true (sym (ap (λ l. head_of l == 1) (k.all 1 refl refl)));
+  served_end = λ k. false≢true (sym (ap (λ l. head_of l == 1) (k.all 1 refl refl)));
   memory_end = λ k. false≢true (ap (λ l. head_of l == 7) ((k.begins 1).1));
-  touched = λ u. u (byte_named (codes "main.count") 3) (inr (inr (inr (inl refl)))) (inl refl);
-  not_alone = λ s. false≢true (ap (λ l. bytes_eq l (server_output_in strict plant waves 1 (opened 1 ∷ reads_count ∷ []))) s.given);
-  not_alone_so_far = λ s. false≢true (ap (λ l. bytes_eq l (server_output_in strict plant waves 1 (opened 1 ∷ reads_count ∷ []))) s.given);
-  alone = λ k. (k.isolated 2 (λ n r w. r)).given;
+  alone = λ k. k.isolated 2 (λ n r w. r);
   stays = λ h. h (byte_named (codes "main.count") 2) refl third_is_written;
   throughout = λ h. h.writes (opened 2 ∷ []) [] writes_count refl (byte_named (codes "main.count") 2) refl third_is_written;
+  held = λ h. h.held (opened 1 ∷ opened 2 ∷ []) (reads_count ∷ []) writes_flags refl;
+  of_a_play = λ p. p.kept;
 }
 
 counted : events_in (opened 1 ∷ took reply ∷ tick 5 ∷ move.Lost 1 ∷ move.Shut 2 ∷ []) ≡ 2
@@ -194,10 +205,7 @@ one_too_few e = omega (arith, e)
 all_and_ended : IsCountOf end.LinkFault 7 7 → ⊥
 all_and_ended e = omega (arith, e)
 
--- a wire that was never used, which tells all that it is asked; what it is started with; and the relay of the built-in description on it
-abbrev pub unused : WireHistory
-unused = record { log = Some []; streams = Some none_taken; starts = Some []; opened = []; events = 0; ends = 0; stops = 0 }
-
+-- what a wire that was never used is started with, and the relay of the built-in description on it
 abbrev starts_with : Listening
 starts_with = record { listen = codes "127.0.0.1:48898"; name = codes "p"; first = [] }
 

@@ -8,7 +8,7 @@ use Rattle.spec_plant.specs.Trees.{trees_behind, trees_of}
 use Rattle.spec_plant.specs.Sizes.{type_align, greatest_align, type_size, members_end, type_depth, greatest_depth}
 use Rattle.spec_plant.specs.Spelling.{type_text}
 use Rattle.spec_rules.specs.Tables.{route_in, member_in, value_in, structure_in, enumeration_in, type_in, symbol_in, port_in, document_in}
-use Rattle.spec_rules.specs.Shapes.{shape_of_text}
+use Rattle.spec_plant.specs.Shapes.{shape_of_text}
 use Rattle.spec_rules.specs.Described.{types_behind}
 use Rattle.spec_rules.specs.RouteRules.{wrong_schema, wrong_net, wrong_rights}
 use Rattle.spec_rules.specs.TypeRules.{wrong_type_name, wrong_part}

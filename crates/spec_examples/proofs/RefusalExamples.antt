@@ -67,7 +67,7 @@ use Rattle.spec_machine.specs.Writes.{Asker}
 use Rattle.spec_laws.specs.Refusals.{IsRefused, IsTurnedAway, LeavesAll, RefusedReloadCounts, RefusesAnyForm, ResultChangesNothing}
 use Rattle.spec_laws.specs.Refusals.{TurnedAwayChangesNothing, dead_code, result_told}
 use Rattle.spec_laws.specs.Soundness.{ReadsAccepted}
-use Rattle.spec_server.specs.Server.{read_description, server, server_after_in, server_output_in, server_start_in}
+use Rattle.spec_server.specs.Server.{read_description, server, server_after_in, server_output_in}
 use Rattle.spec_server.specs.ServerLaws.{ReadsDescriptions, ServerLeavesAllAtRefusals, ServerRefuses, ServerRefusesDeadHandles}
 use Rattle.spec_machine.proofs.Plant.{ENGINEER, VIEWER, answer_to, named, opened, packet_from, piece, plant, q, reading, reload, start, step, waves}
 use Rattle.spec_frames.proofs.Hex.{hex}
