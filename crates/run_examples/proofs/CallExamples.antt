@@ -37,8 +37,8 @@ use Rattle.client_loop.specs.Due.{AtPrint, AtSend, Anywhere, call_steps_last, ca
 use Rattle.client_loop.specs.LinkAfter.{history_left, history_over}
 use Rattle.client_loop.specs.Said.{SendsSome}
 use Rattle.call_run.specs.CallUses.{LinkUse, link_used, used}
-use Rattle.call_run.specs.Calling.{EndsCall, PrintsAnswer, status_of_call, status_of_loop}
-use Rattle.run_tasks.specs.declared.status.Status.{Status}
+use Rattle.call_run.specs.Calling.{EndsCall, status_of_call, status_of_loop}
+use Rattle.ads_run.specs.Causes.{IsEndOfCall}
 use Rattle.run_tasks.specs.declared.status.Status.TheVariants as status
 use Rattle.run_tasks.specs.StatusTable.{number_of}
 
@@ -46,13 +46,13 @@ use Rattle.run_tasks.specs.StatusTable.{number_of}
 abbrev here : List ℕ
 here = codes "localhost:48898"
 
-abbrev asks : Calling
+abbrev pub asks : Calling
 asks = calling me peer State here
 
 abbrev state_reply : List ℕ
 state_reply = reply 4 1 (codes "00000000 0500 0000")
 
-abbrev answers : List LinkAnswer
+abbrev pub answers : List LinkAnswer
 answers = Quiet 5 ∷ Bytes state_reply 7 ∷ []
 
 abbrev text : List ℕ
@@ -72,10 +72,10 @@ state_of history faults = record { history = history; faults = faults }
 abbrev sink : List ℕ → ℕ → SinkState
 sink held faults = record { held = Some held; faults = faults; wants = 0 }
 
-abbrev new_link : LinkState
+abbrev pub new_link : LinkState
 new_link = state_of (history_over 5 answers) 0
 
-abbrev the_link : LinkUse ℕ
+abbrev pub the_link : LinkUse ℕ
 the_link = used (Tells []) (Tells moves) (state_of not_connected 0) new_link
 
 -- a link that is its own state tells what its state was and is
@@ -150,7 +150,7 @@ abbrev is_going_on : Option LoopEnd → Bool
 is_going_on None = true
 is_going_on (Some ended) = false
 
-record CallRows : Type 0 where
+pub record CallRows : Type 0 where
   -- the steps behind the last answer, and the text before them
   first_step : call_steps_last me peer State 5 [] ≡ Send (request 4 1 []) ∷ []
   last_step : call_steps_last me peer State 5 answers ≡ Print text ∷ []
@@ -161,7 +161,7 @@ record CallRows : Type 0 where
   not_awaited : AreAwaited (conversation_begun me peer State 5) (Bytes state_reply 6 ∷ Quiet 7 ∷ []) → ⊥
   -- it talked, its text was put, and it is told
   talks : Talks asks (Some (CallEnded Done)) (Tells []) (Tells moves) new_link (sink [] 0) (sink text 0)
-  ends : EndsCall asks status.Done (sink [] 0) (sink text 0) the_link
+  pub ends : EndsCall asks status.Done (sink [] 0) (sink text 0) the_link
   -- the link was not connected: nothing was put, and the address is noted
   refused : AfterCall (Ok end.LinkFault) asks (Tells []) (Tells (link.Refused here ∷ [])) (state_of not_connected 0) (state_of not_connected 1)
       (sink [] 0) (sink [] 0)
@@ -176,7 +176,7 @@ record CallRows : Type 0 where
   receive_failed : Talks asks None (Tells []) (Tells (link.Connected here 5 ∷ link.Sent (request 4 1 []) ∷ link.Came (came.Quiet 5) ∷ []))
       (state_of (history_left None (history_over 5 (Quiet 5 ∷ []))) 1) (sink [] 0) (sink [] 0)
 
-call_rows : CallRows
+pub call_rows : CallRows
 unfolding digits ams_length_of is_header front_of packet_of behind_frame frames_from frames_of left_behind rest_of text_in header_of notification_of
     reply_in reply_of free_id least_id without_first issued_by client_after_issue client_after_tick says_something packet_hearing packets_hearing
     next_hearing after_reply after_answer after_sample after_end after_heard begun runner_after_hearing given turn_within all_given turns_within
@@ -241,3 +241,11 @@ call_rows = record {
     told = λ o log e. ap (λ l. l ++ link.Connected here 5 ∷ link.Sent (request 4 1 []) ∷ link.Came (came.Quiet 5) ∷ []) e;
   };
 }
+
+-- the status is that of the call over the link's answers
+pub ended_so : IsEndOfCall asks status.Done new_link
+unfolding digits ams_length_of is_header front_of packet_of behind_frame frames_from frames_of left_behind rest_of text_in header_of notification_of
+    reply_in reply_of free_id least_id without_first issued_by client_after_issue client_after_tick says_something packet_hearing packets_hearing
+    next_hearing after_reply after_answer after_sample after_end after_heard begun runner_after_hearing given turn_within all_given turns_within
+    conversation_after_turns conversation_going_on conversation_after conversation_after_all log_behind log_up_to sent_last steps_last text_up_to
+ended_so = record { moment = 5; answers = answers; history = refl; ended = CallEnded Done; end_is = refl; status = refl }

@@ -3,3 +3,11 @@ mod TaskExamples
 mod ReadingExamples
 mod VerdictExamples
 mod MigrationExamples
+mod KeepExamples
+mod KeptExamples
+mod PromisesExamples
+mod CallExamples
+mod RecordExamples
+mod LocalExamples
+mod DaemonExamples
+mod CauseExamples

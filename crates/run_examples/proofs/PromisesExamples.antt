@@ -209,7 +209,7 @@ all_and_ended e = omega (arith, e)
 abbrev starts_with : Listening
 starts_with = record { listen = codes "127.0.0.1:48898"; name = codes "p"; first = [] }
 
-abbrev service : Service
+abbrev pub service : Service
 service = record { start = starts_with; machine = OfRelay built_in; limit = 3 }
 
 abbrev started : WireHistory
