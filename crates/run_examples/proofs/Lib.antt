@@ -11,3 +11,5 @@ mod RecordExamples
 mod LocalExamples
 mod DaemonExamples
 mod CauseExamples
+mod PortExamples
+mod StoreExamples

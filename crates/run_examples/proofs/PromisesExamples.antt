@@ -64,7 +64,7 @@ use Rattle.spec_server.specs.Server.{read_description, server_after_in, server_o
 use Rattle.spec_promises.specs.Written.{HoldsWritesIn}
 use Rattle.spec_relay.specs.Passages.{passages_of}
 use Rattle.spec_relay.specs.RelayLaws.{AreMarked}
-use Rattle.spec_relay.specs.RelayPromises.{RelayKeepsPromisesAt}
+use Rattle.spec_relay.specs.RelayPromises.{RelayKeepsPromises, RelayKeepsPromisesAt, RelayPlayKeepsPromises}
 use Rattle.serve_loop.specs.Leads.{events_in}
 use Rattle.serve_loop.specs.ToldStreams.{grown_by}
 use Rattle.serve_loop.specs.TurnTaken.{IsCountOf, raised_by}
@@ -241,6 +241,20 @@ no_passage = record {
   begins = λ c. ([], refl);
   all = λ c short cut. refl;
 }
+
+-- what is promised of a relay's play is promised of its log
+of_a_relay_play : RelayPlayKeepsPromises built_in [] → RelayKeepsPromises built_in []
+unfolding ams_length_of is_header front_of packet_of behind_frame frames_from frames_of left_behind rest_of has_same_parts has_same_members part_behind
+    type_align greatest_align type_size members_end type_depth greatest_depth found_of byte_at with_byte trees_behind trees_of type_text group_in group_of
+    request_in request_of byte_range bit_range size_range range_in header_of written_bytes reply_in notes_of connection_after_tick connection_after_reload
+    state_after_event state_after_move state_after given_in_turn left_in_turn sum_refusal packed handles_after_all memory_after_puts world_after_tick
+    client_after_tick read_write_group act_of plain_act produce produce_all connection_of put_back grant_in is_released_in place_after handle_in
+    with_released handles_after write_group control_act client_after client_after_reload ended_of watches_after_reload ended_watches name_behind
+    comment_behind entry_of_part numbers_from name_at names_at content_of projection_of acts_of_packets acts_of_move acts_of_log acts_by_others
+    reply_in_forms outcome_in_all response_packet performed grouped frames_of_samples samples_at watches_after_tick reach_of outcomes_of memory_after_acts
+    client_after_acts is_kept memory_after_reload world_after_reload client_reloaded answered_group after_packet after_packets after_piece read_group
+    acts_of decide_request decide digits turns_of
+of_a_relay_play p = p
 
 -- no event came, and then End: the counts are printed behind `listening`
 runs : RunsService service status.Done told (sink (codes "listening\n" ++ counts) 0) started (end_answered started)
