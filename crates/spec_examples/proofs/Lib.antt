@@ -3,3 +3,5 @@ mod TurnExamples
 mod RelayExamples
 mod DiskExamples
 mod LinkLogExamples
+mod PromiseExamples
+mod RefusalExamples

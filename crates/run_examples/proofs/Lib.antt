@@ -1,0 +1,15 @@
+mod StatusExamples
+mod TaskExamples
+mod ReadingExamples
+mod VerdictExamples
+mod MigrationExamples
+mod KeepExamples
+mod KeptExamples
+mod PromisesExamples
+mod CallExamples
+mod RecordExamples
+mod LocalExamples
+mod DaemonExamples
+mod CauseExamples
+mod PortExamples
+mod StoreExamples
