@@ -30,3 +30,4 @@ pub mod ActPuts
 pub mod TakeLemmas
 pub mod NumberTests
 pub mod NoteParts
+pub mod PlainLemmas
