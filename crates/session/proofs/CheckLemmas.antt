@@ -48,7 +48,7 @@ not-some None = refl
 not-some (Some x) = refl
 
 -- the rights of a NetId are those that the server gives
-given-are : (w : World) (net : List ℕ) (admitted : Admitted) → HasAddress w net admitted → (n : List ℕ)
+pub given-are : (w : World) (net : List ℕ) (admitted : Admitted) → HasAddress w net admitted → (n : List ℕ)
     → given_rights admitted.others n admitted.routes ≡ given_rights w.profile.others n w.plant.routes
 given-are w net admitted h n =
     ap (λ o. given_rights o n admitted.routes) h.others_are ∙ ap (λ (o : Option plant.Rights). option_or o w.profile.others) (h.routes_are n)

@@ -17,3 +17,4 @@ pub mod Runs
 pub mod Reloading
 pub mod NotesEnded
 pub mod Answered
+pub mod Plain

@@ -16,6 +16,7 @@ mod notes_ended;
 mod notes_group;
 mod notes_groups;
 mod notes_head;
+mod plain;
 mod reading;
 mod refusing;
 mod reloaded;
@@ -33,6 +34,7 @@ mod tick_bytes;
 mod tick_checks;
 mod told;
 mod watching;
+mod whole;
 mod writing;
 
 pub use notes::{FrameList, NoteFrame};

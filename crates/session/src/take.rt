@@ -16,6 +16,7 @@ use crate::asker::Asker;
 use crate::checks::examined;
 use crate::examined::Examined;
 use crate::framing::framed;
+use crate::plain::{PlainPacket, plain_in};
 use crate::refusing::refusal_of;
 use crate::room::{HEADERS, put_room};
 use crate::{Session, Taken, Told};
@@ -30,6 +31,7 @@ use type_layout::Rights;
 
 impl Session {
     ghost use Rattle.session.specs.Answered.{AnswersAsked};
+    ghost use Rattle.session.specs.Plain.{IsPlain};
     ghost use Rattle.session.specs.Runs.{IsFrom};
     ghost use Rattle.session.specs.Served.{IsServed, KeepDescriptions};
     ghost use Rattle.session.specs.StandsFor.{StandsFor};
@@ -69,6 +71,67 @@ impl Session {
 
     /// The same, but the frame of the answer is appended to bytes, which stay as they are where no answer is.
     pub fn take_onto(
+        &mut self,
+        alloc: Global,
+        ports: &mut Ports,
+        admission: &Admission,
+        net: NetId,
+        ams: &[u8],
+        out: &mut Octets,
+    ) -> Result<Told, NoMemory>
+        requires packet { IsAmsPacket ams.now }
+        requires served { IsServed ports.old self.old }
+        ensures takes { IfOk result (λ told. (w : World) (c : Client) → HoldsPorts w ports.old → StandsFor w.plant c self.old
+            → HasAddress w net.bytes admission.now
+            → Takes (outcome_of_packet w c ams.now) (taken_of told (drop (length out.old) out.new)) ports.new self.new) }
+        ensures appends { IfOk result (λ told. AppendsAnswer told out.old out.new) }
+        ensures fits { IfOk result (λ told. FitsFrame (taken_of told (drop (length out.old) out.new))) }
+        ensures no_memory { OnErr result (out.new ≡ out.old) }
+        ensures stream { self.new.stream ≡ self.old.stream }
+        ensures keeps { KeepDescriptions ports.old ports.new }
+    {
+        match plain_in(ams, admission, net) {
+            Some(packet) => self.take_plain(alloc, ports, admission, net, ams, packet, out),
+            None => self.take_other(alloc, ports, admission, net, ams, out),
+        }
+    }
+
+    // The same for a plain packet.
+    #[inline(always)]
+    fn take_plain(
+        &mut self,
+        alloc: Global,
+        ports: &mut Ports,
+        admission: &Admission,
+        net: NetId,
+        ams: &[u8],
+        packet: PlainPacket,
+        out: &mut Octets,
+    ) -> Result<Told, NoMemory>
+        requires packet { IsAmsPacket ams.now }
+        requires served { IsServed ports.old self.old }
+        requires plain { IsPlain ams.now net.bytes admission.now packet }
+        ensures takes { IfOk result (λ told. (w : World) (c : Client) → HoldsPorts w ports.old → StandsFor w.plant c self.old
+            → HasAddress w net.bytes admission.now
+            → Takes (outcome_of_packet w c ams.now) (taken_of told (drop (length out.old) out.new)) ports.new self.new) }
+        ensures appends { IfOk result (λ told. AppendsAnswer told out.old out.new) }
+        ensures fits { IfOk result (λ told. FitsFrame (taken_of told (drop (length out.old) out.new))) }
+        ensures no_memory { OnErr result (out.new ≡ out.old) }
+        ensures stream { self.new.stream ≡ self.old.stream }
+        ensures keeps { KeepDescriptions ports.old ports.new }
+    {
+        match ports.find_mut(packet.h.target.port) {
+            Some(port) => match self.answer_plain(alloc, port, packet, ams, out) {
+                Ok(()) => Ok(Told::Answer),
+                Err(no_memory) => Err(no_memory),
+            },
+            None => self.take_other(alloc, ports, admission, net, ams, out),
+        }
+    }
+
+    // The same for a packet of any kind, check after check.
+    #[inline(never)]
+    fn take_other(
         &mut self,
         alloc: Global,
         ports: &mut Ports,

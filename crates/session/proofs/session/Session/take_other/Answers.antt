@@ -4,7 +4,7 @@ use Rattle.ams_header.specs.Header.{ams_header_of}
 use Rattle.session.specs.Takes.{HasAddress}
 use Rattle.session.proofs.PortsKept.{keep-same}
 use Rattle.session.proofs.TakeLemmas.{takes-silent, takes-close, takes-error, takes-refused, if-asked}
-use Rattle.session.proofs.session.Session.take_onto.Goals as goal
+use Rattle.session.proofs.session.Session.take_other.Goals as goal
 
 pub returns-in_err-error_frame-in-Error-clause-keeps : goal.returns-in_err-error_frame-in-Error-clause-keeps
 returns-in_err-error_frame-in-Error-clause-keeps c = keep-same _

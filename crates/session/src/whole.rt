@@ -1,0 +1,190 @@
+//! Plain packets are answered, each by a frame that is written whole.
+
+ghost use Rattle.std.specs.Prelude.{◌≡◌, ◌≤◌, ◌+◌, ◌++◌, length, Some, OnOk, OnErr};
+ghost use Rattle.std.specs.Int.{w16, w32, to_le_bytes};
+ghost use Rattle.spec_formats.specs.Header.{AmsHeader, header_of, payload_of};
+ghost use Rattle.ams_header.specs.Header.{ams_header_of};
+ghost use Rattle.port_device.specs.Endings.{KeepsDescription};
+ghost use Rattle.session.specs.Answered.{AppendsFrame};
+ghost use Rattle.session.specs.Asking.{Asking};
+ghost use Rattle.session.specs.Asks.{SomeAsks};
+ghost use Rattle.session.specs.Plain.{headers_room, plain_len, plain_meant, read_meant, write_meant};
+ghost use Rattle.type_layout.specs.Descriptions.{rights_of};
+
+use crate::asker::Asker;
+use crate::framing::framed_for;
+use crate::plain::{Plain, PlainPacket, payload_in};
+use crate::replies::{FRONT, number_in, read_filled};
+use crate::requests::{ReadRequest, WriteRequest};
+use crate::room::put_front;
+use crate::{Session, writing};
+use ads_base::{NoMemory, Octets, get32};
+use ams_header::header_in;
+use port_device::Port;
+use std::alloc::Global;
+use type_layout::Rights;
+
+impl Session {
+    ghost use Rattle.session.specs.Runs.{AsksSession, IsFrom};
+    ghost use Rattle.session.specs.Plain.{RunsWhole};
+
+    /// Answers a plain packet at its port: appends the frame of the answer.
+    /// Beckhoff Information System, "ADS Commands".
+    #[inline(always)]
+    pub(crate) fn answer_plain(
+        &mut self,
+        alloc: Global,
+        port: &mut Port,
+        packet: PlainPacket,
+        ams: &[u8],
+        out: &mut Octets,
+    ) -> Result<(), NoMemory>
+        requires some { SomeAsks port.old self.old.handles }
+        requires number { packet.h.target.port ≡ port.old.number }
+        requires header { header_of ams.now ≡ Some (ams_header_of packet.h) }
+        requires long { 32 + plain_len packet.kind ≤ length ams.now }
+        ensures whole { OnOk result ((a : Asking) → AsksSession a port.old self.old → IsFrom a packet.h.source packet.rights
+            → RunsWhole a (ams_header_of packet.h) (plain_meant packet.kind (payload_of ams.now)) out.old out.new port.new self.new) }
+        ensures appends { OnOk result (AppendsFrame out.old out.new) }
+        ensures no_memory { OnErr result (out.new ≡ out.old) }
+        ensures keeps { KeepsDescription port.old port.new }
+        ensures stream { self.new.stream ≡ self.old.stream }
+    {
+        match packet.kind {
+            Plain::Read => self.read_whole(alloc, port, ams, out),
+            Plain::Write => self.write_whole(alloc, port, packet.rights, ams, out),
+            Plain::State => self.state_whole(alloc, port, ams, out),
+        }
+    }
+
+    // Each of them is apart, so that what one needs is at hand.
+    #[inline(never)]
+    fn read_whole(
+        &self,
+        alloc: Global,
+        port: &Port,
+        ams: &[u8],
+        out: &mut Octets,
+    ) -> Result<(), NoMemory>
+        requires some { SomeAsks port.now self.now.handles }
+        requires long { 44 ≤ length ams.now }
+        requires number { (h : AmsHeader) → header_of ams.now ≡ Some h → h.target.port ≡ port.now.number }
+        ensures whole { OnOk result ((a : Asking) (h : AmsHeader) → header_of ams.now ≡ Some h → AsksSession a port.now self.now
+            → RunsWhole a h (plain_meant Plain.Read (payload_of ams.now)) out.old out.new port.now self.now) }
+        ensures appends { OnOk result (AppendsFrame out.old out.new) }
+        ensures no_memory { OnErr result (out.new ≡ out.old) }
+    {
+        let ams_port = header_in(ams).target.port;
+        let asked = read_in(payload_in(ams));
+        let start = out.len();
+        put_front(alloc, out)?;
+        let front = out.len() - FRONT;
+        match read_filled(alloc, &self.handles, port, ams_port, asked, front, out) {
+            Ok(()) => framed_for(ams, start, out),
+            Err(no_memory) => {
+                out.cut(start);
+                Err(no_memory)
+            }
+        }
+    }
+
+    #[inline(never)]
+    fn write_whole(
+        &mut self,
+        alloc: Global,
+        port: &mut Port,
+        rights: Rights,
+        ams: &[u8],
+        out: &mut Octets,
+    ) -> Result<(), NoMemory>
+        requires some { SomeAsks port.old self.old.handles }
+        requires long { 44 ≤ length ams.now }
+        requires number { (h : AmsHeader) → header_of ams.now ≡ Some h → h.target.port ≡ port.old.number }
+        ensures whole { OnOk result ((a : Asking) (h : AmsHeader) → header_of ams.now ≡ Some h → AsksSession a port.old self.old
+            → a.asker.address ≡ h.source → a.asker.rights ≡ rights_of rights
+            → RunsWhole a h (plain_meant Plain.Write (payload_of ams.now)) out.old out.new port.new self.new) }
+        ensures appends { OnOk result (AppendsFrame out.old out.new) }
+        ensures no_memory { OnErr result (out.new ≡ out.old) }
+        ensures keeps { KeepsDescription port.old port.new }
+        ensures stream { self.new.stream ≡ self.old.stream }
+    {
+        let h = header_in(ams);
+        let asker = Asker {
+            ams_port: h.target.port,
+            source: h.source,
+            rights,
+        };
+        let asked = write_in(payload_in(ams));
+        let answer = writing::write(&mut self.handles, port, asker, &asked);
+        let start = out.len();
+        out.put_array(alloc, &room_before_code(number_in(answer)))?;
+        framed_for(ams, start, out)
+    }
+
+    #[inline(never)]
+    fn state_whole(
+        &self,
+        alloc: Global,
+        port: &Port,
+        ams: &[u8],
+        out: &mut Octets,
+    ) -> Result<(), NoMemory>
+        requires long { 32 ≤ length ams.now }
+        ensures whole { OnOk result ((a : Asking) (h : AmsHeader) → header_of ams.now ≡ Some h → AsksSession a port.now self.now
+            → RunsWhole a h (plain_meant Plain.State (payload_of ams.now)) out.old out.new port.now self.now) }
+        ensures appends { OnOk result (AppendsFrame out.old out.new) }
+        ensures no_memory { OnErr result (out.new ≡ out.old) }
+    {
+        let (ads, device) = port.state();
+        let start = out.len();
+        out.put_array(alloc, &room_before_state(ads, device))?;
+        framed_for(ams, start, out)
+    }
+}
+
+// What the payload of a Read asks for.
+#[inline(always)]
+fn read_in(payload: &[u8]) -> ReadRequest
+    requires { 12 ≤ length payload.now }
+    ensures { read_meant result ≡ plain_meant Plain.Read payload.now }
+{
+    ReadRequest {
+        group: get32(payload, 0),
+        offset: get32(payload, 4),
+        len: get32(payload, 8),
+    }
+}
+
+// What the payload of a Write asks for.
+#[inline(always)]
+fn write_in(payload: &[u8]) -> WriteRequest<'_>
+    requires { 12 ≤ length payload.now }
+    ensures { write_meant result ≡ plain_meant Plain.Write payload.now }
+{
+    WriteRequest::new(get32(payload, 0), get32(payload, 4), &payload[12..])
+}
+
+// Room for the headers of a frame in front of a result.
+#[inline(always)]
+fn room_before_code(number: u32) -> [u8; 42]
+    ensures { result ≡ headers_room ++ to_le_bytes w32 number }
+{
+    let [a, b, c, d] = number.to_le_bytes();
+    [
+        0, 0, 0, 0, 0, 0, 0, 0, 0, 0, 0, 0, 0, 0, 0, 0, 0, 0, 0, 0, 0, 0, 0, 0, 0, 0, 0, 0, 0, 0,
+        0, 0, 0, 0, 0, 0, 0, 0, a, b, c, d,
+    ]
+}
+
+// The same in front of a result of 0 and two state words.
+#[inline(always)]
+fn room_before_state(ads: u16, device: u16) -> [u8; 46]
+    ensures { result ≡ headers_room ++ (to_le_bytes w32 0 ++ (to_le_bytes w16 ads ++ to_le_bytes w16 device)) }
+{
+    let [a, b] = ads.to_le_bytes();
+    let [c, d] = device.to_le_bytes();
+    [
+        0, 0, 0, 0, 0, 0, 0, 0, 0, 0, 0, 0, 0, 0, 0, 0, 0, 0, 0, 0, 0, 0, 0, 0, 0, 0, 0, 0, 0, 0,
+        0, 0, 0, 0, 0, 0, 0, 0, 0, 0, 0, 0, a, b, c, d,
+    ]
+}
