@@ -7,7 +7,7 @@ use Rattle.std.proofs.lemmas.Bool.{cases_eq, cases_lt}
 use Rattle.std.proofs.lemmas.List.{length-map, length-set, length-drop, length-take-le, length-append, get_or-map, get_or-take, get_or-drop, get_or_default}
 use Rattle.std.proofs.lemmas.List.{get_or_append_left, get_or-append_right, map-append, map-set, take-map, drop-map, drop-set-lt, set_split, take_more_set}
 use Rattle.std.proofs.lemmas.List.{append-nil, take_at, drop_at, take-append-drop}
-use Rattle.std.proofs.lemmas.List.Elements.{All-take, All-drop, All-append, All-get_or, All-push, All-set, All-nil, All-head, All-tail, filter-append}
+use Rattle.std.proofs.lemmas.List.Elements.{All-get_or, All-push, All-set, All-nil, All-head, All-tail, filter-append}
 use Rattle.std.proofs.lemmas.List.Sums.{length-filter}
 use Rattle.std.proofs.lemmas.List.Sorted.{All-permutation, IsNonDecreasingBy-from_all_adjacent, IsPermutation-append_comm, IsPermutation-refl}
 use Rattle.std.proofs.lemmas.List.Sorted.{length_permutation, sum_by-IsPermutation}
@@ -24,7 +24,7 @@ use Rattle.notify_table.specs.Turns.{AreInTurn, HasHandle, turn_rank, handle_of_
 use Rattle.notify_table.specs.Schedules.{watch_at, nth_watch, Keeps, IsKept, key_of, OncePer, AreScheduled}
 use Rattle.notify_table.specs.Rounds.{RoundState, HasNext, next_handle, next_watch, round_after}
 use Rattle.notify_table.specs.InPlace.{checked_turn, IsCheckedTurn, RiseUpTo, RiseTogether, IsBehind, GoRound, AreInRound, IsRound, round_of}
-use Rattle.notify_table.proofs.Filtered.{OncePer-others, OncePer-remove, OncePer-insert, All-remove, map-remove, length-insert_one, All-insert}
+use Rattle.notify_table.proofs.Filtered.{OncePer-others, OncePer-remove, OncePer-insert, All-remove, map-remove, All-insert}
 use Rattle.notify_table.specs.Numbered.{AreGranted, HasNumber, table_from}
 use Rattle.notify_table.proofs.NumberedLemmas.{by_number-same}
 use Rattle.notify_table.proofs.TableLemmas.{IsFound, found_at, handles_sorted, checked_granted, checked_table}

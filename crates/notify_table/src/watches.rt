@@ -133,9 +133,9 @@ impl Watches {
         Ok(Handles32::from_vec(handles))
     }
 
-    /// Gives the notifications away for the checks of those that are due at a moment, where at least one is due and their
-    /// handles rise in the order in which they became due. None other is looked at, and no list is made. `close` takes them
-    /// back; until then there are none here.
+    /// Gives the notifications away for the checks of those that are due at a moment, where at least one is due, their handles
+    /// rise in the order in which they became due, and they will go behind the others as they stand. Beside those that are due
+    /// one more is looked at, and no list is made. `close` takes the notifications back; until then there are none here.
     pub fn open(&mut self, alloc: Global, now: u64) -> Option<Round>
         ensures round { IfSome result (λ round. round ≡ round_at now self.old) }
         ensures rising { IfSome result (λ round. IsStrictlyIncreasing round.handles) }

@@ -1,7 +1,5 @@
-use Rattle.std.proofs.Common.{◌≡◌, length, sym, subst, refl, ap, ◌∙◌, IsTrue, IsSomeAnd}
-use Rattle.spec_machine.specs.Watches.{is_due}
-use Rattle.notify_table.specs.Table.{watched_len}
-use Rattle.notify_table.specs.Rounds.{RoundState, HasNext, next_watch, round_after}
+use Rattle.std.proofs.Common.{sym, subst, refl, ap, ◌∙◌}
+use Rattle.notify_table.specs.Rounds.{HasNext, round_after}
 use Rattle.notify_table.proofs.RoundLemmas.{next_len, next_sent, next_turns, next_granted, next_round}
 use Rattle.notify_table.proofs.round.Round.check.Goals as goal
 
