@@ -9,7 +9,7 @@ use Rattle.spec_local.proofs.Came.{ticked}
 use Rattle.server_core.specs.CoreState.{CoreState, after_event}
 use Rattle.server_core.specs.Served.{ServedState, served_step}
 use Rattle.server_core.specs.Serves.{CoreView, Serves}
-use Rattle.local_link.specs.Link.{LocalView, unblocked, ComesWhole, StandsFor, TakesFirst}
+use Rattle.local_link.specs.Link.{LocalView, unblocked, StandsFor, TakesFirst, TakesNext}
 use Rattle.local_link.specs.Giving.{Takes, Gives}
 use Rattle.local_link.proofs.Waits.{taken_bytes, taken_nothing}
 use Rattle.local_link.proofs.Moves.{gives_waiting, gives_closed, stays_open, ticks, gives_later, gives_quiet}
@@ -128,18 +128,18 @@ nothing_later old self new mid later n now size buf is t takes none history want
 abbrev pub TakesWhole : ℕ → ℕ → CoreView → Type 0
 TakesWhole n size core = 0 < n → (s : ServedState) → Serves core (unblocked s) → TakesFirst n size s
 
-pub whole_at_once : (old self : LocalView) (n now size : ℕ) (s : ServedState) → old ≡ self → TakesWhole n size old.core → 0 < n
-    → StandsFor self s → ComesWhole (received.Bytes n now) size s
-whole_at_once old self n now size s is whole some stands = inl (whole some s (subst (λ (l : LocalView). Serves l.core (unblocked s)) (sym is) stands.core))
+pub whole_at_once : (old self : LocalView) (n size : ℕ) (s : ServedState) → old ≡ self → TakesWhole n size old.core → 0 < n
+    → StandsFor self s → TakesNext n size s
+whole_at_once old self n size s is whole some stands = inl (whole some s (subst (λ (l : LocalView). Serves l.core (unblocked s)) (sym is) stands.core))
 
 whole_later_of : (old : LocalView) (mid later : CoreView) (n now size : ℕ) (s : ServedState) → Ticks old mid later now → TakesWhole n size later → 0 < n
-    → StandsFor old s → ComesWhole (received.Bytes n now) size s
+    → StandsFor old s → TakesNext n size s
 whole_later_of old mid later n now size s t whole some stands =
     let nothing = taken_nothing t.n t.buf mid s t.none (t.takes s stands.core) in
     let at_s = next_moment s old now stands t.moment in
     inr (whole some (ticked served_step s) (ticks mid later s now nothing at_s t.tick))
 
 pub whole_later : (old self : LocalView) (mid later : CoreView) (n now size : ℕ) (s : ServedState) → old ≡ self → Ticks old mid later now
-    → TakesWhole n size later → 0 < n → StandsFor self s → ComesWhole (received.Bytes n now) size s
+    → TakesWhole n size later → 0 < n → StandsFor self s → TakesNext n size s
 whole_later old self mid later n now size s is t whole some stands =
     whole_later_of old mid later n now size s t whole some (subst (λ (l : LocalView). StandsFor l s) (sym is) stands)

@@ -44,9 +44,13 @@ pub record TakesFirst (n size : ℕ) (s : ServedState) : Type 0 where
   pub first : first_frame (waiting_at 1 s) ≡ Some left
   pub whole : n ≡ min (length left) size
 
--- bytes that come are never fewer, whether they come at once or behind a tick
+-- at once, or behind a tick
+abbrev pub TakesNext : ℕ → ℕ → ServedState → Type 0
+TakesNext n size s = TakesFirst n size s ⊎ TakesFirst n size (served_step s (event.Tick (next_tick s.moment)))
+
+-- bytes that come are never fewer
 abbrev pub ComesWhole : Received → ℕ → ServedState → Type 0
-ComesWhole (received.Bytes n now) size s = TakesFirst n size s ⊎ TakesFirst n size (served_step s (event.Tick (next_tick s.moment)))
+ComesWhole (received.Bytes n now) size s = TakesNext n size s
 ComesWhole (received.Quiet now) size s = Unit {0}
 ComesWhole (received.Closed now) size s = Unit {0}
 ComesWhole received.Failed size s = Unit {0}

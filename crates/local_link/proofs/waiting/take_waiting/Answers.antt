@@ -14,6 +14,9 @@ returns-clause-takes g c = λ s serves.
     took_some c.args.core.now c.took.new.self c.step.new.core s c.copy_offer-n.result c.copy_offer-n.new.buf (omega (arith, c.if-n-eq0.false))
     c.copy_offer-n.ensures.copies c.copy_offer-n.ensures.machine c.took.ensures.follows c.in_ok-step.ensures serves
 
+pub returns-then-n-eq0-clause-whole : goal.returns-then-n-eq0-clause-whole
+returns-then-n-eq0-clause-whole g c = λ some s serves. absurd (omega (arith, some))
+
 pub returns-clause-whole : goal.returns-clause-whole
 returns-clause-whole g c = λ some s serves.
     took_whole c.args.core.now s c.copy_offer-n.result _ c.copy_offer-n.new.buf c.copy_offer-n.auto.buf some

@@ -42,11 +42,11 @@ returns-clause-gives g c =
 
 pub returns-then-waits-gt0-clause-whole : goal.returns-then-waits-gt0-clause-whole
 returns-then-waits-gt0-clause-whole g c = λ s stands.
-    whole_at_once _ _ _ _ _ s c.self.view_is c.in_ok-waits.ensures.whole (omega (arith, c.if-waits-gt0.true)) stands
+    whole_at_once _ _ c.in_ok-waits.waits _ s c.self.view_is c.in_ok-waits.ensures.whole (omega (arith, c.if-waits-gt0.true)) stands
 
 pub returns-then-came-gt0-clause-whole : goal.returns-then-came-gt0-clause-whole
 returns-then-came-gt0-clause-whole g c = λ s stands.
-    whole_later _ _ c.take_waiting.new.core c.step.new.core _ _ _ s c.self.view_is (record {
+    whole_later _ _ c.take_waiting.new.core c.step.new.core c.in_ok-came.came c.next_tick-now.result _ s c.self.view_is (record {
       n = c.in_ok-waits.waits;
       buf = c.take_waiting.new.buf;
       takes = c.in_ok-waits.ensures.takes;
