@@ -111,7 +111,7 @@ all_sent : SendsSome (record { answers = 1; bytes = three } ∷ []) (link.Sent t
 all_sent = inl (refl, tt)
 
 part_sent : SendsSome (record { answers = 1; bytes = three } ∷ []) (link.Sent (1 ∷ 2 ∷ []) ∷ [])
-part_sent = inr (2, (refl, refl))
+part_sent = inr (2, refl, refl)
 
 nothing_sent : SendsSome (record { answers = 1; bytes = three } ∷ []) []
 nothing_sent = tt
@@ -126,7 +126,7 @@ is_empty (m ∷ ms) = false
 
 behind_a_part : SendsSome (record { answers = 1; bytes = three } ∷ []) (link.Sent (1 ∷ []) ∷ link.Sent three ∷ []) → ⊥
 behind_a_part (inl (e, rest)) = false≢true (ap (λ m. bytes_eq (bytes_in m) three) e)
-behind_a_part (inr (n, (e, nothing))) = false≢true (ap is_empty nothing)
+behind_a_part (inr (n, e, nothing)) = false≢true (ap is_empty nothing)
 
 -- a step that sends, and one that prints
 stops_at_a_send : AtSend (Send three ∷ [])

@@ -156,7 +156,7 @@ cannot_open = record {
   stood = λ old e. ap (λ o. standing_of (bytes_in o)) e;
   begun = [];
   left = λ old e bytes l. never_left bytes l;
-  ends = inl (refl, inl (refl, (lit≤ tt, inl (refl, refl))));
+  ends = inl (refl, inl (refl, lit≤ tt, inl (refl, refl)));
 }
 
 by_the_verdict : PlantBy h (Unit {0}) (serves_plant h x) ⊥ status.StoreFault (sink [] 0) (sink (codes "ads: store fault\n") 0) (disk_with [] 1) unused unused

@@ -232,7 +232,7 @@ marked = λ marks e. record {
     looks = [];
     each = refl;
     are = tt;
-    last = record { whole = refl; last = mark; are = refl; wire = refl; holds = λ first told. (file, (refl, refl)) };
+    last = record { whole = refl; last = mark; are = refl; wire = refl; holds = λ first told. (file, refl, refl) };
   };
 }
 
@@ -251,9 +251,9 @@ record PlayRows : Type 0 where
 
 no_fault_told : PrintsKept ask status.StoreFault (sink []) (sink (codes "ads: store fault\n")) disk None (empty ∷ []) → ⊥
 unfolding is_any_over
-no_fault_told (inl (all, (inl (same, put), marks))) = false≢true (ap (λ s. number_of s == 0) same)
-no_fault_told (inl (all, (inr (inl (same, put)), marks))) = false≢true (ap (λ s. number_of s == 5) same)
-no_fault_told (inl (all, (inr (inr (same, put)), marks))) = false≢true (ap (λ s. number_of s == 10) same)
+no_fault_told (inl (all, inl (same, put), marks)) = false≢true (ap (λ s. number_of s == 0) same)
+no_fault_told (inl (all, inr (inl (same, put)), marks)) = false≢true (ap (λ s. number_of s == 5) same)
+no_fault_told (inl (all, inr (inr (same, put)), marks)) = false≢true (ap (λ s. number_of s == 10) same)
 no_fault_told (inr (inl (over, printed))) = false≢true over
 no_fault_told (inr (inr (inl (rose, printed)))) = false≢true (le-leb 1 0 rose)
 no_fault_told (inr (inr (inr (same, put)))) = false≢true (ap (λ s. number_of s == 10) same)
@@ -274,12 +274,12 @@ play_rows = record {
   its_text = refl;
   ending = refl;
   its_saves = refl;
-  printed = inl (all_saved, (inl (refl, refl), marked));
+  printed = inl (all_saved, inl (refl, refl), marked);
   ends = record {
     standing = None;
     stood = λ old e. ap (λ o. standing_of (bytes_in o)) e;
     left = λ old e bytes l. left bytes l;
-    ends = inl (all_saved, (inl (refl, refl), marked));
+    ends = inl (all_saved, inl (refl, refl), marked);
   };
   by_the_verdict = inl (inr (record {
     made = ask;
@@ -288,7 +288,7 @@ play_rows = record {
       standing = None;
       stood = λ old e. ap (λ o. standing_of (bytes_in o)) e;
       left = λ old e bytes l. left bytes l;
-      ends = inl (all_saved, (inl (refl, refl), marked));
+      ends = inl (all_saved, inl (refl, refl), marked);
     };
   }));
   failed = inr (inr (inl (lit≤ tt, inl (refl, refl))));
@@ -332,17 +332,17 @@ marks = record {
       so_far = refl;
       due = refl;
       wire = refl;
-      holds = λ first told. (file, (refl, refl));
+      holds = λ first told. (file, refl, refl);
     },
     tt,
   );
-  all = record { whole = refl; last = mark_behind ticked; are = refl; wire = refl; holds = λ first told. (file, (refl, refl)) };
+  all = record { whole = refl; last = mark_behind ticked; are = refl; wire = refl; holds = λ first told. (file, refl, refl) };
 }
 
 -- what stands for another body holds no save
 no_sequence : (now : List ℕ) × (Some [] ≡ Some now) × (standing_of now ≡ standing_after_all None (saves_in None (empty ∷ []))) → ⊥
 unfolding saves_in slot_of standing_of entry_of entries_in entries_of standing_after_all
-no_sequence (now, (same, stands)) =
+no_sequence (now, same, stands) =
     false≢true (ap (λ o. sequence_in (standing_of (bytes_in o)) == 1) same ∙ ap (λ s. sequence_in s == 1) stands)
 
 holds_no_save : HoldsSaves (Some []) None (empty ∷ []) (Some []) → ⊥

@@ -226,7 +226,7 @@ no_table = inr (record {
 
 wanted_first : EndsLocalRecording (local_recording plant waves what) status.Memory (sink [] 0) (sink (codes "ads: memory\n") 0)
     (record { old = keeper [] [] 0; new = keeper [] [] 0 })
-wanted_first = inl (refl, ((put.All, refl), refl))
+wanted_first = inl (refl, (put.All, refl), refl)
 
 abbrev number_in : Option LoopEnd → ℕ
 number_in None = 9
