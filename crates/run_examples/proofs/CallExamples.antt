@@ -1,6 +1,6 @@
 -- What a call over a link leaves in the link and in the sink, by computation.
-use Rattle.std.specs.Prelude.{◌≡◌, ◌⊎◌, refl, ℕ, List, [], ◌∷◌, ◌++◌, codes, drop, take, true, false, Bool, Option, Some, None, Ok, Err, bytes_eq, ◌==◌}
-use Rattle.std.proofs.Common.{◌∙◌, ap, arith, inl, inr, lit≤, sym}
+use Rattle.std.specs.Prelude.{◌≡◌, refl, ℕ, List, [], ◌∷◌, ◌++◌, codes, true, false, Bool, Option, Some, None, Ok, Err, bytes_eq}
+use Rattle.std.proofs.Common.{ap, inl, inr, lit≤, sym}
 use Rattle.std.proofs.lemmas.Bool.{false≢true}
 use Rattle.std.specs.Fmt.{digits}
 use Rattle.ads_base.specs.declared.peer.Peer.TheVariants as peers
@@ -32,15 +32,14 @@ use Rattle.spec_client.specs.CallOver.{conversation_after_all}
 use Rattle.spec_client.proofs.Frames.{me, peer, request, reply}
 use Rattle.client_replies.specs.declared.stage.CallEnd.TheVariants as call_end
 use Rattle.client_loop.specs.declared.loop_end.LoopEnd.TheVariants as end
-use Rattle.client_loop.specs.Called.{AfterCall, AreAwaited, BreaksOff, Calling, NeverBegins, Talks, calling, over}
-use Rattle.client_loop.specs.Due.{AtPrint, AtSend, Anywhere, call_steps_last, call_text_up_to, steps_last, text_up_to}
+use Rattle.client_loop.specs.Called.{AfterCall, AreAwaited, BreaksOff, Calling, NeverBegins, Talks, calling}
+use Rattle.client_loop.specs.Due.{AtPrint, AtSend, call_steps_last, call_text_up_to, steps_last, text_up_to}
 use Rattle.client_loop.specs.LinkAfter.{history_left, history_over}
 use Rattle.client_loop.specs.Said.{SendsSome}
 use Rattle.call_run.specs.CallUses.{LinkUse, link_used, used}
 use Rattle.call_run.specs.Calling.{EndsCall, status_of_call, status_of_loop}
 use Rattle.ads_run.specs.Causes.{IsEndOfCall}
 use Rattle.run_tasks.specs.declared.status.Status.TheVariants as status
-use Rattle.run_tasks.specs.StatusTable.{number_of}
 
 -- the state is asked over a link that is connected at 5; nothing comes at first, and at 7 the response
 abbrev here : List ℕ
@@ -112,7 +111,7 @@ all_sent : SendsSome (record { answers = 1; bytes = three } ∷ []) (link.Sent t
 all_sent = inl (refl, tt)
 
 part_sent : SendsSome (record { answers = 1; bytes = three } ∷ []) (link.Sent (1 ∷ 2 ∷ []) ∷ [])
-part_sent = inr (2, (refl, refl))
+part_sent = inr (2, refl, refl)
 
 nothing_sent : SendsSome (record { answers = 1; bytes = three } ∷ []) []
 nothing_sent = tt
@@ -127,7 +126,7 @@ is_empty (m ∷ ms) = false
 
 behind_a_part : SendsSome (record { answers = 1; bytes = three } ∷ []) (link.Sent (1 ∷ []) ∷ link.Sent three ∷ []) → ⊥
 behind_a_part (inl (e, rest)) = false≢true (ap (λ m. bytes_eq (bytes_in m) three) e)
-behind_a_part (inr (n, (e, nothing))) = false≢true (ap is_empty nothing)
+behind_a_part (inr (n, e, nothing)) = false≢true (ap is_empty nothing)
 
 -- a step that sends, and one that prints
 stops_at_a_send : AtSend (Send three ∷ [])

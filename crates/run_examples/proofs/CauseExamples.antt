@@ -1,7 +1,7 @@
 -- Why a run ended so, by what it is handed in and leaves, by computation.
-use Rattle.std.specs.Prelude.{◌≡◌, refl, ℕ, List, [], ◌∷◌, codes, map, true, false, Bool, Option, Some, None}
-use Rattle.std.proofs.Common.{ap, arith, inl, inr, lit<, lit≤, sym}
-use Rattle.std.proofs.lemmas.Bool.{false≢true}
+use Rattle.std.specs.Prelude.{◌<◌, ◌==◌, ◌≡◌, refl, ℕ, List, [], ◌∷◌, codes, map, true, false, Some, None}
+use Rattle.std.proofs.Common.{subst, ap, inl, inr, lit<, lit≤}
+use Rattle.std.proofs.lemmas.Bool.{false≢true, le-leb}
 use Rattle.ads_outside.specs.FilesState.{FilesState}
 use Rattle.ads_outside.specs.SinkState.{SinkState}
 use Rattle.ads_outside.specs.WireState.{WireHistory}
@@ -14,7 +14,7 @@ use Rattle.run_tasks.specs.declared.task.Task.TheVariants as task
 use Rattle.run_tasks.specs.BuiltIn.{built_in}
 use Rattle.run_tasks.specs.KeepAsked.{keeping}
 use Rattle.run_tasks.specs.StatusTable.{number_of}
-use Rattle.run_tasks.specs.Verdict.{Calls, CallsLocally, Keeps, Records, RecordsLocally, Serves, ended}
+use Rattle.run_tasks.specs.Verdict.{Calls, Keeps, Records, RecordsLocally, Serves, ended}
 use Rattle.ads_run.specs.Causes.{CauseOfKeeping, CauseOfService, EndsOfWire, FailsOfWire, HasCause, IsEndOfCall, IsEndOfLocal, IsNoServiceEnd, IsOwnEnd}
 use Rattle.ads_run.specs.Causes.{NothingFailed, TakesAll, is_service}
 use Rattle.ads_run.specs.Ends.{RunsBy, RunsSo}
@@ -66,14 +66,14 @@ failed = record { stopped = lit≤ tt; no_end = refl; count = 2; fewer = inr (li
 
 -- it is not done where no End was answered, and took not all where one was left
 not_ended : EndsOfWire 7 unused (wire 2 0 0) → ⊥
-not_ended e = omega (arith, e.ended)
+not_ended e = false≢true (ap (λ n. n == 1) e.ended)
 
 one_left : TakesAll 7 unused (wire 6 0 0) → ⊥
 unfolding raised_by
-one_left t = omega (arith, t.events)
+one_left t = false≢true (ap (λ n. n == 7) t.events)
 
 nothing_stopped : FailsOfWire 7 unused (wire 2 0 0) → ⊥
-nothing_stopped f = omega (arith, f.stopped)
+nothing_stopped f = false≢true (le-leb 1 0 f.stopped)
 
 -- what only a client, a store or a service ends with
 no_client : IsNoServiceEnd (status.Refused 0x710) → ⊥
@@ -93,7 +93,7 @@ disk_failed : CauseOfKeeping status.StoreFault 0 1
 disk_failed = lit≤ tt
 
 disk_stood : CauseOfKeeping status.StoreFault 3 3 → ⊥
-disk_stood r = omega (arith, r)
+disk_stood r = false≢true (le-leb 4 3 r)
 
 -- a call ends as its conversation does over the link's answers
 as_it_ended : IsEndOfCall calls.asks status.Done calls.new_link
@@ -124,13 +124,13 @@ keeper_failed : CauseOfRecording records.asks status.KeeperFault records.old_lin
 keeper_failed = lit≤ tt
 
 keeper_stood : CauseOfRecording records.asks status.KeeperFault records.old_link records.new_link (keeper 0) (keeper 0) → ⊥
-keeper_stood r = omega (arith, r)
+keeper_stood r = false≢true (le-leb 1 0 r)
 
 is_full : IsFull None
 is_full = record { count = 9223372036854775808; counts = tt; full = lit< tt }
 
 not_full : IsFull (Some []) → ⊥
-not_full f = omega (arith, f.counts, f.full)
+not_full f = false≢true (le-leb 9223372036854775808 0 (subst (λ n. 9223372036854775807 < n) f.counts f.full))
 
 recorded : IsEndOfRecording records.asks status.Done records.new_link (Some [])
 recorded = records.ended_so
@@ -146,42 +146,42 @@ wanting : IsOwnEnd (ended status.Usage) status.Memory (run [] unused)
 wanting = inr refl
 
 other_end : IsOwnEnd (ended status.Usage) status.Done (run [] unused) → ⊥
-other_end (inl e) = omega (arith, ap number_of e)
-other_end (inr e) = omega (arith, ap number_of e)
+other_end (inl e) = false≢true (ap (λ s. number_of s == 1) e)
+other_end (inr e) = false≢true (ap (λ s. number_of s == 10) e)
 
 service_done : IsOwnEnd (Serves service) status.Done (run [] unused)
 service_done = inl refl
 
 service_failed : IsOwnEnd (Serves service) status.LinkFault (run [] unused) → ⊥
-service_failed (inl e) = omega (arith, ap number_of e)
-service_failed (inr (inl e)) = omega (arith, ap number_of e)
-service_failed (inr (inr e)) = omega (arith, ap number_of e)
+service_failed (inl e) = false≢true (ap (λ s. number_of s == 0) e)
+service_failed (inr (inl e)) = false≢true (ap (λ s. number_of s == 7) e)
+service_failed (inr (inr e)) = false≢true (ap (λ s. number_of s == 10) e)
 
 kept : IsOwnEnd (Keeps (keeping built_in [] [])) status.StoreLimit (run [] unused)
 kept = inr (inl refl)
 
 store_failed : IsOwnEnd (Keeps (keeping built_in [] [])) status.StoreFault (run [] unused) → ⊥
-store_failed (inl e) = omega (arith, ap number_of e)
-store_failed (inr (inl e)) = omega (arith, ap number_of e)
-store_failed (inr (inr e)) = omega (arith, ap number_of e)
+store_failed (inl e) = false≢true (ap (λ s. number_of s == 0) e)
+store_failed (inr (inl e)) = false≢true (ap (λ s. number_of s == 15) e)
+store_failed (inr (inr e)) = false≢true (ap (λ s. number_of s == 10) e)
 
 full_here : IsOwnEnd (RecordsLocally (λ rows. local.asks)) status.StoreLimit
-    (record run [] unused { keeper = record { old = record keeper 0 { rows = None }; new = keeper 0 } })
+    (record (run [] unused) { keeper = record { old = record (keeper 0) { rows = None }; new = keeper 0 } })
 full_here = inr (inl (refl, is_full))
 
 record_full : IsOwnEnd (Records records.asks) status.StoreLimit
-    (record run [] unused { keeper = record { old = record keeper 0 { rows = None }; new = keeper 0 } })
+    (record (run [] unused) { keeper = record { old = record (keeper 0) { rows = None }; new = keeper 0 } })
 record_full = inr (inl (refl, is_full))
 
 -- no call failed; one of the disk did
 nothing_failed : NothingFailed (files 0) (files 0) (run [] unused)
 nothing_failed = record {
-  reading = λ r. omega (arith, r);
-  writing = λ r. omega (arith, r);
-  serving = λ r. omega (arith, r);
-  talking = λ r. omega (arith, r);
-  storing = λ r. omega (arith, r);
-  keeping = λ r. omega (arith, r);
+  reading = λ r. false≢true (le-leb 1 0 r);
+  writing = λ r. false≢true (le-leb 1 0 r);
+  serving = λ r. false≢true (le-leb 1 0 r);
+  talking = λ r. false≢true (le-leb 1 0 r);
+  storing = λ r. false≢true (le-leb 1 0 r);
+  keeping = λ r. false≢true (le-leb 1 0 r);
 }
 
 one_failed : NothingFailed (files 0) (files 1) (run [] unused) → ⊥
@@ -192,7 +192,7 @@ usage_printed : RunsSo (ended status.Usage) status.Usage (run (codes "ads: usage
 usage_printed = (inl (refl, refl), refl)
 
 wire_called : RunsSo (ended status.Usage) status.Usage (run (codes "ads: usage\n") (wire 0 1 0)) → ⊥
-wire_called (printed, same) = omega (arith, ap (λ (h : WireHistory). h.ends) same)
+wire_called (printed, same) = false≢true (ap (λ (h : WireHistory). h.ends == 0) same)
 
 call_over : RunsSo (Calls calls.asks) status.Done (run (codes "ads 5 device 0\n") unused)
 call_over = calls.call_rows.ends

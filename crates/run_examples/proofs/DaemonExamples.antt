@@ -1,11 +1,9 @@
 -- What a plant that is served over a store saves and prints, by computation.
-use Rattle.std.specs.Prelude.{◌≡◌, ◌⊎◌, refl, ℕ, ◌-◌, ◌^◌, List, [], ◌∷◌, ◌++◌, codes, map, true, false, Bool, Option, Some, None, Result, Ok, bytes_eq}
-use Rattle.std.proofs.Common.{ap, arith, inl, inr, lit<, lit≤, sym}
-use Rattle.std.proofs.lemmas.Bool.{false≢true}
+use Rattle.std.specs.Prelude.{◌≡◌, ◌⊎◌, refl, ℕ, ◌-◌, ◌^◌, List, [], ◌∷◌, ◌++◌, codes, map, true, false, Bool, Option, Some, None}
+use Rattle.std.proofs.Common.{ap, inl, inr, lit≤, sym}
+use Rattle.std.proofs.lemmas.Bool.{false≢true, le-leb}
 use Rattle.std.specs.Fmt.{digits}
 use Rattle.ads_outside.specs.declared.end.End.TheVariants as end
-use Rattle.ads_outside.specs.SinkState.{SinkState}
-use Rattle.ads_outside.specs.WireState.{WireHistory}
 use Rattle.spec_plant.specs.Description.{Read as ReadRight}
 use Rattle.spec_machine.specs.Manner.{Wide}
 use Rattle.spec_machine.specs.Profile.{Profile, strict}
@@ -23,12 +21,12 @@ use Rattle.spec_rules.specs.SizeRules.{wrong_size}
 use Rattle.spec_rules.specs.PortRules.{wrong_port, wrong_upload}
 use Rattle.spec_rules.specs.SymbolRules.{wrong_name, wrong_type, wrong_place, wrong_content, wrong_signal}
 use Rattle.spec_store.specs.BodyText.{entry_of, entries_in, entries_of}
-use Rattle.spec_store.specs.Slots.{Standing, slot_of, standing_of}
+use Rattle.spec_store.specs.Slots.{slot_of, standing_of}
 use Rattle.port_device.specs.declared.manner.Manner.TheVariants as manner
 use Rattle.server_core.specs.declared.outcome.Outcome.{Outcome}
 use Rattle.server_core.specs.declared.outcome.Outcome.TheVariants as outcome
 use Rattle.server_core.specs.Profiles.{profile_of}
-use Rattle.type_layout.specs.declared.port.Rights.TheVariants as rights
+use Rattle.type_layout.specs.declared.description.Rights.TheVariants as rights
 use Rattle.toml.proofs.OnLiterals.{toml_on_literals}
 use Rattle.keep_loop.specs.Bodies.{is_any_over, saves_in}
 use Rattle.keep_loop.specs.declared.kept_on.KeptOn.{KeptOn}
@@ -36,16 +34,13 @@ use Rattle.keep_loop.specs.declared.save_counts.SaveCounts.{SaveCounts}
 use Rattle.keep_loop.specs.declared.save_end.SaveEnd.{SaveEnd}
 use Rattle.keep_loop.specs.declared.save_end.SaveEnd.TheVariants as save
 use Rattle.keep_loop.specs.KeepingOn.{AreSomeOf, Begun, MayStand, StoodOnce}
-use Rattle.keep_play.specs.KeptDisk.{DiskUse}
-use Rattle.run_tasks.specs.declared.status.Status.{Status}
 use Rattle.run_tasks.specs.declared.status.Status.TheVariants as status
 use Rattle.run_tasks.specs.BuiltIn.{built_in}
 use Rattle.run_tasks.specs.Ending.{line_alone}
-use Rattle.run_tasks.specs.StatusTable.{number_of}
 use Rattle.run_tasks.specs.Verdict.{ended}
 use Rattle.daemon_core.specs.Posting.{Adds}
 use Rattle.watched_wire.specs.Ends.{with_ends}
-use Rattle.daemon_run.specs.Kept.{EndsKept, HoldsBody, KeepsBodies, RunsKept, SavesEach, ending_kept, status_by, status_kept}
+use Rattle.daemon_run.specs.Kept.{KeepsBodies, SavesEach, ending_kept, status_by, status_kept}
 use Rattle.daemon_run.specs.Plant.{Plant, Serving, events_with, plant_kept, plant_of, service_of, serves_plant, serving, start_kept, verdict_on}
 use Rattle.daemon_run.specs.PlantEnds.{EndsPlant, PlantBy}
 use Rattle.daemon_run.specs.Printed.{counts_saved, ending_so}
@@ -161,7 +156,7 @@ cannot_open = record {
   stood = λ old e. ap (λ o. standing_of (bytes_in o)) e;
   begun = [];
   left = λ old e bytes l. never_left bytes l;
-  ends = inl (refl, inl (refl, (lit≤ tt, inl (refl, refl))));
+  ends = inl (refl, inl (refl, lit≤ tt, inl (refl, refl)));
 }
 
 by_the_verdict : PlantBy h (Unit {0}) (serves_plant h x) ⊥ status.StoreFault (sink [] 0) (sink (codes "ads: store fault\n") 0) (disk_with [] 1) unused unused
@@ -184,8 +179,8 @@ looked_at = record {
   each = λ whole. record { are = refl; all = all_saved };
   leaves = λ old e bytes l. inl (ap standing_of l);
   holds = λ kept old e. record { file = file; told = refl; only = λ bytes l. l; stands = refl };
-  failed = λ lt. absurd (omega (arith, lt));
-  over = λ lt. absurd (omega (arith, lt));
+  failed = λ lt. absurd (false≢true (le-leb 1 0 lt));
+  over = λ lt. absurd (false≢true (le-leb 1 0 lt));
 }
 
 -- a save that was not begun, though a body was looked at that did not stand

@@ -1,8 +1,7 @@
 -- Which bodies of a run are saved, and what saves that were begun may leave, by computation.
-use Rattle.std.specs.Prelude.{◌≡◌, refl, ℕ, ◌-◌, ◌^◌, List, [], ◌∷◌, ◌++◌, codes, map, replicate, true, false, Bool, Option, Some, None, is_some, bytes_eq, ◌==◌}
+use Rattle.std.specs.Prelude.{◌≡◌, refl, ℕ, ◌-◌, ◌^◌, List, [], ◌∷◌, map, replicate, true, false, Bool, Option, Some, None, is_some, bytes_eq, ◌==◌}
 use Rattle.std.proofs.Common.{ap, inl, inr, sym}
 use Rattle.std.proofs.lemmas.Bool.{false≢true}
-use Rattle.ads_outside.specs.declared.end.End.TheVariants as end
 use Rattle.ads_outside.specs.declared.event.Event.TheVariants as event
 use Rattle.ads_outside.specs.declared.moves.Move.TheVariants as move
 use Rattle.spec_store.specs.Slots.{Standing}

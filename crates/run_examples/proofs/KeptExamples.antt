@@ -1,7 +1,7 @@
 -- The play of a script over a store, by computation.
 use Rattle.std.specs.Prelude.{◌≡◌, ◌⊎◌, refl, ℕ, List, [], ◌∷◌, ◌++◌, codes, replicate, true, false, Option, Some, None, bytes_eq, ◌==◌, if◌then◌else◌}
-use Rattle.std.proofs.Common.{◌∙◌, ap, arith, inl, inr, lit≤}
-use Rattle.std.proofs.lemmas.Bool.{false≢true}
+use Rattle.std.proofs.Common.{◌∙◌, ap, inl, inr, lit≤}
+use Rattle.std.proofs.lemmas.Bool.{false≢true, le-leb}
 use Rattle.spec_plant.specs.PartTexts.{name_behind, comment_behind}
 use Rattle.spec_formats.specs.Groups.{group_in, group_of}
 use Rattle.spec_formats.specs.Header.{header_of}
@@ -47,7 +47,6 @@ use Rattle.std.specs.Fmt.{digits}
 use Rattle.ads_outside.specs.declared.end.End.TheVariants as end
 use Rattle.ads_outside.specs.declared.event.Event.TheVariants as event
 use Rattle.ads_outside.specs.declared.moves.Move.{Move}
-use Rattle.ads_outside.specs.declared.put.Put.TheVariants as put
 use Rattle.ads_outside.specs.SinkState.{SinkState}
 use Rattle.ads_outside.specs.Streams.{none_taken}
 use Rattle.ads_outside.specs.WireState.{WireHistory, history_after}
@@ -63,20 +62,19 @@ use Rattle.spec_store.specs.Runs.{IsOneOf, standing_after_all}
 use Rattle.spec_store.specs.Slots.{Standing, behind_gate, slot_of, standing_of}
 use Rattle.spec_persistent.specs.Persistent.{body_of}
 use Rattle.type_layout.specs.Forms.{form_of}
-use Rattle.stored_values.specs.StoredBodies.{entries_stored}
 use Rattle.persist_store.specs.Marks.{Mark}
 use Rattle.keep_loop.specs.Bodies.{bodies_at_ticks, bodies_looked_at, bodies_to_end, is_any_over, paced, saves_in}
 use Rattle.keep_loop.specs.KeepingOn.{LooksAt}
 use Rattle.keep_loop.specs.Marking.{HoldsSaves, MarksRun}
 use Rattle.keep_play.specs.KeptDisk.{DiskUse, FileStands, disk_used}
 use Rattle.keep_play.specs.KeptMarks.{AllMarked}
-use Rattle.keep_play.specs.KeptPlay.{AllSaved, PlaysOverStore}
+use Rattle.keep_play.specs.KeptPlay.{AllSaved}
 use Rattle.keep_play.specs.KeptSaves.{bodies_of_play, body_of_world, description_kept, kept_text, saved_line, saves_of_play, saves_over}
 use Rattle.run_tasks.specs.declared.status.Status.TheVariants as status
 use Rattle.run_tasks.specs.BuiltIn.{built_in}
 use Rattle.run_tasks.specs.KeepAsked.{Keeping, keeping}
 use Rattle.run_tasks.specs.StatusTable.{number_of}
-use Rattle.run_tasks.specs.Verdict.{Keeps, prints}
+use Rattle.run_tasks.specs.Verdict.{Keeps}
 use Rattle.file_run.specs.Keeping.{EndsKeeping, KeepsBy, PrintsKept, kept_ending}
 use Rattle.spec_plant.proofs.Plant.{count_symbol, description_with, symbols_with, title_symbol}
 use Rattle.spec_machine.proofs.Plant.{opened, piece, plant, q, step, start, tick, waves}
@@ -206,12 +204,13 @@ abbrev sequence_in : Option Standing → ℕ
 sequence_in None = 0
 sequence_in (Some s) = s.slot.sequence
 
+not_standing : FileStands (disk_with [] 0) (standing_after_all None (empty ∷ [])) → false ≡ true
+unfolding standing_after_all slot_of standing_of entry_of entries_in entries_of
+not_standing f = ap (λ s. sequence_in s == 1) (ap (λ o. standing_of (bytes_in o)) f.told ∙ f.stands)
+
 not_saved : AllSaved (disk_with [] 0) None (empty ∷ []) → ⊥
 unfolding standing_after_all slot_of standing_of entry_of entries_in entries_of
 not_saved h = false≢true (not_standing (h.stands [] refl))
-  where
-    not_standing : FileStands (disk_with [] 0) (standing_after_all None (empty ∷ [])) → false ≡ true
-    not_standing f = ap (λ s. sequence_in s == 1) (ap (λ o. standing_of (bytes_in o)) f.told ∙ f.stands)
 
 -- behind the play, that had no tick, one mark is told: at its end, when the file stood for its save
 marked : AllMarked built_in [] [] disk None
@@ -233,7 +232,7 @@ marked = λ marks e. record {
     looks = [];
     each = refl;
     are = tt;
-    last = record { whole = refl; last = mark; are = refl; wire = refl; holds = λ first told. (file, (refl, refl)) };
+    last = record { whole = refl; last = mark; are = refl; wire = refl; holds = λ first told. (file, refl, refl) };
   };
 }
 
@@ -252,12 +251,12 @@ record PlayRows : Type 0 where
 
 no_fault_told : PrintsKept ask status.StoreFault (sink []) (sink (codes "ads: store fault\n")) disk None (empty ∷ []) → ⊥
 unfolding is_any_over
-no_fault_told (inl (all, (inl (same, put), marks))) = omega (arith, ap number_of same)
-no_fault_told (inl (all, (inr (inl (same, put)), marks))) = omega (arith, ap number_of same)
-no_fault_told (inl (all, (inr (inr (same, put)), marks))) = omega (arith, ap number_of same)
+no_fault_told (inl (all, inl (same, put), marks)) = false≢true (ap (λ s. number_of s == 0) same)
+no_fault_told (inl (all, inr (inl (same, put)), marks)) = false≢true (ap (λ s. number_of s == 5) same)
+no_fault_told (inl (all, inr (inr (same, put)), marks)) = false≢true (ap (λ s. number_of s == 10) same)
 no_fault_told (inr (inl (over, printed))) = false≢true over
-no_fault_told (inr (inr (inl (rose, printed)))) = omega (arith, rose)
-no_fault_told (inr (inr (inr (same, put)))) = omega (arith, ap number_of same)
+no_fault_told (inr (inr (inl (rose, printed)))) = false≢true (le-leb 1 0 rose)
+no_fault_told (inr (inr (inr (same, put)))) = false≢true (ap (λ s. number_of s == 10) same)
 
 play_rows : PlayRows
 unfolding ams_length_of is_header front_of packet_of behind_frame frames_from frames_of left_behind rest_of has_same_parts has_same_members part_behind
@@ -275,12 +274,12 @@ play_rows = record {
   its_text = refl;
   ending = refl;
   its_saves = refl;
-  printed = inl (all_saved, (inl (refl, refl), marked));
+  printed = inl (all_saved, inl (refl, refl), marked);
   ends = record {
     standing = None;
     stood = λ old e. ap (λ o. standing_of (bytes_in o)) e;
     left = λ old e bytes l. left bytes l;
-    ends = inl (all_saved, (inl (refl, refl), marked));
+    ends = inl (all_saved, inl (refl, refl), marked);
   };
   by_the_verdict = inl (inr (record {
     made = ask;
@@ -289,7 +288,7 @@ play_rows = record {
       standing = None;
       stood = λ old e. ap (λ o. standing_of (bytes_in o)) e;
       left = λ old e bytes l. left bytes l;
-      ends = inl (all_saved, (inl (refl, refl), marked));
+      ends = inl (all_saved, inl (refl, refl), marked);
     };
   }));
   failed = inr (inr (inl (lit≤ tt, inl (refl, refl))));
@@ -333,18 +332,19 @@ marks = record {
       so_far = refl;
       due = refl;
       wire = refl;
-      holds = λ first told. (file, (refl, refl));
+      holds = λ first told. (file, refl, refl);
     },
     tt,
   );
-  all = record { whole = refl; last = mark_behind ticked; are = refl; wire = refl; holds = λ first told. (file, (refl, refl)) };
+  all = record { whole = refl; last = mark_behind ticked; are = refl; wire = refl; holds = λ first told. (file, refl, refl) };
 }
 
 -- what stands for another body holds no save
+no_sequence : (now : List ℕ) × (Some [] ≡ Some now) × (standing_of now ≡ standing_after_all None (saves_in None (empty ∷ []))) → ⊥
+unfolding saves_in slot_of standing_of entry_of entries_in entries_of standing_after_all
+no_sequence (now, same, stands) =
+    false≢true (ap (λ o. sequence_in (standing_of (bytes_in o)) == 1) same ∙ ap (λ s. sequence_in s == 1) stands)
+
 holds_no_save : HoldsSaves (Some []) None (empty ∷ []) (Some []) → ⊥
 unfolding saves_in slot_of standing_of entry_of entries_in entries_of standing_after_all
 holds_no_save h = no_sequence (h [] refl)
-  where
-    no_sequence : (now : List ℕ) × (Some [] ≡ Some now)
-        × (standing_of now ≡ standing_after_all None (saves_in None (empty ∷ []))) → ⊥
-    no_sequence (now, (same, stands)) = false≢true (ap (λ o. sequence_in (standing_of (bytes_in o)) == 1) same ∙ ap (λ s. sequence_in s == 1) stands)

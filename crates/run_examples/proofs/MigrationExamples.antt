@@ -1,17 +1,17 @@
 -- A description under schema 2, by computation.
-use Rattle.std.specs.Prelude.{◌≡◌, refl, ℕ, List, [], ◌∷◌, ◌++◌, codes, pos, Option, Some, None, true, false, Bool, bytes_eq, ◌==◌}
+use Rattle.std.specs.Prelude.{◌≡◌, refl, ℕ, List, [], ◌∷◌, codes, pos, Option, Some, None, true, false, Bool, bytes_eq, ◌==◌}
 use Rattle.std.specs.Ordering.{Ordering, Less, Equal, Greater, is_eq, match_ordering, nat_cmp}
 use Rattle.std.specs.Cmp.Lexicographic.{slice_cmp}
 use Rattle.std.proofs.Common.{◌∙◌, ap, sym}
 use Rattle.std.proofs.lemmas.Bool.{false≢true}
 use Rattle.std.specs.Fmt.{digits}
 use Rattle.toml.proofs.OnLiterals.{toml_on_literals}
-use Rattle.toml.specs.Data.{Data, Members, array, get_member, integer, item, member, no_items, no_members, string, table}
+use Rattle.toml.specs.Data.{Data, Members, array, integer, item, member, no_items, no_members, string, table}
 use Rattle.ads_outside.specs.declared.named_file.NamedFile.{NamedFile}
 use Rattle.ads_outside.specs.SinkState.{SinkState}
 use Rattle.table_text.specs.TableText.{document_text}
 use Rattle.description_migration.specs.Migration.{ChangesSchemaAlone, IsMigrated, SCHEMA, migrated_text, second_schema}
-use Rattle.file_run.specs.Migrated.{HasMigrated, PutsMigration}
+use Rattle.file_run.specs.Migrated.{HasMigrated}
 use Rattle.run_tasks.specs.declared.file_task.FileTask.TheVariants as file_task
 use Rattle.run_tasks.specs.declared.status.Status.TheVariants as status
 use Rattle.run_tasks.specs.declared.task.Task.TheVariants as task

@@ -1,7 +1,7 @@
 -- What whole logs of a server promise, and what a service leaves in the wire and in the sink, by computation.
-use Rattle.std.specs.Prelude.{◌≡◌, refl, ℕ, ◌-◌, ◌^◌, List, [], ◌∷◌, ◌++◌, codes, bytes_eq, true, false, Bool, Option, Some, None, unwrap_or, ◌==◌}
-use Rattle.std.proofs.Common.{ap, arith, inl, inr, lit<, lit≤, sym}
-use Rattle.std.proofs.lemmas.Bool.{false≢true}
+use Rattle.std.specs.Prelude.{◌≡◌, refl, ℕ, ◌-◌, ◌^◌, List, [], ◌∷◌, ◌++◌, codes, bytes_eq, true, false, Bool, Option, Some, None, ◌==◌}
+use Rattle.std.proofs.Common.{ap, inl, inr, lit<, lit≤, sym}
+use Rattle.std.proofs.lemmas.Bool.{false≢true, le-leb}
 use Rattle.spec_plant.specs.PartTexts.{name_behind, comment_behind}
 use Rattle.spec_formats.specs.Groups.{group_in, group_of}
 use Rattle.spec_formats.specs.Header.{header_of}
@@ -45,15 +45,13 @@ use Rattle.spec_plant.specs.Trees.{trees_behind, trees_of}
 use Rattle.spec_plant.specs.World.{byte_at, with_byte}
 use Rattle.std.specs.Fmt.{digits}
 use Rattle.ads_outside.specs.declared.end.End.TheVariants as end
-use Rattle.ads_outside.specs.declared.event.Event.TheVariants as event
 use Rattle.ads_outside.specs.declared.listening.Listening.{Listening}
 use Rattle.ads_outside.specs.declared.moves.Move.{Move}
 use Rattle.ads_outside.specs.declared.moves.Move.TheVariants as move
-use Rattle.ads_outside.specs.declared.put.Put.TheVariants as put
 use Rattle.ads_outside.specs.SinkState.{SinkState}
 use Rattle.ads_outside.specs.Streams.{Streams, none_taken}
 use Rattle.ads_outside.specs.WireState.{WireHistory, end_answered, history_after, listened}
-use Rattle.spec_plant.specs.World.{Block, ByteName, SymbolPart}
+use Rattle.spec_plant.specs.World.{ByteName, SymbolPart}
 use Rattle.spec_machine.specs.Delivery.{is_cut_off, is_short_from}
 use Rattle.spec_machine.specs.Offers.{taken_of}
 use Rattle.spec_machine.specs.Play.{turns_of}
@@ -70,16 +68,15 @@ use Rattle.serve_loop.specs.ToldStreams.{grown_by}
 use Rattle.serve_loop.specs.TurnTaken.{IsCountOf, raised_by}
 use Rattle.run_tasks.specs.declared.status.Status.TheVariants as status
 use Rattle.run_tasks.specs.BuiltIn.{built_in}
-use Rattle.run_tasks.specs.Service.{OfRelay, OfServer, Service, counts_after, ending_after}
-use Rattle.run_tasks.specs.StatusTable.{number_of}
+use Rattle.run_tasks.specs.Service.{OfRelay, OfServer, Service, counts_after}
 use Rattle.run_tasks.specs.Verdict.{Serves as IsServed}
 use Rattle.file_run.specs.Promises.{ChangesByWritesIn, HoldsAcceptedIn, HoldsThroughoutIn, KeepsPromises, KeepsPromisesAtIn, KeepsPromisesIn}
 use Rattle.file_run.specs.Promises.{KeepsPromisesSoFarIn, PlayKeepsPromises}
 use Rattle.file_run.specs.ServiceEnds.{ServesBy}
-use Rattle.file_run.specs.Serving.{AddsToLog, AddsToStreams, CannotRun, CannotStart, CannotTell, EndsBehind, EndsService, MakesMoves, MovesKeepPromises}
-use Rattle.file_run.specs.Serving.{PrintsAt, RunsService, StopsBehind}
+use Rattle.file_run.specs.Serving.{AddsToLog, AddsToStreams, CannotRun, CannotStart, CannotTell, EndsService, MovesKeepPromises}
+use Rattle.file_run.specs.Serving.{RunsService, StopsBehind}
 use Rattle.run_examples.proofs.KeptExamples.{unused}
-use Rattle.spec_machine.proofs.Plant.{a, opened, piece, plant, q, step, start, tick, waves}
+use Rattle.spec_machine.proofs.Plant.{a, opened, piece, plant, q, start, tick, waves}
 
 -- connection 1 asks the state, and the response of 46 bytes is taken whole
 abbrev asks : Move
@@ -200,10 +197,10 @@ all_allowed : IsCountOf end.Budget 7 7
 all_allowed = refl
 
 one_too_few : IsCountOf end.Budget 6 7 → ⊥
-one_too_few e = omega (arith, e)
+one_too_few e = false≢true (ap (λ n. n == 7) e)
 
 all_and_ended : IsCountOf end.LinkFault 7 7 → ⊥
-all_and_ended e = omega (arith, e)
+all_and_ended e = false≢true (le-leb 8 7 e)
 
 -- what a wire that was never used is started with, and the relay of the built-in description on it
 abbrev starts_with : Listening
@@ -300,7 +297,7 @@ not_run = inr not_told
 
 -- a start that failed is counted
 not_counted : StopsBehind started started → ⊥
-not_counted s = omega (arith, s.stopped)
+not_counted s = false≢true (le-leb 1 0 s.stopped)
 
 -- what stands behind a log, and what each connection took in it
 adds : AddsToLog (Some (tick 1 ∷ [])) (Some (tick 1 ∷ took reply ∷ [])) (took reply ∷ [])

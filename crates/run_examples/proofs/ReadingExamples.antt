@@ -3,11 +3,8 @@ use Rattle.std.specs.Prelude.{◌≡◌, refl, ℕ, List, [], ◌∷◌, codes, 
 use Rattle.std.proofs.Common.{ap, inl, inr, sym}
 use Rattle.std.proofs.lemmas.Bool.{false≢true}
 use Rattle.ads_outside.specs.declared.named_file.NamedFile.{NamedFile}
-use Rattle.cli_words.specs.declared.client_words.PeerWords.{PeerWords}
-use Rattle.cli_words.specs.declared.client_words.PeerWords.TheVariants as peer
 use Rattle.run_tasks.specs.declared.client_task.ClientTask.TheVariants as ask
 use Rattle.run_tasks.specs.declared.file_task.FileTask.TheVariants as file_task
-use Rattle.run_tasks.specs.declared.status.Status.{Status}
 use Rattle.run_tasks.specs.declared.status.Status.TheVariants as status
 use Rattle.run_tasks.specs.declared.task.Task.{Task}
 use Rattle.run_tasks.specs.declared.task.Task.TheVariants as task

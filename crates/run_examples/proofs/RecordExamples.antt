@@ -1,12 +1,11 @@
 -- What a recording over a link leaves in the link, in the sink and in the keeper, by computation.
 use Rattle.std.specs.Prelude.{◌≡◌, refl, ℕ, ◌+◌, List, [], ◌∷◌, ◌++◌, codes, true, false, Bool, Option, Some, None, Result, Ok, Err}
-use Rattle.std.proofs.Common.{ap, arith, inl, inr, lit<, lit≤, sym}
-use Rattle.std.proofs.lemmas.Bool.{false≢true}
+use Rattle.std.proofs.Common.{ap, inl, inr, lit<, lit≤, sym}
+use Rattle.std.proofs.lemmas.Bool.{false≢true, le-leb}
 use Rattle.std.specs.Fmt.{digits}
 use Rattle.hex.specs.Hex.{encode_with}
 use Rattle.ads_base.specs.declared.no_memory.NoMemory.{NoMemory}
 use Rattle.ads_outside.specs.declared.connected.Connected.TheVariants as connected
-use Rattle.ads_outside.specs.declared.link_event.LinkEvent.TheVariants as came
 use Rattle.ads_outside.specs.declared.link_move.LinkMove.{LinkMove}
 use Rattle.ads_outside.specs.declared.link_move.LinkMove.TheVariants as link
 use Rattle.ads_outside.specs.declared.put.Put.TheVariants as put
@@ -48,14 +47,14 @@ use Rattle.client_loop.specs.declared.record_end.RecordEnd.{RecordEnd}
 use Rattle.client_loop.specs.declared.record_end.RecordEnd.TheVariants as record_end
 use Rattle.client_loop.specs.Called.{Calling, calling, over}
 use Rattle.client_loop.specs.LinkAfter.{history_over}
-use Rattle.client_loop.specs.Outlets.{Adds, AddsPart, IsLater, Outlets, outlets}
+use Rattle.client_loop.specs.Outlets.{Adds, AddsPart, IsLater, outlets}
 use Rattle.client_loop.specs.Recorded.{AfterRecord, NeverRecords, RecordsDone}
 use Rattle.sample_store.specs.declared.keeper_open.KeeperOpen.{KeeperOpen}
 use Rattle.sample_store.specs.declared.keeper_open.KeeperOpen.TheVariants as open_
 use Rattle.sample_store.specs.Keeper.{KeeperState}
-use Rattle.call_run.specs.CallUses.{KeeperUse, LinkUse, keeper_used, used}
+use Rattle.call_run.specs.CallUses.{LinkUse, keeper_used, used}
 use Rattle.call_run.specs.RecordRows.{AddsRows}
-use Rattle.call_run.specs.Recording.{BehindOpening, EndsRecorded, EndsRecording, LeavesLink, MOST_ROWS, PrintsRecorded, WantsMemoryFirst}
+use Rattle.call_run.specs.Recording.{BehindOpening, EndsRecording, MOST_ROWS, PrintsRecorded}
 use Rattle.run_tasks.specs.declared.status.Status.TheVariants as status
 use Rattle.ads_run.specs.RecordCauses.{IsEndOfRecording}
 
@@ -137,7 +136,7 @@ later : IsLater (outlets (sink []) (keeper [] f 1)) (outlets (sink text) (keeper
 later = record { sink = record { faults = lit≤ tt; wants = lit≤ tt }; keeper = lit≤ tt; names = refl }
 
 fell : IsLater (outlets (sink []) (keeper [] f 1)) (outlets (sink []) (keeper [] f 0)) → ⊥
-fell l = omega (arith, l.keeper)
+fell l = false≢true (le-leb 1 0 l.keeper)
 
 abbrev rows_in : Option (List Row) → List Row
 rows_in None = []
@@ -167,7 +166,7 @@ record RecordRows : Type 0 where
   done : RecordsDone Appends (asks 0) (Tells []) (Tells moves) new_link (outlets (sink []) (keeper [] f 0)) (outlets (sink text) (keeper (row ∷ []) f 0))
   ends : EndsRecording asks status.Done (sink []) (sink text) the_link (record { old = keeper [] [] 0; new = keeper (row ∷ []) f 0 })
   -- the link was not connected
-  not_connected : AfterRecord (Ok (record_end.Loop end.LinkFault)) (asks 0) (Tells []) (Tells (link.Refused here ∷ [])) old_link
+  refused : AfterRecord (Ok (record_end.Loop end.LinkFault)) (asks 0) (Tells []) (Tells (link.Refused here ∷ [])) old_link
       (record old_link { faults = 1 }) (outlets (sink []) (keeper [] f 0)) (outlets (sink []) (keeper [] f 0))
   keeper_touched : NeverRecords (asks 0) connected.Failed (Tells []) (Tells (link.Refused here ∷ [])) old_link (record old_link { faults = 1 })
       (outlets (sink []) (keeper [] f 0)) (outlets (sink []) (keeper (row ∷ []) f 0)) → ⊥
@@ -243,7 +242,7 @@ record_rows = record {
       },
     );
   });
-  not_connected = (
+  refused = (
     lit≤ tt,
     inl (record {
       begins = record { same = refl; silent = refl; told = λ o log e. ap (λ l. l ++ link.Refused here ∷ []) e };
@@ -269,15 +268,15 @@ cannot_open = inr (record {
 
 -- memory was wanting before it was
 wanted_first : EndsRecording asks status.Memory (sink []) (sink (codes "ads: memory\n")) no_link (record { old = keeper [] [] 0; new = keeper [] [] 0 })
-wanted_first = inl (record { same = refl; told = λ o log e. e }, (refl, ((put.All, refl), refl)))
+wanted_first = inl (record { same = refl; told = λ o log e. e }, (refl, (put.All, refl), refl))
 
 -- a table of so many rows takes no more; one with room is not told so
 full : BehindOpening (open_.Ready 9223372036854775808) (λ n. ⊥) (Unit {0}) status.StoreLimit (sink []) (sink (codes "ads: store limit\n"))
-full = inr (lit< tt, (tt, inl (refl, refl)))
+full = inr (lit< tt, tt, inl (refl, refl))
 
 not_full : BehindOpening (open_.Ready MOST_ROWS) (λ n. ⊥) (Unit {0}) status.StoreLimit (sink []) (sink (codes "ads: store limit\n")) → ⊥
 not_full (inl (room, goes_on)) = goes_on
-not_full (inr (more, rest)) = omega (arith, more)
+not_full (inr (more, still, printed)) = false≢true (le-leb 9223372036854775808 9223372036854775807 more)
 
 -- a keeper that is its own state
 handed_in : keeper_used (λ (k : KeeperState). k) (keeper [] [] 0) (keeper (row ∷ []) f 0) ≡ record { old = keeper [] [] 0; new = keeper (row ∷ []) f 0 }

@@ -1,6 +1,6 @@
 -- How each status ends the process, and what a run prints, by computation.
-use Rattle.std.specs.Prelude.{◌≡◌, refl, ℕ, List, [], ◌∷◌, ◌++◌, codes, map, take, Option, Some, None, bytes_eq}
-use Rattle.std.proofs.Common.{ap, arith, inl, inr, lit≤}
+use Rattle.std.specs.Prelude.{◌==◌, ◌≡◌, refl, ℕ, List, [], ◌∷◌, codes, map, Option, Some, None, bytes_eq}
+use Rattle.std.proofs.Common.{ap, inl, inr, lit≤}
 use Rattle.std.proofs.lemmas.Bool.{false≢true}
 use Rattle.std.specs.Fmt.{digits}
 use Rattle.ads_base.specs.declared.peer.Peer.TheVariants as peer
@@ -11,11 +11,11 @@ use Rattle.run_tasks.specs.declared.status.Status.{Status}
 use Rattle.run_tasks.specs.declared.status.Status.TheVariants as status
 use Rattle.run_tasks.specs.BeforeRun.{IsBeforeRun}
 use Rattle.run_tasks.specs.Ending.{Ending, line_alone}
-use Rattle.run_tasks.specs.EndsOr.{EndsOr, EndsOrBy, IsPrinted, PrintsBy, WantsMemory}
-use Rattle.run_tasks.specs.Prints.{PrintsEnding, PutsMemoryLine, PutsPartAndMemoryLine}
-use Rattle.run_tasks.specs.Service.{counts_and_line, ending_with, listening_line}
+use Rattle.run_tasks.specs.EndsOr.{PrintsBy, WantsMemory}
+use Rattle.run_tasks.specs.Prints.{PrintsEnding, PutsPartAndMemoryLine}
+use Rattle.run_tasks.specs.Service.{ending_with, listening_line}
 use Rattle.run_tasks.specs.StatusTable.{number_of, last_line_of}
-use Rattle.run_tasks.specs.Verdict.{Verdict, Ends, Serves, ended, prints}
+use Rattle.run_tasks.specs.Verdict.{Ends, ended, prints}
 
 -- every status, in the order of its number
 abbrev statuses : List Status
@@ -104,19 +104,16 @@ part_and_memory = (
   (put.All, refl),
 )
 
--- whether all was printed, by the number of the status
-abbrev number_told : ℕ
-number_told = number_of status.Usage
-
+-- but not with another status, nor another text
 another_number : PrintsEnding usage status.Done (sink [] 0 0) (sink (codes "ads: usage\n") 0 0) → ⊥
-another_number (inl (same, told)) = omega (arith, ap number_of same)
-another_number (inr (inl (same, told))) = omega (arith, ap number_of same)
-another_number (inr (inr (same, told))) = omega (arith, ap number_of same)
+another_number (inl (same, told)) = false≢true (ap (λ s. number_of s == 1) same)
+another_number (inr (inl (same, told))) = false≢true (ap (λ s. number_of s == 5) same)
+another_number (inr (inr (same, told))) = false≢true (ap (λ s. number_of s == 10) same)
 
 another_text : PrintsEnding usage status.Usage (sink [] 0 0) (sink (codes "ads: budget\n") 0 0) → ⊥
 another_text (inl (same, told)) = false≢true (ap (λ o. bytes_eq (held_in o) (codes "ads: usage\n")) told)
-another_text (inr (inl (same, told))) = omega (arith, ap number_of same)
-another_text (inr (inr (same, told))) = omega (arith, ap number_of same)
+another_text (inr (inl (same, told))) = false≢true (ap (λ s. number_of s == 5) same)
+another_text (inr (inr (same, told))) = false≢true (ap (λ s. number_of s == 10) same)
 
 -- the verdict is an ending, and it is printed; a service is none
 ends_so : PrintsBy (ended status.Usage) ⊥ status.Usage (sink [] 0 0) (sink (codes "ads: usage\n") 0 0)
@@ -131,4 +128,4 @@ nothing_called : WantsMemory status.Memory (sink [] 0 0) (sink (codes "ads: memo
 nothing_called = (refl, (put.All, refl))
 
 no_other_status : WantsMemory status.Done (sink [] 0 0) (sink (codes "ads: memory\n") 0 0) → ⊥
-no_other_status (same, put) = omega (arith, ap number_of same)
+no_other_status (same, put) = false≢true (ap (λ s. number_of s == 10) same)

@@ -1,8 +1,7 @@
 -- What the calls of a disk and of a keeper tell, by computation.
-use Rattle.std.specs.Prelude.{◌≡◌, refl, ℕ, List, [], ◌∷◌, ◌++◌, codes, length, Option, Some, None, Result, Ok, Err, bytes_eq, ◌==◌}
-use Rattle.std.proofs.Common.{ap, arith, lit≤, sym}
-use Rattle.std.proofs.lemmas.Bool.{false≢true}
-use Rattle.ads_outside.specs.WireState.{WireHistory}
+use Rattle.std.specs.Prelude.{◌≡◌, refl, ℕ, List, [], ◌∷◌, codes, length, Option, Some, None, Ok, bytes_eq, ◌==◌}
+use Rattle.std.proofs.Common.{ap}
+use Rattle.std.proofs.lemmas.Bool.{false≢true, le-leb}
 use Rattle.persist_store.specs.declared.disk_open.DiskOpen.TheVariants as open_
 use Rattle.persist_store.specs.declared.disk_read.DiskRead.TheVariants as read
 use Rattle.persist_store.specs.Disk.{MAX_READ, Opens, OpensName, OpensOnce, OpensOnly, Reads, bytes_at}
@@ -33,7 +32,7 @@ opened : Opens (open_.Ready 4) (Some four)
 opened = refl
 
 shorter : Opens (open_.Ready 3) (Some four) → ⊥
-shorter e = omega (arith, e)
+shorter e = false≢true (ap (λ n. n == 4) e)
 
 untold : Opens (open_.Ready 3) None
 untold = tt
@@ -43,13 +42,13 @@ reads : Reads (read.Bytes 3) (Some four) 1 (2 ∷ 3 ∷ 4 ∷ 99 ∷ 99 ∷ [])
 reads = (refl, refl)
 
 too_few : Reads (read.Bytes 2) (Some four) 1 (2 ∷ 3 ∷ 99 ∷ []) → ⊥
-too_few (count, bytes) = omega (arith, count)
+too_few (count, bytes) = false≢true (ap (λ n. n == 3) count)
 
 others : Reads (read.Bytes 2) (Some four) 1 (2 ∷ 4 ∷ []) → ⊥
 others (count, bytes) = false≢true (ap (λ l. bytes_eq l (2 ∷ 3 ∷ [])) bytes)
 
 no_more_than_room : Reads (read.Bytes 3) None 1 (2 ∷ 3 ∷ []) → ⊥
-no_more_than_room h = omega (arith, h)
+no_more_than_room h = false≢true (le-leb 3 2 h)
 
 failed : Reads read.Failed (Some four) 1 []
 failed = tt
@@ -104,4 +103,4 @@ stays : MarksStay Told 1 1
 stays = λ marks e. e
 
 not_told_more : MarksStay Told 0 1 → ⊥
-not_told_more s = omega (arith, s [] refl)
+not_told_more s = false≢true (ap (λ n. n == 1) (s [] refl))

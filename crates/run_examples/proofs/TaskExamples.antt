@@ -1,6 +1,7 @@
 -- Which task the words ask for, by computation.
-use Rattle.std.specs.Prelude.{◌≡◌, refl, ℕ, List, [], ◌∷◌, codes, length, map, true, false, Option, Some, None, replicate, ◌==◌}
-use Rattle.std.proofs.Common.{ap, arith, lit≤}
+use Rattle.std.specs.Prelude.{◌≡◌, refl, ℕ, List, [], ◌∷◌, codes, map, true, false, Some, None, replicate}
+use Rattle.std.proofs.lemmas.Bool.{false≢true, le-leb}
+use Rattle.std.proofs.Common.{lit≤}
 use Rattle.std.specs.Fmt.{digits}
 use Rattle.ads_base.specs.declared.net_id.NetId.{NetId}
 use Rattle.cli_words.specs.declared.client_words.ClientWords.{ClientWords}
@@ -11,22 +12,20 @@ use Rattle.cli_words.specs.declared.command.Command.TheVariants as command
 use Rattle.cli_words.specs.Words.{parted, kind_of, divided, value_of}
 use Rattle.cli_words.specs.Values.{number_of, stopped_bytes, net_id_of, address_port, address_of, file_of, text_of}
 use Rattle.cli_words.specs.Forms.{form_of, options_of, are_among}
-use Rattle.cli_words.specs.Commands.{file_in, number_in, number_at, net_at, address_at, load_in, get_in, texts_in, server_of, serve_in, two_texts}
+use Rattle.cli_words.specs.Commands.{file_in, number_in, number_at, net_at, address_at, load_in, get_in, texts_in, server_of, serve_in}
 use Rattle.cli_words.specs.Commands.{port_of, peer_of, client_of, command_in, command_of}
 use Rattle.run_tasks.specs.declared.client_task.ClientTask.{ClientTask}
 use Rattle.run_tasks.specs.declared.client_task.ClientTask.TheVariants as ask
 use Rattle.run_tasks.specs.declared.file_task.FileTask.TheVariants as file_task
 use Rattle.run_tasks.specs.declared.record_task.RecordTask.{RecordTask}
-use Rattle.run_tasks.specs.declared.task.Task.{Task}
 use Rattle.run_tasks.specs.declared.task.Task.TheVariants as task
-use Rattle.run_tasks.specs.Asking.{LocalCalling, CLIENT_PORT, asked_address, call_asked, local_calling, own_address, peer_of_local}
+use Rattle.run_tasks.specs.Asking.{asked_address, call_asked, local_calling, own_address, peer_of_local}
 use Rattle.run_tasks.specs.BuiltIn.{built_in}
-use Rattle.run_tasks.specs.Fits.{FitsClientTask, FitsFileTask, FitsRecord, FitsTask}
-use Rattle.run_tasks.specs.RecordAsked.{call_recorded, local_recording, recording_to, watching_asked}
+use Rattle.run_tasks.specs.Fits.{FitsClientTask, FitsTask}
+use Rattle.run_tasks.specs.RecordAsked.{call_recorded, local_recording, recording_to}
 use Rattle.run_tasks.specs.Tasks.{asked_task, task_of_ask, task_of_command, task_of_load, task_of_record}
-use Rattle.client_loop.specs.Called.{Calling, calling}
-use Rattle.client_replies.specs.Sound.{AreShort, MAX_TEXT}
-use Rattle.spec_client.specs.Calls.{Call, Info, State, Control, Get, Set, Symbols, Watch, Show, Record}
+use Rattle.client_loop.specs.Called.{calling}
+use Rattle.spec_client.specs.Calls.{Info, State, Control, Get, Set, Symbols, Watch, Show, Record}
 
 -- 1.2.3.4.5.6 asks a server at localhost:48898, whose NetId is 5.1.2.3.1.1, or that of the description `p`
 abbrev pub me : NetId
@@ -185,7 +184,7 @@ fits_question : FitsTask (Some (task.Ask (ask.Watch (codes "a") true 0 3) client
 fits_question = ((lit≤ tt, lit≤ tt, lit≤ tt, lit≤ tt), lit≤ tt)
 
 too_great_a_load : FitsTask (Some (task.OfFiles (file_task.Load 100001))) → ⊥
-too_great_a_load h = omega (arith, h)
+too_great_a_load h = false≢true (le-leb 100001 100000 h)
 
 no_sample_asked : FitsClientTask (ask.Watch (codes "a") true 0 0) → ⊥
-no_sample_asked (text, cycle, some, most) = omega (arith, some)
+no_sample_asked (text, cycle, some, most) = false≢true (le-leb 1 0 some)

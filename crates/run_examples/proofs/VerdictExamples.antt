@@ -1,5 +1,5 @@
 -- What words and files lead to, by computation.
-use Rattle.std.specs.Prelude.{◌≡◌, refl, ℕ, List, [], ◌∷◌, ◌++◌, codes, Option, Some, None, Ok, Err}
+use Rattle.std.specs.Prelude.{◌≡◌, refl, ℕ, List, [], ◌∷◌, ◌++◌, codes, Some}
 use Rattle.toml.proofs.OnLiterals.{toml_on_literals}
 use Rattle.hex.specs.Hex.{decode_pairs}
 use Rattle.hex.proofs.OnLiterals.{hex_on_literals}
@@ -15,7 +15,7 @@ use Rattle.spec_rules.specs.TypeRules.{wrong_type_name, wrong_part}
 use Rattle.spec_rules.specs.SizeRules.{wrong_size}
 use Rattle.spec_rules.specs.PortRules.{wrong_port, wrong_upload}
 use Rattle.spec_rules.specs.SymbolRules.{wrong_name, wrong_type, wrong_place, wrong_content, wrong_signal}
-use Rattle.spec_rules.specs.TextVerdict.{TextVerdict, Described, Breaks, NoDocument, text_verdict}
+use Rattle.spec_rules.specs.TextVerdict.{Described, Breaks, NoDocument, text_verdict}
 use Rattle.ads_outside.specs.declared.event.Event.TheVariants as event
 use Rattle.ads_outside.specs.declared.named_file.NamedFile.{NamedFile}
 use Rattle.spec_machine.specs.Script.{kind_of, script_after}
@@ -37,7 +37,7 @@ use Rattle.run_tasks.specs.Asking.{asked_address, local_calling, own_address}
 use Rattle.run_tasks.specs.BuiltIn.{built_in}
 use Rattle.run_tasks.specs.KeepAsked.{keeping}
 use Rattle.run_tasks.specs.RecordAsked.{local_recording, recording_to}
-use Rattle.run_tasks.specs.Service.{OfRelay, OfServer}
+use Rattle.run_tasks.specs.Service.{OfRelay, OfServer, ServedMachine}
 use Rattle.run_tasks.specs.Tasks.{task_of_command}
 use Rattle.run_tasks.specs.Verdict.{Verdict, Serves, Calls, CallsLocally, Keeps, Records, RecordsLocally, ended, prints, verdict_of, verdict_of_task}
 use Rattle.run_examples.proofs.TaskExamples.{client, client_here, far, what}
@@ -62,6 +62,14 @@ lines = Happens (event.Opened 1) ∷ Happens (event.Tick 9) ∷ []
 abbrev verdict_on : Task → Verdict
 verdict_on t = verdict_of_task [] (Some t) files files
 
+-- the service of `p` at that address, with at most seven events
+abbrev served_by : ServedMachine → Verdict
+served_by machine = Serves (record {
+  start = record { listen = codes "127.0.0.1:48898"; name = codes "p"; first = text };
+  machine = machine;
+  limit = 7;
+})
+
 record VerdictRows : Type 0 where
   -- the description that the text writes
   described : text_verdict 0 text ≡ Described built_in
@@ -83,16 +91,8 @@ record VerdictRows : Type 0 where
   -- over a store the play decides
   kept : verdict_on (task.Keep (codes "p") (codes "s") (codes "f")) ≡ Keeps (keeping built_in [] lines)
   -- a service
-  served : verdict_on (task.Serve (codes "p") (codes "127.0.0.1:48898") 7) ≡ Serves (record {
-    start = record { listen = codes "127.0.0.1:48898"; name = codes "p"; first = text };
-    machine = OfServer strict built_in [];
-    limit = 7;
-  })
-  relayed : verdict_on (task.RelayServe (codes "p") (codes "127.0.0.1:48898") 7) ≡ Serves (record {
-    start = record { listen = codes "127.0.0.1:48898"; name = codes "p"; first = text };
-    machine = OfRelay built_in;
-    limit = 7;
-  })
+  served : verdict_on (task.Serve (codes "p") (codes "127.0.0.1:48898") 7) ≡ served_by (OfServer strict built_in [])
+  relayed : verdict_on (task.RelayServe (codes "p") (codes "127.0.0.1:48898") 7) ≡ served_by (OfRelay built_in)
   not_served : verdict_on (task.Serve (codes "r") (codes "127.0.0.1:48898") 7) ≡ ended (status.BadDescription 2 0)
   -- a client calls over the link, with no file, or over the server of the description
   called : verdict_on (task.Ask ask.State client)

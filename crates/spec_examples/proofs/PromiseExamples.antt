@@ -1,5 +1,5 @@
 -- What is promised of a move, of a notification and of handles over a whole log, by computation.
-use Rattle.std.specs.Prelude.{◌≡◌, refl, ℕ, List, [], ◌∷◌, ◌++◌, codes, bytes_eq, true, false, Bool, Option, Some, None, unwrap_or, replicate, take}
+use Rattle.std.specs.Prelude.{◌≡◌, refl, ℕ, List, [], ◌∷◌, ◌++◌, codes, bytes_eq, true, false, Bool, None, unwrap_or, replicate, take}
 use Rattle.std.proofs.Common.{ap, inl, inr, lit<, lit≤, sym}
 use Rattle.std.proofs.lemmas.Bool.{false≢true, le-leb}
 use Rattle.toml.proofs.OnLiterals.{toml_on_literals}
@@ -45,32 +45,29 @@ use Rattle.spec_plant.specs.Spelling.{type_text}
 use Rattle.spec_plant.specs.Trees.{trees_behind, trees_of}
 use Rattle.spec_plant.specs.World.{byte_at, with_byte}
 use Rattle.std.specs.Fmt.{digits}
-use Rattle.ads_outside.specs.declared.event.Event.TheVariants as event
 use Rattle.ads_outside.specs.declared.moves.Move.{Move}
-use Rattle.ads_outside.specs.declared.moves.Move.TheVariants as move
 use Rattle.spec_formats.specs.Request.{Request, Read as ReadBytes, Write, WriteControl}
-use Rattle.spec_plant.specs.Description.{Control, Process, Rights}
+use Rattle.spec_plant.specs.Description.{Control, Process}
 use Rattle.spec_plant.specs.World.{PlantPort, Block, plant_port}
 use Rattle.spec_plant.proofs.Plant.{axis_type, count_symbol, port_with, symbols_with, title_symbol}
 use Rattle.spec_rules.specs.TextVerdict.{text_verdict}
 use Rattle.spec_machine.specs.Access.{Addressed}
-use Rattle.spec_machine.specs.Acts.{Outcome}
-use Rattle.spec_machine.specs.Client.{Client, Place, new_client}
-use Rattle.spec_machine.specs.Connection.{Connection, fresh_connection}
-use Rattle.spec_machine.specs.Handles.{HandleStatus, Live, Released, kept_status}
+use Rattle.spec_machine.specs.Client.{Client, new_client}
+use Rattle.spec_machine.specs.Connection.{fresh_connection}
+use Rattle.spec_machine.specs.Handles.{Live, Released, kept_status}
 use Rattle.spec_machine.specs.MachineState.{MachineState}
 use Rattle.spec_machine.specs.Profile.{strict}
 use Rattle.spec_machine.specs.Watches.{Watch, Cyclic, Mode}
 use Rattle.spec_machine.specs.World.{World, setup_of}
 use Rattle.spec_machine.specs.Writes.{Asker}
 use Rattle.spec_laws.specs.Histories.{handle_history, handle_events_of_event}
-use Rattle.spec_server.specs.Server.{server_after_in, server_output_in}
-use Rattle.spec_promises.specs.Asked.{Asked, asked_in_turn, asked_of_move, asked_of_packets, names_written, outcome_of_asked, question_of, requests_of}
+use Rattle.spec_server.specs.Server.{server_after_in}
+use Rattle.spec_promises.specs.Asked.{Asked, asked_in_turn, asked_of_move, asked_of_packets, outcome_of_asked, question_of, requests_of}
 use Rattle.spec_promises.specs.KeptHandles.{HandlesAreHistoryIn, KeepsHandlesIn}
 use Rattle.spec_promises.specs.Notified.{GivesAsAsked, IsByCycle, NotifiesAfterIn, TickSeen, life_of, watch_at}
-use Rattle.spec_promises.specs.Written.{ChangesByRequests, HoldsBytes, HoldsWritesIn, IsControlled, IsDone, IsReadBack, IsWritten, StatesAreSet}
+use Rattle.spec_promises.specs.Written.{ChangesByRequests, HoldsBytes, HoldsWritesIn, IsWritten, StatesAreSet}
 use Rattle.spec_promises.specs.Written.{asked_at_move, memory_at}
-use Rattle.spec_machine.proofs.Plant.{ENGINEER, added, named, opened, piece, plant, q, reload, start, tick, waves}
+use Rattle.spec_machine.proofs.Plant.{ENGINEER, added, named, opened, piece, plant, q, start, tick, waves}
 
 -- connection 1 has the handle 1 of `Main.count`, and the handle 2 of `Flags.bits`, which it gave back
 abbrev before : List Move

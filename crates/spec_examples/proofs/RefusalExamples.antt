@@ -1,7 +1,7 @@
 -- What a refusal leaves, and what an access by a handle that is not live comes to, by computation.
-use Rattle.std.specs.Prelude.{◌≡◌, refl, ℕ, ◌+◌, List, [], ◌∷◌, ◌++◌, codes, bytes_eq, map, true, false, Bool, Option, Some, None, Ok, Err, unwrap_or}
+use Rattle.std.specs.Prelude.{◌≡◌, refl, ℕ, ◌+◌, List, [], ◌∷◌, ◌++◌, codes, bytes_eq, map, true, false, Bool, Some, None, Ok, Err, unwrap_or}
 use Rattle.std.specs.Prelude.{replicate, ◌==◌, drop, take, Result}
-use Rattle.std.proofs.Common.{ap, inl, inr, lit≤, sym}
+use Rattle.std.proofs.Common.{ap, inl, inr, sym}
 use Rattle.std.proofs.lemmas.Bool.{false≢true}
 use Rattle.toml.proofs.OnLiterals.{toml_on_literals}
 use Rattle.spec_plant.specs.PartTexts.{name_behind, comment_behind}
@@ -46,30 +46,27 @@ use Rattle.spec_plant.specs.Spelling.{type_text}
 use Rattle.spec_plant.specs.Trees.{trees_behind, trees_of}
 use Rattle.spec_plant.specs.World.{byte_at, with_byte}
 use Rattle.std.specs.Fmt.{digits}
-use Rattle.ads_outside.specs.declared.moves.Move.{Move}
-use Rattle.signals.specs.Wave.{Wave}
-use Rattle.spec_formats.specs.Groups.{ValueByHandle, value_by_handle}
+use Rattle.spec_formats.specs.Groups.{value_by_handle}
 use Rattle.spec_formats.specs.Request.{Read as ReadBytes, Write}
 use Rattle.spec_plant.specs.Description.{Control, Description, Process, Read}
-use Rattle.spec_plant.specs.World.{Block, PlantPort, plant_port}
+use Rattle.spec_plant.specs.World.{PlantPort, plant_port}
 use Rattle.spec_plant.proofs.Plant.{axis_type, count_symbol, port_with, symbols_with, title_symbol}
 use Rattle.spec_rules.specs.TextVerdict.{text_verdict}
-use Rattle.spec_machine.specs.Acts.{Act, Refusal, writes_of_acts}
-use Rattle.spec_machine.specs.Client.{Client, Place, new_client}
-use Rattle.spec_machine.specs.Connection.{Connection, fresh_connection}
-use Rattle.spec_machine.specs.Decisions.{Decision, AmsError, EndConnection, NoAnswer, Perform}
+use Rattle.spec_machine.specs.Acts.{Act, Refusal}
+use Rattle.spec_machine.specs.Client.{Client, new_client}
+use Rattle.spec_machine.specs.Connection.{fresh_connection}
+use Rattle.spec_machine.specs.Decisions.{Decision, AmsError, Perform}
 use Rattle.spec_machine.specs.Device.{BreaksRule, NoDocument}
-use Rattle.spec_machine.specs.Handles.{HandleStatus, Live, Never, Outdated, Released, kept_status}
+use Rattle.spec_machine.specs.Handles.{Live, Never, Outdated, Released}
 use Rattle.spec_machine.specs.MachineState.{MachineState}
-use Rattle.spec_machine.specs.Profile.{strict}
 use Rattle.spec_machine.specs.World.{World, setup_of}
 use Rattle.spec_machine.specs.Writes.{Asker}
-use Rattle.spec_laws.specs.Refusals.{IsRefused, IsTurnedAway, LeavesAll, RefusedReloadCounts, RefusesAnyForm, ResultChangesNothing}
-use Rattle.spec_laws.specs.Refusals.{TurnedAwayChangesNothing, dead_code, result_told}
+use Rattle.spec_laws.specs.Refusals.{IsTurnedAway, LeavesAll, RefusesAnyForm}
+use Rattle.spec_laws.specs.Refusals.{dead_code, result_told}
 use Rattle.spec_laws.specs.Soundness.{ReadsAccepted}
-use Rattle.spec_server.specs.Server.{read_description, server, server_after_in, server_output_in}
-use Rattle.spec_server.specs.ServerLaws.{ReadsDescriptions, ServerLeavesAllAtRefusals, ServerRefuses, ServerRefusesDeadHandles}
-use Rattle.spec_machine.proofs.Plant.{ENGINEER, VIEWER, answer_to, named, opened, packet_from, piece, plant, q, reading, reload, start, step, waves}
+use Rattle.spec_server.specs.Server.{read_description}
+use Rattle.spec_server.specs.ServerLaws.{ServerLeavesAllAtRefusals, ServerRefuses, ServerRefusesDeadHandles}
+use Rattle.spec_machine.proofs.Plant.{ENGINEER, VIEWER, answer_to, named, opened, packet_from, piece, plant, q, reading, reload, start, step}
 use Rattle.spec_frames.proofs.Hex.{hex}
 
 -- connection 1 has the handle 1 of `Main.count` and the handle 2 of `Main.title`, and gave back the handle 3 of `Flags.bits`
@@ -168,7 +165,7 @@ record RefusalRows : Type 0 where
       ≡ Some 0x710 ∷ Some 0x710 ∷ Some 0x711 ∷ None ∷ []
   released_read : act_of (setup_of before.world) client engineer (ReadBytes value_by_handle 3 1) ≡ Refusal 0x710
   outdated_read : act_of (setup_of after.world) client_after_it engineer (ReadBytes value_by_handle 2 1) ≡ Refusal 0x711
-  without_right : act_of (setup_of before.world) client viewer (Write value_by_handle 3 (1 ∷ [])) ≡ Refusal 0x706
+  without_right : act_of (setup_of before.world) client viewer (Write value_by_handle 3 (1 ∷ [])) ≡ Refusal 0x704
   never_promised : ServerRefusesDeadHandles → ServerRefuses (setup_of before.world) client engineer 4 0x710
   released_promised : ServerRefusesDeadHandles → ServerRefuses (setup_of before.world) client engineer 3 0x710
   outdated_promised : ServerRefusesDeadHandles → ServerRefuses (setup_of after.world) client_after_it engineer 2 0x711
