@@ -31,3 +31,4 @@ pub mod TakeLemmas
 pub mod NumberTests
 pub mod NoteParts
 pub mod PlainLemmas
+pub mod HeaderWords
