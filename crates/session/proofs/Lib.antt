@@ -32,3 +32,4 @@ pub mod NumberTests
 pub mod NoteParts
 pub mod PlainLemmas
 pub mod HeaderWords
+pub mod DataLemmas
