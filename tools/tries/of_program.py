@@ -1,5 +1,5 @@
-"""The programs themselves, as processes over real files: a store and a recording that a second start goes on with, the number of each status, what is long, and what
-is taken of memory and of the processor."""
+"""The programs themselves, as processes over real files: a store and a recording that a second start goes on with, the number of each status,
+what is long, and what is taken of memory and of the processor."""
 import os
 import resource
 import shutil
@@ -28,7 +28,8 @@ def write_of(data):
 
 def frame(command, number, payload):
     """A frame of that client, in hexadecimal digits."""
-    ams = bytes.fromhex(ADDRESSES) + b"".join(n.to_bytes(size, "little") for n, size in ((command, 2), (4, 2), (len(payload), 4), (0, 4), (number, 4))) + payload
+    fields = (command, 2), (4, 2), (len(payload), 4), (0, 4), (number, 4)
+    ams = bytes.fromhex(ADDRESSES) + b"".join(n.to_bytes(size, "little") for n, size in fields) + payload
     return (bytes(2) + len(ams).to_bytes(4, "little") + ams).hex()
 
 
@@ -91,9 +92,10 @@ def daemon_ends(program, folder):
     daemon = os.path.join(os.path.dirname(program), "..", "..", "adsd", "out", "adsd")
     if not os.path.exists(daemon):
         return 0
-    put(folder, "many.toml", "description = \"plant.toml\"\nstore = \"nowhere/store\"\n")
+    put(folder, "stored.toml", "description = \"plant.toml\"\nstore = \"nowhere/store\"\n")
     put(folder, "wrong.toml", "description = \"plant.toml\"\nlisten = 7\n")
-    asked = [(0, ("--version",)), (1, ()), (1, ("--no-such-option",)), (1, ("wrong.toml",)), (2, ("overlap.toml",)), (4, ("nowhere.toml",)), (14, ("many.toml",))]
+    asked = [(0, ("--version",)), (1, ()), (1, ("--no-such-option",)), (1, ("wrong.toml",)), (2, ("overlap.toml",)), (4, ("nowhere.toml",)),
+             (14, ("stored.toml",))]
     for wanted, words in asked:
         it = subprocess.run([daemon, *words], cwd=folder, stdin=subprocess.DEVNULL, stdout=subprocess.PIPE, stderr=subprocess.PIPE, timeout=60)
         see(it.returncode == wanted, f"adsd {' '.join(words)}: status {it.returncode} in place of {wanted}: {it.stdout[-200:]!r} {it.stderr[-200:]!r}")
@@ -218,4 +220,5 @@ def tried(program, _size):
         gives_room_back(program, folder)
         reads_much_at_once(program, folder)
     serves(program)
-    return f"a store and a recording go on at a second start; {count} endings by their numbers; long pieces and bodies; room; a server and a client as processes"
+    return (f"a store and a recording go on at a second start; {count} endings by their numbers; long pieces and bodies; room; "
+            "a server and a client as processes")
