@@ -16,6 +16,7 @@ use mio::event::Event;
 use mio::net::TcpStream;
 use std::alloc::Global;
 use std::collections::VecDeque;
+use std::mem;
 use std::net::SocketAddr;
 
 /// How many connections there are at most.
@@ -36,6 +37,8 @@ pub(crate) struct Peers {
     // Of those to be sent to, and of those of which something is to be told. A number may stand there in vain.
     pub(crate) to_send: VecDeque<u32>,
     pub(crate) to_tell: VecDeque<u32>,
+    // Room of a piece that was served, for the next one.
+    pub(crate) spare: Octets,
     ghost few: { vec_len connections ≤ 64 },
 }
 
@@ -58,6 +61,7 @@ impl Peers {
             turns: 0,
             to_send: VecDeque::new(alloc),
             to_tell: VecDeque::new(alloc),
+            spare: Octets::new(alloc),
         }
     }
 
@@ -397,7 +401,7 @@ impl Peers {
         if !served {
             return None;
         }
-        match Octets::copy_of(self.alloc, bytes) {
+        match copied_in(self.alloc, &mut self.spare, bytes) {
             Ok(piece) => Some(Turn::Piece(number, piece)),
             Err(NoMemory) => Some(Turn::Memory),
         }
@@ -544,4 +548,14 @@ fn read_at(connections: &mut Vec<Connection>, place: usize, buffer: &mut [u8], n
         Some(connection) => connection.read(buffer, now),
         None => Came::Nothing,
     }
+}
+
+// A copy of some bytes, in the spare room.
+fn copied_in(alloc: Global, spare: &mut Octets, bytes: &[u8]) -> Result<Octets, NoMemory>
+    ensures { IfOk result (λ piece. piece ≡ bytes.now) }
+{
+    let mut piece = mem::replace(spare, Octets::new(alloc));
+    piece.cut(0);
+    piece.put(alloc, bytes)?;
+    Ok(piece)
 }

@@ -205,6 +205,20 @@ impl<R: Net + Clock + SystemFiles + Eprint + Drop> Wire for RealWire<R> {
         }
     }
 
+    fn take_back(&mut self, event: Event) {
+        let bytes = match event {
+            Event::Piece(_, bytes) => bytes,
+            Event::Opened(_)
+            | Event::Closed(_)
+            | Event::Tick(_)
+            | Event::Reload(_)
+            | Event::Writable(_) => return,
+        };
+        if let Some(sockets) = &mut self.sockets {
+            sockets.take_back(bytes);
+        }
+    }
+
     fn offer(&mut self, conn: u32, bytes: &[u8]) -> Offer {
         let taken = match &mut self.sockets {
             Some(sockets) => sockets.offer(conn, bytes),

@@ -17,7 +17,7 @@ use crate::tick_clock::TickClock;
 use crate::turn::Turn;
 use crate::vanished::watch_over;
 use crate::wall_clock::moment;
-use ads_base::NoMemory;
+use ads_base::{NoMemory, Octets};
 use mio::event::Event;
 use mio::{Events, Interest, Poll, Token};
 use std::alloc::Global;
@@ -117,6 +117,11 @@ impl Sockets {
     #[inline(always)]
     pub(crate) fn offer_run(&mut self, number: u32, run: &[u8]) -> bool {
         self.peers.offer_run(number, run)
+    }
+
+    /// A piece was served: its room is there for the next one.
+    pub(crate) fn take_back(&mut self, piece: Octets) {
+        self.peers.spare = piece;
     }
 
     /// The server is done with a connection: what waits for it is still sent.

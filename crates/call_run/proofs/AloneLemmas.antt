@@ -15,7 +15,9 @@ use Rattle.client_loop.specs.Outlets.{outlets}
 use Rattle.client_loop.specs.Recorded.{AfterRecord}
 use Rattle.client_loop.specs.declared.record_end.RecordEnd.TheVariants as recorded
 use Rattle.run_tasks.specs.declared.status.Status.{Status}
+use Rattle.run_tasks.specs.declared.status.Status.TheVariants as status
 use Rattle.run_tasks.specs.Ending.{Ending}
+use Rattle.run_tasks.specs.StatusTable.{last_line_of}
 use Rattle.run_tasks.specs.Prints.{PutsMemoryLine, PrintsEnding}
 use Rattle.run_tasks.proofs.ReadingLemmas.{rose_from}
 use Rattle.sample_store.specs.Keeper.{KeeperState}
@@ -92,7 +94,7 @@ pub prints_from : (e : Ending) (s : Status) (out between new : SinkState) → Ap
 prints_from e s out between new none later (inl h) = inl (h.0, puts_from put.All out between new e.text none later h.1)
 prints_from e s out between new none later (inr (inl h)) = inr (inl (h.0, puts_from put.Failed out between new e.text none later h.1))
 prints_from e s out between new none later (inr (inr (is, inl h))) =
-    inr (inr (is, inl (h.0, puts_from h.0 out between new _ none later h.1)))
+    inr (inr (is, inl (h.0, puts_from h.0 out between new (last_line_of status.Memory) none later h.1)))
 prints_from e s out between new none later (inr (inr (is, inr h))) =
     inr (inr (is, inr (
       h.0,

@@ -10,7 +10,7 @@ use Rattle.spec_client.specs.Client.{Client, client_after_issue}
 use Rattle.spec_client.specs.Hearing.{Hearing, next_hearing, hearings_left}
 use Rattle.spec_client.specs.Calls.{Call, Watching, Record}
 use Rattle.spec_client.specs.Stages.{Output, ToSend, ToPrint, ToKeep, Recorded, Recording, RecordWait, ForEntry, ForNotification, ForSamples, ForDeletion}
-use Rattle.spec_client.specs.Stages.{Stage, Records, FinishedRecording, Progress}
+use Rattle.spec_client.specs.Stages.{Stage, Records, FinishedRecording, Progress, progress}
 use Rattle.spec_client.specs.Recordings.{has_ended, handles_of, is_recorded, has_enough, after_deletion, after_samples, with_next_name, recording_begun}
 use Rattle.spec_client.specs.Recordings.{after_record_entry, with_notification, after_notification, gone_on, with_sample, recorded_at}
 use Rattle.spec_client.specs.Recordings.{after_record_sample, with_end, after_record_end}
@@ -27,13 +27,13 @@ use Rattle.spec_client_laws.proofs.HearingCases.{if_both}
 use Rattle.client_loop.specs.Due.{turns_after, steps_last, text_up_to, call_steps_last, call_text_up_to}
 
 -- what outputs print
-prints_in : List Output → List ℕ
+abbrev prints_in : List Output → List ℕ
 prints_in [] = []
 prints_in (ToPrint text ∷ os) = text ++ prints_in os
 prints_in (o ∷ os) = prints_in os
 
 -- a recording that goes on, or has ended
-is_recording : Stage → Bool
+abbrev is_recording : Stage → Bool
 is_recording (Records wait r) = true
 is_recording (FinishedRecording end entries) = true
 is_recording stage = false
@@ -94,7 +94,8 @@ silent_sample wait r time bytes (Some n) =
 
 silent_end : (wait : RecordWait) (r : Recording) (handle : ℕ) → IsSilent (after_record_end wait r handle)
 silent_end wait r handle =
-    if_both IsSilent (is_recorded r handle) _ _ (λ t. silent_on wait (with_end r handle)) (λ t. record { stage = refl; outputs = refl })
+    if_both IsSilent (is_recorded r handle) (gone_on wait (with_end r handle)) (progress (Records wait r) [])
+    (λ t. silent_on wait (with_end r handle)) (λ t. record { stage = refl; outputs = refl })
 
 silent_heard : (stage : Stage) (h : Heard) → is_recording stage ≡ true → is_over stage ≡ false → IsSilent (after_heard stage h)
 unfolding after_heard after_sample after_end
@@ -221,7 +222,18 @@ IsRecord call = ⊥
 
 begun_silent : (me peer : AmsAddress) (call : Call) → IsRecord call → SilentRunner (new_runner me peer call)
 unfolding begun
-begun_silent me peer (Record names watching first) is = let s = silent_next _ names in record { stage = s.stage; outputs = s.outputs }
+begun_silent me peer (Record names watching first) is =
+    let first_of : Recording = record {
+      watching = watching;
+      first = first;
+      names = names;
+      entries = [];
+      notifications = [];
+      ended = [];
+      kept = 0;
+    } in
+    let s = silent_next first_of names in
+    record { stage = s.stage; outputs = s.outputs }
 begun_silent me peer call is = absurd is
 
 begins : (me peer : AmsAddress) (call : Call) (now : ℕ) → IsRecord call → SilentCall (conversation_begun me peer call now)

@@ -313,6 +313,10 @@ impl<W: Wire + Drop> Wire for Routed<W> {
         }
     }
 
+    fn take_back(&mut self, event: Event) {
+        self.wire.take_back(event);
+    }
+
     #[tactic(auto, using(crate::proofs::SeenLemmas::takes_seen, crate::proofs::SeenLemmas::wants_later))]
     fn offer(&mut self, conn: u32, bytes: &[u8]) -> Offer
         requires { length bytes.now < 2 ^ 32 }

@@ -7,6 +7,7 @@ use Rattle.ads_base.specs.declared.peer.Peer.TheVariants as peer
 use Rattle.ads_outside.specs.declared.end.End.TheVariants as end
 use Rattle.ads_outside.specs.declared.put.Put.TheVariants as put
 use Rattle.ads_outside.specs.SinkState.{SinkState}
+use Rattle.spec_formats.specs.Codes.{text_in}
 use Rattle.run_tasks.specs.declared.status.Status.{Status}
 use Rattle.run_tasks.specs.declared.status.Status.TheVariants as status
 use Rattle.run_tasks.specs.BeforeRun.{IsBeforeRun}
@@ -34,7 +35,7 @@ lines = [] ∷ codes "ads: usage\n" ∷ codes "ads: description rule 12 item 1\n
     ∷ codes "ads: store fault\n" ∷ codes "ads: store limit\n" ∷ codes "ads: keeper fault\n" ∷ []
 
 last_lines : map last_line_of statuses ≡ lines
-unfolding digits
+unfolding digits text_in
 last_lines = refl
 
 -- a text that is no TOML document

@@ -12,7 +12,7 @@ use Rattle.cli_words.specs.declared.command.Command.TheVariants as command
 use Rattle.cli_words.specs.Words.{parted, kind_of, divided, value_of}
 use Rattle.cli_words.specs.Values.{number_of, stopped_bytes, net_id_of, address_port, address_of, file_of, text_of}
 use Rattle.cli_words.specs.Forms.{form_of, options_of, are_among}
-use Rattle.cli_words.specs.Commands.{file_in, number_in, number_at, net_at, address_at, load_in, get_in, texts_in, server_of, serve_in}
+use Rattle.cli_words.specs.Commands.{file_in, number_in, number_at, net_at, address_at, load_in, get_in, name_in, server_of, serve_in}
 use Rattle.cli_words.specs.Commands.{port_of, peer_of, client_of, command_in, command_of}
 use Rattle.run_tasks.specs.declared.client_task.ClientTask.{ClientTask}
 use Rattle.run_tasks.specs.declared.client_task.ClientTask.TheVariants as ask
@@ -46,8 +46,8 @@ client_here = client_at 851 (peer.Local (codes "p"))
 -- get Main.count --to localhost:48898 --netid 5.1.2.3.1.1 --me 1.2.3.4.5.6
 read_words : asked_task (codes "get" ∷ codes "Main.count" ∷ codes "--to" ∷ codes "localhost:48898" ∷ codes "--netid" ∷ codes "5.1.2.3.1.1"
     ∷ codes "--me" ∷ codes "1.2.3.4.5.6" ∷ []) ≡ Some (task.Ask (ask.Get (codes "Main.count")) client)
-unfolding command_of form_of divided kind_of parted are_among options_of value_of command_in get_in texts_in text_of client_of net_at net_id_of
-    address_at address_of address_port port_of peer_of file_of stopped_bytes number_of digits task_of_command
+unfolding command_of form_of divided kind_of parted are_among options_of value_of command_in get_in name_in text_of client_of net_at net_id_of
+    address_of address_port port_of peer_of file_of stopped_bytes number_of digits task_of_command
 read_words = refl
 
 -- serve p --listen=127.0.0.1:48898 --events 1000

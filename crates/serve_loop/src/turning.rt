@@ -36,9 +36,20 @@ pub fn turn<T: Threads + Sync, W: Wire, M: Served>(
         Next::Memory => return Turn::Memory,
     };
     match take_event(rt, alloc, served, wire, &event) {
-        Ok(()) => told_of(&event),
+        Ok(()) => give_back(wire, event),
         Err(NoMemory) => Turn::Memory,
     }
+}
+
+// The event goes back to the wire. What is told of a turn with it.
+fn give_back<W: Wire>(wire: &mut W, event: Event) -> Turn
+    ensures told { result ≡ turn_of_event event }
+    ensures same { W.state wire.new ≡ W.state wire.old }
+    ensures kept { W.kept wire.new ≡ W.kept wire.old }
+{
+    let told = told_of(&event);
+    wire.take_back(event);
+    told
 }
 
 // What is told of a turn with this event.

@@ -32,3 +32,5 @@ pub mod NumberTests
 pub mod NoteParts
 pub mod LendLemmas
 pub mod PlainLemmas
+pub mod HeaderWords
+pub mod DataLemmas

@@ -1,7 +1,8 @@
 -- Plain packets: a Read, a Write or a ReadState that passes the checks of its header. No public clause cites this file.
 use Rattle.std.specs.Prelude.{◌≡◌, ℕ, ◌≤◌, List, ◌++◌, length, drop, replicate, true, bytes_eq, Some, Option}
+use Rattle.std.specs.Int.{w16, w32, to_le_bytes}
 use Rattle.spec_formats.specs.Codes.{no_error}
-use Rattle.spec_formats.specs.Header.{AmsHeader, header_of, payload_of, request_flags}
+use Rattle.spec_formats.specs.Header.{AmsHeader, header_of, payload_of, request_flags, response_flags}
 use Rattle.spec_formats.specs.Numbers.{number32}
 use Rattle.spec_formats.specs.Request.{Request, Read, Write, ReadState, command_of, request_of}
 use Rattle.spec_frames.specs.Frame.{frame_bytes}
@@ -58,6 +59,10 @@ pub record IsPlain (ams net : List ℕ) (admitted : Admitted) (p : PlainPacket) 
   pub passes : PassesHeader ams net (ams_header_of p.h)
   pub rights_are : Some (rights_of p.rights) ≡ given_rights admitted.others p.h.source.net.bytes admitted.routes
   pub payload : IsPlainPayload p.h.command (payload_of ams) p.kind
+
+-- what stands behind the addresses in the header of an answer without an AMS error: command 2, flags 2, data length 4, error code 4, invoke id 4
+abbrev pub answer_fields : ℕ → ℕ → ℕ → List ℕ
+answer_fields command len id = to_le_bytes w16 command ++ to_le_bytes w16 response_flags ++ to_le_bytes w32 len ++ to_le_bytes w32 no_error ++ to_le_bytes w32 id
 
 -- room for the headers of a frame
 abbrev pub headers_room : List ℕ

@@ -4,6 +4,7 @@
 mod accesses;
 mod asker;
 mod checks;
+mod data_frame;
 mod examined;
 mod framing;
 mod granting;

@@ -1,9 +1,10 @@
 //! A single Read of a client at a port: one of a packet, or a part of a sum.
 
-ghost use Rattle.std.specs.Prelude.{◌≡◌, ◌+◌, ◌≤◌, length, IfOk, OnOk, OnErr};
+ghost use Rattle.std.specs.Prelude.{◌≡◌, ◌+◌, ◌≤◌, ◌<◌, ◌^◌, [], length, Ok, IfOk, IfSome, OnOk, OnErr};
 ghost use Rattle.spec_formats.specs.Request.{Read};
 ghost use Rattle.port_device.specs.Answers.{AnswersAct};
 ghost use Rattle.session.specs.Asking.{Asking, act_asked, plain_asked, meant_in};
+ghost use Rattle.sym_handles.specs.Kept.{Kept};
 ghost use Rattle.session.specs.Asks.{Asks, SomeAsks};
 
 use crate::groups::{is_device_data, is_value_by_handle};
@@ -11,7 +12,7 @@ use crate::looking::read_value;
 use crate::meaning::read_len;
 use crate::requests::ReadRequest;
 use ads_base::{NoMemory, Octets};
-use index_groups::PROCESS_BYTES;
+use index_groups::{PROCESS_BYTES, Reach, reach};
 use port_device::Port;
 use return_codes::Code;
 use std::alloc::Global;
@@ -44,6 +45,22 @@ pub(crate) fn read(
         return port.read_states(alloc, asked.offset, asked.len, out);
     }
     read_meant(alloc, handles, port, ams_port, asked, out)
+}
+
+/// The bytes that a Read gives, where it is one of data that is not refused.
+#[inline(always)]
+pub(crate) fn data_asked<'a>(port: &'a Port, asked: &ReadRequest) -> Option<&'a [u8]>
+    ensures answer { IfSome result (λ bytes. (a : Asking) (kept : Kept) → Asks a port.now kept
+        → AnswersAct a.world (act_asked a (Read asked.now.group asked.now.offset asked.now.len)) (Ok tt) [] bytes.now) }
+    ensures short { IfSome result (λ bytes. length bytes.now < 2 ^ 32) }
+{
+    if asked.group != PROCESS_BYTES {
+        return None;
+    }
+    match reach(port.sizes(), PROCESS_BYTES, asked.offset, asked.len) {
+        Ok(Reach::Bytes { area, at, len }) => Some(port.lent(area, at, len)),
+        _ => None,
+    }
 }
 
 // The same of a group that every port has.

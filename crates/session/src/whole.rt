@@ -12,8 +12,10 @@ ghost use Rattle.session.specs.Plain.{headers_room, plain_len, plain_meant, read
 ghost use Rattle.type_layout.specs.Descriptions.{rights_of};
 
 use crate::asker::Asker;
+use crate::data_frame::put_data_frame;
 use crate::framing::framed_for;
 use crate::plain::{Plain, PlainPacket, payload_in};
+use crate::reading::data_asked;
 use crate::replies::{FRONT, number_in, read_filled};
 use crate::requests::{ReadRequest, WriteRequest};
 use crate::room::put_front;
@@ -57,9 +59,32 @@ impl Session {
         }
     }
 
-    // Each of them is apart, so that what one needs is at hand.
-    #[inline(never)]
+    // Data are known before the frame is begun.
+    #[inline(always)]
     fn read_whole(
+        &self,
+        alloc: Global,
+        port: &Port,
+        ams: &[u8],
+        out: &mut Octets,
+    ) -> Result<(), NoMemory>
+        requires some { SomeAsks port.now self.now.handles }
+        requires long { 44 ≤ length ams.now }
+        requires number { (h : AmsHeader) → header_of ams.now ≡ Some h → h.target.port ≡ port.now.number }
+        ensures whole { OnOk result ((a : Asking) (h : AmsHeader) → header_of ams.now ≡ Some h → AsksSession a port.now self.now
+            → RunsWhole a h (plain_meant Plain.Read (payload_of ams.now)) out.old out.new port.now self.now) }
+        ensures appends { OnOk result (AppendsFrame out.old out.new) }
+        ensures no_memory { OnErr result (out.new ≡ out.old) }
+    {
+        match data_asked(port, &read_in(payload_in(ams))) {
+            Some(bytes) => put_data_frame(alloc, ams, bytes, out),
+            None => self.read_behind(alloc, port, ams, out),
+        }
+    }
+
+    // The others are apart, so that what one needs is at hand.
+    #[inline(never)]
+    fn read_behind(
         &self,
         alloc: Global,
         port: &Port,

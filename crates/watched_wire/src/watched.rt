@@ -143,6 +143,10 @@ impl<W: Wire + Drop, S: Stop + Drop, O: Onlooker<W> + Drop> Wire for Watched<W, 
         }
     }
 
+    fn take_back(&mut self, event: Event) {
+        self.wire.take_back(event);
+    }
+
     fn offer(&mut self, conn: u32, bytes: &[u8]) -> Offer {
         let offer = self.wire.offer(conn, bytes);
         match offer {

@@ -1,6 +1,6 @@
 -- An event that the wire gave, and what follows it.
 use Rattle.std.proofs.Common.{sym, ◌∙◌, inl}
-use Rattle.serve_loop.proofs.TurnLemmas.{takes_event, breaks_event, breaks_none, told_turn}
+use Rattle.serve_loop.proofs.TurnLemmas.{takes_event, breaks_event, breaks_none, told_after}
 use Rattle.serve_loop.proofs.WantLemmas.{wanting_later, event_is_told}
 use Rattle.serve_loop.proofs.turning.turn.Goals as goal
 
@@ -11,7 +11,7 @@ pub returns-in-Memory-clause-memory : goal.returns-in-Memory-clause-memory
 returns-in-Memory-clause-memory g c = λ is. inl c.in-Memory.ensures.gives.wanted
 
 pub returns-in-Ok-clause-memory : goal.returns-in-Ok-clause-memory
-returns-in-Ok-clause-memory g c = λ is. absurd (event_is_told c.in-Event.event (sym c.told_of.ensures ∙ is))
+returns-in-Ok-clause-memory g c = λ is. absurd (event_is_told c.in-Event.event (sym c.give_back.ensures.told ∙ is))
 
 pub returns-clause-memory : goal.returns-clause-memory
 returns-clause-memory g c = λ is.
@@ -22,7 +22,7 @@ pub returns-in-Ok-clause-turn : goal.returns-in-Ok-clause-turn
 returns-in-Ok-clause-turn g c =
     let gives = c.in-Event.ensures.gives in
     let takes = takes_event _ _ g.met.M.Served.opens_alone _ _ _ _ _ c.in-Event.event gives.0 gives.1 c.in-Ok.ensures.ok in
-    rw c.told_of.ensures (told_turn _ _ _ _ _ _ c.in-Event.event takes)
+    told_after _ _ _ _ _ _ _ c.in-Event.event c.give_back.ensures.same takes _ c.give_back.ensures.told
 
 pub returns-clause-turn : goal.returns-clause-turn
 returns-clause-turn g c =

@@ -11,11 +11,17 @@ of_parts-requires c =
 
 pub returns-clause-table : goal.returns-clause-table
 returns-clause-table c =
-    rw (c.of_parts.ensures, turned_watches c.self.inside.records c.self.inside.turns.items c.rotate_left.new.self.items c.self.inside.due c.rotate_left.ensures.items)
+    rw (
+      c.of_parts.ensures,
+      turned_watches c.self.inside.records c.self.inside.turns.items c.rotate_left.new.self.items c.self.inside.due c.rotate_left.ensures.items,
+    )
     (turned_table (map (watch_at c.self.inside.records) c.self.inside.turns.items) c.self.inside.granted c.self.inside.due c.self.invariant.granted
     ∙ ap (λ (s : RoundState). s.table) c.self.view_is)
 
 pub returns-clause-granted : goal.returns-clause-granted
 returns-clause-granted c =
-    rw (c.of_parts.ensures, turned_watches c.self.inside.records c.self.inside.turns.items c.rotate_left.new.self.items c.self.inside.due c.rotate_left.ensures.items)
+    rw (
+      c.of_parts.ensures,
+      turned_watches c.self.inside.records c.self.inside.turns.items c.rotate_left.new.self.items c.self.inside.due c.rotate_left.ensures.items,
+    )
     (turned_granted (map (watch_at c.self.inside.records) c.self.inside.turns.items) c.self.inside.granted c.self.inside.due c.self.invariant.granted)

@@ -31,6 +31,7 @@ returns-clause-ok c = (
   ),
   rw (← c.in_ok-record.ensures) (added_watches c.self.inside.records c.insert.new.self c.self.inside.turns.items c.put_turn.new.turns.items
       c.put_turn.ensures.put.0
-      (record { next = 0; handle = c.args.handle; cycle = c.args.spec.cycle; key = c.in_ok-key.key }) c.in_ok-record.record c.args.self.now c.self.view_is c.self.invariant
+      (record { next = 0; handle = c.args.handle; cycle = c.args.spec.cycle; key = c.in_ok-key.key }) c.in_ok-record.record
+      c.args.self.now c.self.view_is c.self.invariant
       c.in_ok-key.ensures.was_vacant c.in_ok-key.ensures.updates (put_into _ _ _ _ _ c.reserve.ensures.items c.put_turn.ensures.put.2)),
 )

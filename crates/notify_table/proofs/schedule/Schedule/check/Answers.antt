@@ -20,7 +20,12 @@ invariant_of-self c =
     let within = within_turns c.self.inside.records c.self.inside.turns.items c.args.self.now c.args.at c.self.view_is c.requires.there in
     changed_scheduled c.self.inside.records c.check_record-sent.new.records c.self.inside.turns.items c.take_turn-turn.new.turns.items c.args.self.now c.args.at
     c.take_turn-turn.result c.put_turn.new.turns.items c.put_turn.ensures.put.0
-    (record { next = c.check_record-sent.result.1; handle = c.take_turn-turn.result.handle; cycle = c.take_turn-turn.result.cycle; key = c.take_turn-turn.result.key })
+    (record {
+      next = c.check_record-sent.result.1;
+      handle = c.take_turn-turn.result.handle;
+      cycle = c.take_turn-turn.result.cycle;
+      key = c.take_turn-turn.result.key;
+    })
     (after_check c.args.now c.args.bytes.now (watch_at c.self.inside.records c.take_turn-turn.result))
     c.self.invariant within c.take_turn-turn.ensures.value c.take_turn-turn.ensures.items c.put_turn.ensures.put.2 refl c.check_record-sent.ensures.updates
     c.check_record-sent.ensures.no_more
@@ -46,7 +51,12 @@ returns-clause-new c =
           (changed_watches c.self.inside.records c.check_record-sent.new.records c.self.inside.turns.items c.take_turn-turn.new.turns.items
           c.args.self.now c.args.at
           c.take_turn-turn.result c.put_turn.new.turns.items c.put_turn.ensures.put.0
-          (record { next = c.check_record-sent.result.1; handle = c.take_turn-turn.result.handle; cycle = c.take_turn-turn.result.cycle; key = c.take_turn-turn.result.key })
+          (record {
+            next = c.check_record-sent.result.1;
+            handle = c.take_turn-turn.result.handle;
+            cycle = c.take_turn-turn.result.cycle;
+            key = c.take_turn-turn.result.key;
+          })
           (after_check c.args.now c.args.bytes.now (watch_at c.self.inside.records c.take_turn-turn.result))
           c.self.view_is c.self.invariant within c.take_turn-turn.ensures.value c.take_turn-turn.ensures.items c.put_turn.ensures.put.2 refl
           c.check_record-sent.ensures.updates),
