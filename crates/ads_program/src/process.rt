@@ -15,7 +15,9 @@ ghost use Rattle.run_tasks.specs.Tasks.{asked_task};
 
 use crate::real_outside::RealOutside;
 use ads_base::NoMemory;
-use ads_edge::{RealFiles, RealLink, RealSink, RealWire, hold_standard_descriptors, words_of_process};
+use ads_edge::{
+    RealFiles, RealLink, RealSink, RealWire, hold_standard_descriptors, words_of_process,
+};
 use ads_outside::{Files, Link, Sink, Wire};
 use ads_run::{Status, end_without_memory, run_program};
 use persist_store::Disk;
