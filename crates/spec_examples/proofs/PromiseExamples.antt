@@ -2,6 +2,7 @@
 use Rattle.std.specs.Prelude.{◌≡◌, refl, ℕ, List, [], ◌∷◌, ◌++◌, codes, bytes_eq, true, false, Bool, None, unwrap_or, replicate, take}
 use Rattle.std.proofs.Common.{ap, inl, inr, lit<, lit≤, sym}
 use Rattle.std.proofs.lemmas.Bool.{false≢true, le-leb}
+use Rattle.std.specs.Str.{chars, is_utf8}
 use Rattle.toml.proofs.OnLiterals.{toml_on_literals}
 use Rattle.spec_plant.specs.PartTexts.{name_behind, comment_behind}
 use Rattle.spec_formats.specs.Groups.{group_in, group_of}
@@ -154,7 +155,7 @@ unfolding ams_length_of is_header front_of packet_of behind_frame frames_from fr
     reply_in_forms outcome_in_all response_packet performed grouped frames_of_samples samples_at watches_after_tick reach_of outcomes_of memory_after_acts
     client_after_acts is_kept memory_after_reload world_after_reload client_reloaded answered_group after_packet after_packets after_piece read_group
     acts_of decide_request decide digits handle_history handle_events_of_event asked_in_turn asked_of_move asked_of_packets question_of requests_of
-    text_verdict toml_on_literals
+    text_verdict toml_on_literals is_utf8 chars
 move_rows = record {
   one_write = refl;
   one_read = refl;

@@ -3,6 +3,7 @@ use Rattle.std.specs.Prelude.{◌≡◌, refl, ℕ, ◌+◌, List, [], ◌∷◌
 use Rattle.std.specs.Prelude.{replicate, ◌==◌, drop, take, Result}
 use Rattle.std.proofs.Common.{ap, inl, inr, sym}
 use Rattle.std.proofs.lemmas.Bool.{false≢true}
+use Rattle.std.specs.Str.{chars, is_utf8}
 use Rattle.toml.proofs.OnLiterals.{toml_on_literals}
 use Rattle.spec_plant.specs.PartTexts.{name_behind, comment_behind}
 use Rattle.spec_formats.specs.Groups.{group_in, group_of}
@@ -187,7 +188,7 @@ unfolding ams_length_of is_header front_of packet_of behind_frame frames_from fr
     comment_behind entry_of_part numbers_from name_at names_at content_of projection_of acts_of_packets acts_of_move acts_of_log acts_by_others
     reply_in_forms outcome_in_all response_packet performed grouped frames_of_samples samples_at watches_after_tick reach_of outcomes_of memory_after_acts
     client_after_acts is_kept memory_after_reload world_after_reload client_reloaded answered_group after_packet after_packets after_piece read_group
-    acts_of decide_request decide digits text_verdict toml_on_literals
+    acts_of decide_request decide digits text_verdict toml_on_literals is_utf8 chars
 refusal_rows = record {
   response = inl refl;
   stranger = inr (inl refl);
