@@ -15,6 +15,7 @@ use Rattle.spec_machine.specs.Access.{memory_after_puts}
 use Rattle.spec_machine.specs.Acts.{client_after_acts, memory_after_acts, outcomes_of}
 use Rattle.spec_machine.specs.Answers.{answered_group}
 use Rattle.spec_machine.specs.ByName.{read_write_group}
+use Rattle.spec_machine.specs.Acts.{Outcome}
 use Rattle.spec_machine.specs.Client.{client_after, client_after_reload, ended_of}
 use Rattle.spec_machine.specs.Connection.{connection_of, produce, produce_all, put_back}
 use Rattle.spec_machine.specs.Entries.{entry_of_part}
@@ -54,7 +55,7 @@ use Rattle.spec_plant.proofs.Plant.{axis_type, count_symbol, port_with, symbols_
 use Rattle.spec_rules.specs.TextVerdict.{text_verdict}
 use Rattle.spec_machine.specs.Access.{Addressed}
 use Rattle.spec_machine.specs.Client.{Client, new_client}
-use Rattle.spec_machine.specs.Connection.{fresh_connection}
+use Rattle.spec_machine.specs.Connection.{Connection, fresh_connection}
 use Rattle.spec_machine.specs.Handles.{Live, Released, kept_status}
 use Rattle.spec_machine.specs.MachineState.{MachineState}
 use Rattle.spec_machine.specs.Profile.{strict}
@@ -64,11 +65,11 @@ use Rattle.spec_machine.specs.Writes.{Asker}
 use Rattle.spec_laws.specs.Histories.{handle_history, handle_events_of_event}
 use Rattle.spec_server.specs.Server.{server_after_in}
 use Rattle.spec_promises.specs.Asked.{Asked, asked_in_turn, asked_of_move, asked_of_packets, outcome_of_asked, question_of, requests_of}
-use Rattle.spec_promises.specs.KeptHandles.{HandlesAreHistoryIn, KeepsHandlesIn}
+use Rattle.spec_promises.specs.KeptHandles.{HandlesAreHistoryIn, KeepsHandlesIn, read_by_handle}
 use Rattle.spec_promises.specs.Notified.{GivesAsAsked, IsByCycle, NotifiesAfterIn, TickSeen, life_of, watch_at}
 use Rattle.spec_promises.specs.Written.{ChangesByRequests, HoldsBytes, HoldsWritesIn, IsWritten, StatesAreSet}
 use Rattle.spec_promises.specs.Written.{asked_at_move, memory_at}
-use Rattle.spec_machine.proofs.Plant.{ENGINEER, added, named, opened, piece, plant, q, start, tick, waves}
+use Rattle.spec_machine.proofs.Plant.{ENGINEER, added, named, opened, piece, plant, q, reload, start, tick, waves}
 
 -- connection 1 has the handle 1 of `Main.count`, and the handle 2 of `Flags.bits`, which it gave back
 abbrev before : List Move
@@ -110,6 +111,16 @@ engineer = record { port = port; address = record { net = ENGINEER; port = 32905
 abbrev asks : Request → Asked
 asks r = record { setup = setup_of start.world; asker = engineer; before = record { client = client; memory = state.world.memory }; request = r }
 
+-- the connection and the state behind a reload that is refused, and what is read of `Main.count`
+abbrev connection : Connection Client
+connection = unwrap_or (connection_of 1 state.connections) (fresh_connection new_client 1)
+
+abbrev refused_state : MachineState World Client
+refused_state = server_after_in strict plant waves (before ++ reload (codes "schema = = 2") ∷ [])
+
+abbrev full_count : Outcome
+full_count = record { code = 0; bytes = 42 ∷ 0 ∷ 0 ∷ 0 ∷ [] }
+
 abbrev is_read : Request → Bool
 is_read (ReadBytes group offset len) = true
 is_read r = false
@@ -142,7 +153,7 @@ record MoveRows : Type 0 where
   released : HandlesAreHistoryIn strict plant waves before → kept_status client.handles 2 851 ≡ Released
   -- a handle reads the same behind a reload that is refused
   kept : KeepsHandlesIn strict plant waves before (codes "schema = = 2")
-      → record { code = 0; bytes = 42 ∷ 0 ∷ 0 ∷ 0 ∷ [] } ≡ record { code = 0; bytes = 42 ∷ 0 ∷ 0 ∷ 0 ∷ [] }
+      → read_by_handle refused_state connection engineer 1 4 ≡ full_count
 
 move_rows : MoveRows
 unfolding ams_length_of is_header front_of packet_of behind_frame frames_from frames_of left_behind rest_of has_same_parts has_same_members part_behind
@@ -175,10 +186,9 @@ move_rows = record {
   promised_stop = λ h. (h.controls).0 6 3 [] refl refl;
   another_byte = λ h. false≢true (ap (λ l. bytes_eq (take 4 l) (42 ∷ 0 ∷ 8 ∷ 8 ∷ [])) h.holds);
   another_place = λ h. false≢true (ap (λ l. bytes_eq (take 4 l) (42 ∷ 0 ∷ 0 ∷ 7 ∷ [])) h.holds);
-  live = λ h. h 1 (unwrap_or (connection_of 1 state.connections) (fresh_connection new_client 1)) refl 1 851;
-  released = λ h. h 1 (unwrap_or (connection_of 1 state.connections) (fresh_connection new_client 1)) refl 2 851;
-  kept = λ h. h 1 (unwrap_or (connection_of 1 state.connections) (fresh_connection new_client 1))
-      (unwrap_or (connection_of 1 state.connections) (fresh_connection new_client 1)) engineer engineer
+  live = λ h. h 1 connection refl 1 851;
+  released = λ h. h 1 connection refl 2 851;
+  kept = λ h. h 1 connection connection engineer engineer
       (record { before = refl; heard = refl; after = refl; same_port = refl }) 1 refl refl 4;
 }
 
