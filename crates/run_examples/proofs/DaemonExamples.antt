@@ -92,7 +92,7 @@ no_store : counts_saved None (codes "counts\n") ≡ codes "counts\n"
 no_store = refl
 
 -- as many events as a count of 64 bits has, and one less with a store
-events : map events_with (None ∷ Some (codes "f") ∷ []) ≡ 2 ^ 64 - 1 ∷ 2 ^ 64 - 2 ∷ []
+events : map events_with (None ∷ Some (codes "f") ∷ []) ≡ (2 ^ 64 - 1) ∷ (2 ^ 64 - 2) ∷ []
 events = refl
 
 -- a plant that is served by the wide profile, with a store that is looked at behind each second tick

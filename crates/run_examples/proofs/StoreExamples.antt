@@ -1,6 +1,6 @@
 -- What the calls of a disk and of a keeper tell, by computation.
-use Rattle.std.specs.Prelude.{◌≡◌, refl, ℕ, List, [], ◌∷◌, codes, length, Option, Some, None, Ok, bytes_eq, ◌==◌}
-use Rattle.std.proofs.Common.{ap}
+use Rattle.std.specs.Prelude.{replicate, true, false, Bool, ◌≡◌, refl, ℕ, List, [], ◌∷◌, codes, length, Option, Some, None, Ok, bytes_eq, ◌==◌}
+use Rattle.std.proofs.Common.{sym, ap}
 use Rattle.std.proofs.lemmas.Bool.{false≢true, le-leb}
 use Rattle.persist_store.specs.declared.disk_open.DiskOpen.TheVariants as open_
 use Rattle.persist_store.specs.declared.disk_read.DiskRead.TheVariants as read
@@ -94,13 +94,17 @@ abbrev mark : Mark
 mark = record { wire = unused; file = Some four }
 
 abbrev Told : ℕ → List Mark → Type 0
-Told n marks = length marks ≡ n
+Told n marks = marks ≡ replicate n mark
 
-marked : MarksOne {D = List ℕ} (λ d marks. length marks ≡ length d) [] (1 ∷ []) unused (Some four) → 1 ≡ 1
-marked m = m [] refl
+marked : MarksOne Told 0 1 unused (Some four)
+marked = λ marks e. ap (λ l. l ++ mark ∷ []) e
 
 stays : MarksStay Told 1 1
 stays = λ marks e. e
 
+abbrev is_empty : List Mark → Bool
+is_empty [] = true
+is_empty (m ∷ ms) = false
+
 not_told_more : MarksStay Told 0 1 → ⊥
-not_told_more s = false≢true (ap (λ n. n == 1) (s [] refl))
+not_told_more s = false≢true (sym (ap is_empty (s [] refl)))
