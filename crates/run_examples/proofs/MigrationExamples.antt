@@ -1,8 +1,8 @@
 -- A description under schema 2, by computation.
 use Rattle.std.specs.Prelude.{◌≡◌, refl, ℕ, List, [], ◌∷◌, codes, pos, Option, Some, None, true, false, Bool, bytes_eq, ◌==◌}
-use Rattle.std.specs.Ordering.{Less, Equal, Greater, is_eq, match_ordering, nat_cmp}
+use Rattle.std.specs.Ordering.{is_eq, match_ordering, nat_cmp}
 use Rattle.std.specs.Cmp.Lexicographic.{slice_cmp}
-use Rattle.std.proofs.Common.{Ordering, ◌∙◌, ap, sym}
+use Rattle.std.proofs.Common.{Ordering, Less, Equal, Greater, ◌∙◌, ap, sym}
 use Rattle.std.proofs.lemmas.Bool.{false≢true}
 use Rattle.std.specs.Fmt.{digits}
 use Rattle.std.specs.Str.{chars, is_utf8}
