@@ -13,8 +13,8 @@ returns-in-Memory-clause-memory g c = λ is. inl c.in-Memory.ensures.gives.wante
 pub returns-in-Ok-clause-memory : goal.returns-in-Ok-clause-memory
 returns-in-Ok-clause-memory g c = λ is. absurd (event_is_told c.in-Event.event (sym c.give_back.ensures.told ∙ is))
 
-pub returns-clause-memory : goal.returns-clause-memory
-returns-clause-memory g c = λ is.
+pub returns-in-Err-clause-memory : goal.returns-in-Err-clause-memory
+returns-in-Err-clause-memory g c = λ is.
     wanting_later _ (g.W.Wire.state c.args.wire.now) (g.W.Wire.state c.next.new.self)
     (g.W.Wire.state c.take_event.new.wire) c.next.ensures.wanted c.in-Err.ensures.memory
 
@@ -24,7 +24,7 @@ returns-in-Ok-clause-turn g c =
     let takes = takes_event _ _ g.met.M.Served.opens_alone _ _ _ _ _ c.in-Event.event gives.0 gives.1 c.in-Ok.ensures.ok in
     told_after _ _ _ _ _ _ _ c.in-Event.event c.give_back.ensures.same takes _ c.give_back.ensures.told
 
-pub returns-clause-turn : goal.returns-clause-turn
-returns-clause-turn g c =
+pub returns-in-Err-clause-turn : goal.returns-in-Err-clause-turn
+returns-in-Err-clause-turn g c =
     let gives = c.in-Event.ensures.gives in
     breaks_event _ _ _ _ _ _ c.in-Event.event gives.0 gives.1 c.in-Err.ensures.no_memory
