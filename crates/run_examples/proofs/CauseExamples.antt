@@ -15,6 +15,7 @@ use Rattle.run_tasks.specs.BuiltIn.{built_in}
 use Rattle.run_tasks.specs.KeepAsked.{keeping}
 use Rattle.run_tasks.specs.StatusTable.{number_of}
 use Rattle.run_tasks.specs.Verdict.{Calls, Keeps, Records, RecordsLocally, Serves, ended}
+use Rattle.call_run.specs.Recording.{MOST_ROWS}
 use Rattle.ads_run.specs.Causes.{CauseOfKeeping, CauseOfService, EndsOfWire, FailsOfWire, HasCause, IsEndOfCall, IsEndOfLocal, IsNoServiceEnd, IsOwnEnd}
 use Rattle.ads_run.specs.Causes.{NothingFailed, TakesAll, is_service}
 use Rattle.ads_run.specs.Ends.{RunsBy, RunsSo}
@@ -127,10 +128,10 @@ keeper_stood : CauseOfRecording records.asks status.KeeperFault records.old_link
 keeper_stood r = false≢true (le-leb 1 0 r)
 
 is_full : IsFull None
-is_full = record { count = 9223372036854775808; counts = tt; full = lit< tt }
+is_full = record { count = 9223372036853775808; counts = tt; full = lit< tt }
 
 not_full : IsFull (Some []) → ⊥
-not_full f = false≢true (le-leb 9223372036854775808 0 (subst (λ n. 9223372036854775807 < n) f.counts f.full))
+not_full f = false≢true (le-leb 9223372036853775808 0 (subst (λ n. MOST_ROWS < n) f.counts f.full))
 
 recorded : IsEndOfRecording records.asks status.Done records.new_link (Some [])
 recorded = records.ended_so

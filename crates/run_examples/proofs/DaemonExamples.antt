@@ -27,6 +27,7 @@ use Rattle.server_core.specs.declared.outcome.Outcome.{Outcome}
 use Rattle.server_core.specs.declared.outcome.Outcome.TheVariants as outcome
 use Rattle.server_core.specs.Profiles.{profile_of}
 use Rattle.type_layout.specs.declared.description.Rights.TheVariants as rights
+use Rattle.std.specs.Str.{chars, is_utf8}
 use Rattle.toml.proofs.OnLiterals.{toml_on_literals}
 use Rattle.keep_loop.specs.Bodies.{is_any_over, saves_in}
 use Rattle.keep_loop.specs.declared.kept_on.KeptOn.{KeptOn}
@@ -91,7 +92,7 @@ no_store : counts_saved None (codes "counts\n") ≡ codes "counts\n"
 no_store = refl
 
 -- as many events as a count of 64 bits has, and one less with a store
-events : map events_with (None ∷ Some (codes "f") ∷ []) ≡ 2 ^ 64 - 1 ∷ 2 ^ 64 - 2 ∷ []
+events : map events_with (None ∷ Some (codes "f") ∷ []) ≡ (2 ^ 64 - 1) ∷ (2 ^ 64 - 2) ∷ []
 events = refl
 
 -- a plant that is served by the wide profile, with a store that is looked at behind each second tick
@@ -125,9 +126,9 @@ record VerdictRows : Type 0 where
   broken : verdict_on h (codes "p") (codes "127.0.0.1:48898") (Some (codes "schema = = 2")) ≡ ended (status.BadDescription 0 0)
 
 verdict_rows : VerdictRows
-unfolding text_verdict toml_on_literals route_in member_in value_in structure_in enumeration_in type_in symbol_in port_in document_in shape_of_text
-    types_behind wrong_schema wrong_net wrong_rights wrong_type_name wrong_part wrong_size wrong_port wrong_upload wrong_name wrong_type wrong_place
-    wrong_content wrong_signal trees_behind trees_of type_align greatest_align type_size members_end type_depth greatest_depth type_text digits
+unfolding text_verdict toml_on_literals is_utf8 chars route_in member_in value_in structure_in enumeration_in type_in symbol_in port_in document_in
+    shape_of_text types_behind wrong_schema wrong_net wrong_rights wrong_type_name wrong_part wrong_size wrong_port wrong_upload wrong_name wrong_type
+    wrong_place wrong_content wrong_signal trees_behind trees_of type_align greatest_align type_size members_end type_depth greatest_depth type_text digits
     decode_pairs
 verdict_rows = record { is_served = refl; no_file = refl; broken = refl }
 

@@ -1,10 +1,12 @@
 -- A description under schema 2, by computation.
 use Rattle.std.specs.Prelude.{◌≡◌, refl, ℕ, List, [], ◌∷◌, codes, pos, Option, Some, None, true, false, Bool, bytes_eq, ◌==◌}
-use Rattle.std.specs.Ordering.{Ordering, Less, Equal, Greater, is_eq, match_ordering, nat_cmp}
+use Rattle.std.specs.Ordering.{is_eq, match_ordering, nat_cmp}
 use Rattle.std.specs.Cmp.Lexicographic.{slice_cmp}
-use Rattle.std.proofs.Common.{◌∙◌, ap, sym}
+use Rattle.std.proofs.Common.{Ordering, Less, Equal, Greater, ◌∙◌, ap, sym}
 use Rattle.std.proofs.lemmas.Bool.{false≢true}
 use Rattle.std.specs.Fmt.{digits}
+use Rattle.std.specs.Str.{chars, is_utf8}
+use Rattle.toml_writer.specs.Text.{encoding_of, escaped, key_text, needs_escape, string_text}
 use Rattle.toml.proofs.OnLiterals.{toml_on_literals}
 use Rattle.toml.specs.Data.{Data, Members, array, integer, item, member, no_items, no_members, string, table}
 use Rattle.ads_outside.specs.declared.named_file.NamedFile.{NamedFile}
@@ -41,7 +43,7 @@ record MigrationRows : Type 0 where
   no_document : migrated_text (codes "schema = = 1") ≡ []
 
 migration_rows : MigrationRows
-unfolding second_schema migrated_text document_text toml_on_literals digits
+unfolding second_schema migrated_text document_text toml_on_literals is_utf8 chars key_text string_text encoding_of escaped needs_escape digits
 migration_rows = record { second = refl; put = refl; printed = refl; migrated = refl; no_document = refl }
 
 -- `schema` is 2, and whatever stands at another key stays
@@ -80,7 +82,7 @@ abbrev small : List ℕ
 small = codes "schema = 1\n"
 
 wrong_text : IsMigrated 0 small (codes "schema = 1\n") → ⊥
-unfolding second_schema migrated_text document_text toml_on_literals digits
+unfolding second_schema migrated_text document_text toml_on_literals is_utf8 chars key_text string_text encoding_of escaped needs_escape digits
 wrong_text m = false≢true (ap (λ l. bytes_eq l (codes "schema = 2\n")) m.text_is)
 
 abbrev files : List NamedFile
@@ -94,7 +96,7 @@ bytes_in None = []
 bytes_in (Some bytes) = bytes
 
 wrong_print : HasMigrated 0 (Some (task.OfFiles (file_task.Migrate (codes "p")))) status.Done (Some files) (sink []) (sink (codes "schema = 1\n")) → ⊥
-unfolding second_schema migrated_text document_text toml_on_literals digits
+unfolding second_schema migrated_text document_text toml_on_literals is_utf8 chars key_text string_text encoding_of escaped needs_escape digits
 wrong_print m =
     let printed : codes "schema = 1\n" ≡ m.text = ap bytes_in m.put in
     let of_file : codes "schema = 2\n" ≡ migrated_text m.is.bytes = ap (λ o. migrated_text (bytes_in o)) m.is.were in

@@ -156,7 +156,7 @@ marked = refl
 abbrev limit : TableSymbol
 limit = table_symbol types (record (plain_symbol (codes "Main.limit") (One (PlainElem DINT)) Process 60 (0 ∷ 0 ∷ 0 ∷ 0 ∷ [])) { read_only = true })
 
-not_marked : IsMarked port.sizes (false ∷ true ∷ []) limit → ⊥
+not_marked : IsMarked port.sizes (true ∷ false ∷ []) limit → ⊥
 unfolding trees_of trees_behind type_size members_end type_align greatest_align
 not_marked m = false≢true (m refl 60 (lit≤ tt) (lit< tt))
 

@@ -271,12 +271,12 @@ wanted_first : EndsRecording asks status.Memory (sink []) (sink (codes "ads: mem
 wanted_first = inl (record { same = refl; told = λ o log e. e }, (refl, (put.All, refl), refl))
 
 -- a table of so many rows takes no more; one with room is not told so
-full : BehindOpening (open_.Ready 9223372036854775808) (λ n. ⊥) (Unit {0}) status.StoreLimit (sink []) (sink (codes "ads: store limit\n"))
+full : BehindOpening (open_.Ready 9223372036853775808) (λ n. ⊥) (Unit {0}) status.StoreLimit (sink []) (sink (codes "ads: store limit\n"))
 full = inr (lit< tt, tt, inl (refl, refl))
 
 not_full : BehindOpening (open_.Ready MOST_ROWS) (λ n. ⊥) (Unit {0}) status.StoreLimit (sink []) (sink (codes "ads: store limit\n")) → ⊥
 not_full (inl (room, goes_on)) = goes_on
-not_full (inr (more, still, printed)) = false≢true (le-leb 9223372036854775808 9223372036854775807 more)
+not_full (inr (more, still, printed)) = false≢true (le-leb 9223372036853775808 9223372036853775807 more)
 
 -- a keeper that is its own state
 handed_in : keeper_used (λ (k : KeeperState). k) (keeper [] [] 0) (keeper (row ∷ []) f 0) ≡ record { old = keeper [] [] 0; new = keeper (row ∷ []) f 0 }

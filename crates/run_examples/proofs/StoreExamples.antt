@@ -1,6 +1,6 @@
 -- What the calls of a disk and of a keeper tell, by computation.
-use Rattle.std.specs.Prelude.{◌≡◌, refl, ℕ, List, [], ◌∷◌, codes, length, Option, Some, None, Ok, bytes_eq, ◌==◌}
-use Rattle.std.proofs.Common.{ap}
+use Rattle.std.specs.Prelude.{◌++◌, replicate, true, false, Bool, ◌≡◌, refl, ℕ, List, [], ◌∷◌, codes, length, Option, Some, None, Ok, bytes_eq, ◌==◌}
+use Rattle.std.proofs.Common.{sym, ap}
 use Rattle.std.proofs.lemmas.Bool.{false≢true, le-leb}
 use Rattle.persist_store.specs.declared.disk_open.DiskOpen.TheVariants as open_
 use Rattle.persist_store.specs.declared.disk_read.DiskRead.TheVariants as read
@@ -8,6 +8,7 @@ use Rattle.persist_store.specs.Disk.{MAX_READ, Opens, OpensName, OpensOnce, Open
 use Rattle.persist_store.specs.Marks.{Mark, MarksOne, MarksStay}
 use Rattle.sample_store.specs.declared.keeper_open.KeeperOpen.TheVariants as table
 use Rattle.sample_store.specs.Keeper as keeper
+use Rattle.sample_store.specs.Views.{row_kept}
 use Rattle.run_examples.proofs.KeptExamples.{unused}
 
 -- a file of four bytes
@@ -94,13 +95,21 @@ abbrev mark : Mark
 mark = record { wire = unused; file = Some four }
 
 abbrev Told : ℕ → List Mark → Type 0
-Told n marks = length marks ≡ n
+Told n marks = marks ≡ replicate n mark
 
-marked : MarksOne {D = List ℕ} (λ d marks. length marks ≡ length d) [] (1 ∷ []) unused (Some four) → 1 ≡ 1
-marked m = m [] refl
+marked : MarksOne Told 0 1 unused (Some four)
+marked = λ marks e. ap (λ l. l ++ mark ∷ []) e
 
 stays : MarksStay Told 1 1
 stays = λ marks e. e
 
+abbrev is_empty : List Mark → Bool
+is_empty [] = true
+is_empty (m ∷ ms) = false
+
 not_told_more : MarksStay Told 0 1 → ⊥
-not_told_more s = false≢true (ap (λ n. n == 1) (s [] refl))
+not_told_more s = false≢true (sym (ap is_empty (s [] refl)))
+
+-- a row of the code is a row of the definitions
+a_row : row_kept (record { number = 7; name = a; time = 5; bytes = four }) ≡ record { number = 7; name = a; time = 5; bytes = four }
+a_row = refl

@@ -1,5 +1,6 @@
 -- What words and files lead to, by computation.
 use Rattle.std.specs.Prelude.{◌≡◌, refl, ℕ, List, [], ◌∷◌, ◌++◌, codes, Some}
+use Rattle.std.specs.Str.{chars, is_utf8}
 use Rattle.toml.proofs.OnLiterals.{toml_on_literals}
 use Rattle.hex.specs.Hex.{decode_pairs}
 use Rattle.hex.proofs.OnLiterals.{hex_on_literals}
@@ -103,10 +104,10 @@ record VerdictRows : Type 0 where
       ≡ RecordsLocally (local_recording built_in [] (record what { client = client_here }))
 
 verdict_rows : VerdictRows
-unfolding text_verdict toml_on_literals hex_on_literals route_in member_in value_in structure_in enumeration_in type_in symbol_in port_in document_in
-    shape_of_text types_behind wrong_schema wrong_net wrong_rights wrong_type_name wrong_part wrong_size wrong_port wrong_upload wrong_name wrong_type
-    wrong_place wrong_content wrong_signal trees_behind trees_of type_align greatest_align type_size members_end type_depth greatest_depth type_text
-    digits decode_pairs lines_of script_after kind_of bytes_of_words command_of form_of divided kind_of_word parted options_of task_of_command
+unfolding text_verdict toml_on_literals is_utf8 chars hex_on_literals route_in member_in value_in structure_in enumeration_in type_in symbol_in port_in
+    document_in shape_of_text types_behind wrong_schema wrong_net wrong_rights wrong_type_name wrong_part wrong_size wrong_port wrong_upload wrong_name
+    wrong_type wrong_place wrong_content wrong_signal trees_behind trees_of type_align greatest_align type_size members_end type_depth greatest_depth
+    type_text digits decode_pairs lines_of script_after kind_of bytes_of_words command_of form_of divided kind_of_word parted options_of task_of_command
 verdict_rows = record {
   described = refl;
   no_document = refl;

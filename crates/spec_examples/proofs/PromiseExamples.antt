@@ -2,6 +2,7 @@
 use Rattle.std.specs.Prelude.{◌≡◌, refl, ℕ, List, [], ◌∷◌, ◌++◌, codes, bytes_eq, true, false, Bool, None, unwrap_or, replicate, take}
 use Rattle.std.proofs.Common.{ap, inl, inr, lit<, lit≤, sym}
 use Rattle.std.proofs.lemmas.Bool.{false≢true, le-leb}
+use Rattle.std.specs.Str.{chars, is_utf8}
 use Rattle.toml.proofs.OnLiterals.{toml_on_literals}
 use Rattle.spec_plant.specs.PartTexts.{name_behind, comment_behind}
 use Rattle.spec_formats.specs.Groups.{group_in, group_of}
@@ -14,6 +15,7 @@ use Rattle.spec_machine.specs.Access.{memory_after_puts}
 use Rattle.spec_machine.specs.Acts.{client_after_acts, memory_after_acts, outcomes_of}
 use Rattle.spec_machine.specs.Answers.{answered_group}
 use Rattle.spec_machine.specs.ByName.{read_write_group}
+use Rattle.spec_machine.specs.Acts.{Outcome}
 use Rattle.spec_machine.specs.Client.{client_after, client_after_reload, ended_of}
 use Rattle.spec_machine.specs.Connection.{connection_of, produce, produce_all, put_back}
 use Rattle.spec_machine.specs.Entries.{entry_of_part}
@@ -46,14 +48,14 @@ use Rattle.spec_plant.specs.Trees.{trees_behind, trees_of}
 use Rattle.spec_plant.specs.World.{byte_at, with_byte}
 use Rattle.std.specs.Fmt.{digits}
 use Rattle.ads_outside.specs.declared.moves.Move.{Move}
-use Rattle.spec_formats.specs.Request.{Request, Read as ReadBytes, Write, WriteControl}
-use Rattle.spec_plant.specs.Description.{Control, Process}
+use Rattle.spec_formats.specs.Request.{Request, Read as ReadBytes, Write}
+use Rattle.spec_plant.specs.Description.{Control}
 use Rattle.spec_plant.specs.World.{PlantPort, Block, plant_port}
 use Rattle.spec_plant.proofs.Plant.{axis_type, count_symbol, port_with, symbols_with, title_symbol}
 use Rattle.spec_rules.specs.TextVerdict.{text_verdict}
 use Rattle.spec_machine.specs.Access.{Addressed}
 use Rattle.spec_machine.specs.Client.{Client, new_client}
-use Rattle.spec_machine.specs.Connection.{fresh_connection}
+use Rattle.spec_machine.specs.Connection.{Connection, fresh_connection}
 use Rattle.spec_machine.specs.Handles.{Live, Released, kept_status}
 use Rattle.spec_machine.specs.MachineState.{MachineState}
 use Rattle.spec_machine.specs.Profile.{strict}
@@ -63,26 +65,23 @@ use Rattle.spec_machine.specs.Writes.{Asker}
 use Rattle.spec_laws.specs.Histories.{handle_history, handle_events_of_event}
 use Rattle.spec_server.specs.Server.{server_after_in}
 use Rattle.spec_promises.specs.Asked.{Asked, asked_in_turn, asked_of_move, asked_of_packets, outcome_of_asked, question_of, requests_of}
-use Rattle.spec_promises.specs.KeptHandles.{HandlesAreHistoryIn, KeepsHandlesIn}
+use Rattle.spec_promises.specs.KeptHandles.{HandlesAreHistoryIn, KeepsHandlesIn, read_by_handle}
 use Rattle.spec_promises.specs.Notified.{GivesAsAsked, IsByCycle, NotifiesAfterIn, TickSeen, life_of, watch_at}
-use Rattle.spec_promises.specs.Written.{ChangesByRequests, HoldsBytes, HoldsWritesIn, IsWritten, StatesAreSet}
+use Rattle.spec_promises.specs.Written.{ChangesByRequests, HoldsWritesIn, IsWritten}
 use Rattle.spec_promises.specs.Written.{asked_at_move, memory_at}
-use Rattle.spec_machine.proofs.Plant.{ENGINEER, added, named, opened, piece, plant, q, start, tick, waves}
+use Rattle.spec_machine.proofs.Plant.{ENGINEER, added, named, opened, piece, plant, q, reload, start, tick, waves}
 
 -- connection 1 has the handle 1 of `Main.count`, and the handle 2 of `Flags.bits`, which it gave back
 abbrev before : List Move
 before = opened 1 ∷ piece 1 (named 1 0xF003 4 (codes "Main.count") ++ named 2 0xF003 4 (codes "Flags.bits"))
     ∷ piece 1 (q 3 3 (codes "06f00000 00000000 04000000 02000000")) ∷ []
 
--- it writes 7 and 8 at byte 2 of `Main.count`; it reads there; it stops the port
+-- it writes 7 and 8 at byte 2 of `Main.count`; and it reads there
 abbrev writes : Move
 writes = piece 1 (q 3 4 (codes "40400000 02000000 02000000 0708"))
 
 abbrev reads : Move
 reads = piece 1 (q 2 4 (codes "40400000 02000000 02000000"))
-
-abbrev stops : Move
-stops = piece 1 (q 5 4 (codes "0600 0300 00000000"))
 
 abbrev Holds : Move → Type 0
 Holds m = HoldsWritesIn strict plant waves before m
@@ -109,6 +108,16 @@ engineer = record { port = port; address = record { net = ENGINEER; port = 32905
 abbrev asks : Request → Asked
 asks r = record { setup = setup_of start.world; asker = engineer; before = record { client = client; memory = state.world.memory }; request = r }
 
+-- the connection and the state behind a reload that is refused, and what is read of `Main.count`
+abbrev connection : Connection Client
+connection = unwrap_or (connection_of 1 state.connections) (fresh_connection new_client 1)
+
+abbrev refused_state : MachineState World Client
+refused_state = server_after_in strict plant waves (before ++ reload (codes "schema = = 2") ∷ [])
+
+abbrev full_count : Outcome
+full_count = record { code = 0; bytes = 42 ∷ 0 ∷ 0 ∷ 0 ∷ [] }
+
 abbrev is_read : Request → Bool
 is_read (ReadBytes group offset len) = true
 is_read r = false
@@ -124,24 +133,10 @@ record MoveRows : Type 0 where
   accepted : outcome_of_asked (asks (Write 0x4040 2 (7 ∷ 8 ∷ []))) ≡ record { code = 0; bytes = [] }
   refused : outcome_of_asked (asks (Write 0x4040 999 (7 ∷ []))) ≡ record { code = 0x703; bytes = [] }
   nothing_asked : asked (tick 5) ≡ []
-  -- a read holds all that is promised of a move
+  -- a read holds all that is promised of a move; a write changes the bytes by its request
   read_holds : Holds reads
   tick_asks_nothing : ChangesByRequests strict plant waves before (tick 5)
   write_changes : ChangesByRequests strict plant waves before writes
-  -- what a write is promised to leave, and what the next read answers
-  is_written : IsWritten (asks (Write 0x4040 2 (7 ∷ 8 ∷ []))) 0x4040 2 (7 ∷ 8 ∷ [])
-  promised_write : Holds writes → HoldsBytes (bytes_after []) (bytes_after (writes ∷ [])) port Process 2 (7 ∷ 8 ∷ [])
-  promised_stop : Holds stops → StatesAreSet (asks (WriteControl 6 3 [])) 6 3
-  -- and what not
-  another_byte : IsWritten (asks (Write 0x4040 2 (7 ∷ 8 ∷ []))) 0x4040 2 (8 ∷ 8 ∷ []) → ⊥
-  another_place : IsWritten (asks (Write 0x4040 2 (7 ∷ 8 ∷ []))) 0x4040 3 (7 ∷ 8 ∷ []) → ⊥
-  -- each handle is what its history says
-  live : HandlesAreHistoryIn strict plant waves before
-      → kept_status client.handles 1 851 ≡ Live (record { symbol = codes "main.count"; first = 0; len = 4 })
-  released : HandlesAreHistoryIn strict plant waves before → kept_status client.handles 2 851 ≡ Released
-  -- a handle reads the same behind a reload that is refused
-  kept : KeepsHandlesIn strict plant waves before (codes "schema = = 2")
-      → record { code = 0; bytes = 42 ∷ 0 ∷ 0 ∷ 0 ∷ [] } ≡ record { code = 0; bytes = 42 ∷ 0 ∷ 0 ∷ 0 ∷ [] }
 
 move_rows : MoveRows
 unfolding ams_length_of is_header front_of packet_of behind_frame frames_from frames_of left_behind rest_of has_same_parts has_same_members part_behind
@@ -154,7 +149,7 @@ unfolding ams_length_of is_header front_of packet_of behind_frame frames_from fr
     reply_in_forms outcome_in_all response_packet performed grouped frames_of_samples samples_at watches_after_tick reach_of outcomes_of memory_after_acts
     client_after_acts is_kept memory_after_reload world_after_reload client_reloaded answered_group after_packet after_packets after_piece read_group
     acts_of decide_request decide digits handle_history handle_events_of_event asked_in_turn asked_of_move asked_of_packets question_of requests_of
-    text_verdict toml_on_literals
+    text_verdict toml_on_literals is_utf8 chars
 move_rows = record {
   one_write = refl;
   one_read = refl;
@@ -169,16 +164,47 @@ move_rows = record {
   };
   tick_asks_nothing = tt;
   write_changes = (refl, refl);
-  is_written = record { holds = refl; read = λ e. refl };
-  promised_write = λ h. ((h.writes).0 0x4040 2 (7 ∷ 8 ∷ []) refl refl).holds;
-  promised_stop = λ h. (h.controls).0 6 3 [] refl refl;
-  another_byte = λ h. false≢true (ap (λ l. bytes_eq (take 4 l) (42 ∷ 0 ∷ 8 ∷ 8 ∷ [])) h.holds);
-  another_place = λ h. false≢true (ap (λ l. bytes_eq (take 4 l) (42 ∷ 0 ∷ 0 ∷ 7 ∷ [])) h.holds);
-  live = λ h. h 1 (unwrap_or (connection_of 1 state.connections) (fresh_connection new_client 1)) refl 1 851;
-  released = λ h. h 1 (unwrap_or (connection_of 1 state.connections) (fresh_connection new_client 1)) refl 2 851;
-  kept = λ h. h 1 (unwrap_or (connection_of 1 state.connections) (fresh_connection new_client 1))
-      (unwrap_or (connection_of 1 state.connections) (fresh_connection new_client 1)) engineer engineer
-      (record { before = refl; heard = refl; after = refl; same_port = refl }) 1 refl refl 4;
+}
+
+-- a write does not leave other bytes
+another_byte : IsWritten (asks (Write 0x4040 2 (7 ∷ 8 ∷ []))) 0x4040 2 (8 ∷ 8 ∷ []) → ⊥
+unfolding ams_length_of is_header front_of packet_of behind_frame frames_from frames_of left_behind rest_of has_same_parts has_same_members part_behind
+    type_align greatest_align type_size members_end type_depth greatest_depth found_of byte_at with_byte trees_behind trees_of type_text group_in group_of
+    request_in request_of byte_range bit_range size_range range_in header_of written_bytes reply_in notes_of connection_after_tick connection_after_reload
+    state_after_event state_after_move state_after given_in_turn left_in_turn sum_refusal packed handles_after_all memory_after_puts world_after_tick
+    client_after_tick read_write_group act_of plain_act produce produce_all connection_of put_back grant_in is_released_in place_after handle_in
+    with_released handles_after write_group control_act client_after client_after_reload ended_of watches_after_reload ended_watches name_behind
+    comment_behind entry_of_part numbers_from name_at names_at content_of projection_of acts_of_packets acts_of_move acts_of_log acts_by_others
+    reply_in_forms outcome_in_all response_packet performed grouped frames_of_samples samples_at watches_after_tick reach_of outcomes_of memory_after_acts
+    client_after_acts is_kept memory_after_reload world_after_reload client_reloaded answered_group after_packet after_packets after_piece read_group
+    acts_of decide_request decide digits handle_history handle_events_of_event asked_in_turn asked_of_move asked_of_packets question_of requests_of
+    text_verdict toml_on_literals is_utf8 chars
+another_byte h = false≢true (ap (λ l. bytes_eq (take 4 l) (42 ∷ 0 ∷ 8 ∷ 8 ∷ [])) h.holds)
+
+record HandleRows : Type 0 where
+  -- each handle is what its history says
+  live : HandlesAreHistoryIn strict plant waves before
+      → kept_status client.handles 1 851 ≡ Live (record { symbol = codes "main.count"; first = 0; len = 4 })
+  released : HandlesAreHistoryIn strict plant waves before → kept_status client.handles 2 851 ≡ Released
+  -- a handle reads the same behind a reload that is refused
+  kept : KeepsHandlesIn strict plant waves before (codes "schema = = 2") → read_by_handle refused_state connection engineer 1 4 ≡ full_count
+
+handle_rows : HandleRows
+unfolding ams_length_of is_header front_of packet_of behind_frame frames_from frames_of left_behind rest_of has_same_parts has_same_members part_behind
+    type_align greatest_align type_size members_end type_depth greatest_depth found_of byte_at with_byte trees_behind trees_of type_text group_in group_of
+    request_in request_of byte_range bit_range size_range range_in header_of written_bytes reply_in notes_of connection_after_tick connection_after_reload
+    state_after_event state_after_move state_after given_in_turn left_in_turn sum_refusal packed handles_after_all memory_after_puts world_after_tick
+    client_after_tick read_write_group act_of plain_act produce produce_all connection_of put_back grant_in is_released_in place_after handle_in
+    with_released handles_after write_group control_act client_after client_after_reload ended_of watches_after_reload ended_watches name_behind
+    comment_behind entry_of_part numbers_from name_at names_at content_of projection_of acts_of_packets acts_of_move acts_of_log acts_by_others
+    reply_in_forms outcome_in_all response_packet performed grouped frames_of_samples samples_at watches_after_tick reach_of outcomes_of memory_after_acts
+    client_after_acts is_kept memory_after_reload world_after_reload client_reloaded answered_group after_packet after_packets after_piece read_group
+    acts_of decide_request decide digits handle_history handle_events_of_event asked_in_turn asked_of_move asked_of_packets question_of requests_of
+    text_verdict toml_on_literals is_utf8 chars
+handle_rows = record {
+  live = λ h. h 1 connection refl 1 851;
+  released = λ h. h 1 connection refl 2 851;
+  kept = λ h. h 1 connection connection engineer engineer (record { before = refl; heard = refl; after = refl; same_port = refl }) 1 refl refl 4;
 }
 
 -- notification 1, of `Main.count`, at each cycle of 1,000; and what comes then

@@ -1,8 +1,9 @@
 -- What a refusal leaves, and what an access by a handle that is not live comes to, by computation.
 use Rattle.std.specs.Prelude.{◌≡◌, refl, ℕ, ◌+◌, List, [], ◌∷◌, ◌++◌, codes, bytes_eq, map, true, false, Bool, Some, None, Ok, Err, unwrap_or}
 use Rattle.std.specs.Prelude.{replicate, ◌==◌, drop, take, Result}
-use Rattle.std.proofs.Common.{ap, inl, inr, sym}
+use Rattle.std.proofs.Common.{ap, inl, inr, lit≤, sym}
 use Rattle.std.proofs.lemmas.Bool.{false≢true}
+use Rattle.std.specs.Str.{chars, is_utf8}
 use Rattle.toml.proofs.OnLiterals.{toml_on_literals}
 use Rattle.spec_plant.specs.PartTexts.{name_behind, comment_behind}
 use Rattle.spec_formats.specs.Groups.{group_in, group_of}
@@ -47,7 +48,7 @@ use Rattle.spec_plant.specs.Trees.{trees_behind, trees_of}
 use Rattle.spec_plant.specs.World.{byte_at, with_byte}
 use Rattle.std.specs.Fmt.{digits}
 use Rattle.spec_formats.specs.Groups.{value_by_handle}
-use Rattle.spec_formats.specs.Request.{Read as ReadBytes, Write}
+use Rattle.spec_formats.specs.Request.{AddDeviceNotification, Read as ReadBytes, ReadWrite, Write}
 use Rattle.spec_plant.specs.Description.{Control, Description, Process, Read}
 use Rattle.spec_plant.specs.World.{PlantPort, plant_port}
 use Rattle.spec_plant.proofs.Plant.{axis_type, count_symbol, port_with, symbols_with, title_symbol}
@@ -59,9 +60,10 @@ use Rattle.spec_machine.specs.Decisions.{Decision, AmsError, Perform}
 use Rattle.spec_machine.specs.Device.{BreaksRule, NoDocument}
 use Rattle.spec_machine.specs.Handles.{Live, Never, Outdated, Released}
 use Rattle.spec_machine.specs.MachineState.{MachineState}
+use Rattle.spec_machine.specs.Watches.{OnChange}
 use Rattle.spec_machine.specs.World.{World, setup_of}
 use Rattle.spec_machine.specs.Writes.{Asker}
-use Rattle.spec_laws.specs.Refusals.{IsTurnedAway, LeavesAll, RefusesAnyForm}
+use Rattle.spec_laws.specs.Refusals.{IsTurnedAway, LeavesAll, IsRefused}
 use Rattle.spec_laws.specs.Refusals.{dead_code, result_told}
 use Rattle.spec_laws.specs.Soundness.{ReadsAccepted}
 use Rattle.spec_server.specs.Server.{read_description}
@@ -169,13 +171,14 @@ record RefusalRows : Type 0 where
   never_promised : ServerRefusesDeadHandles → ServerRefuses (setup_of before.world) client engineer 4 0x710
   released_promised : ServerRefusesDeadHandles → ServerRefuses (setup_of before.world) client engineer 3 0x710
   outdated_promised : ServerRefusesDeadHandles → ServerRefuses (setup_of after.world) client_after_it engineer 2 0x711
-  no_access : ServerRefusesDeadHandles → RefusesAnyForm (setup_of before.world) client engineer 3
+  no_access : ServerRefusesDeadHandles → IsRefused (act_of (setup_of before.world) client engineer (ReadWrite value_by_handle 3 4 (1 ∷ [])))
+  no_addition : ServerRefusesDeadHandles
+      → act_of (setup_of before.world) client engineer (AddDeviceNotification value_by_handle 3 4 4 0 0) ≡ Refusal 0x710
   live_is_not_refused : ServerRefuses (setup_of before.world) client engineer 1 0x710 → ⊥
   -- readings of descriptions
   reads_none : ReadsAccepted (λ bytes signals. Err NoDocument)
   reads_too_many_signals : ReadsAccepted (λ bytes signals. Ok plant) → ⊥
   no_text : read_description (codes "schema = = 2") 3 ≡ Err NoDocument
-  rule_of_text : read_description (codes "schema = 3\n") 3 ≡ Err (BreaksRule 2 0)
 
 refusal_rows : RefusalRows
 unfolding ams_length_of is_header front_of packet_of behind_frame frames_from frames_of left_behind rest_of has_same_parts has_same_members part_behind
@@ -187,7 +190,7 @@ unfolding ams_length_of is_header front_of packet_of behind_frame frames_from fr
     comment_behind entry_of_part numbers_from name_at names_at content_of projection_of acts_of_packets acts_of_move acts_of_log acts_by_others
     reply_in_forms outcome_in_all response_packet performed grouped frames_of_samples samples_at watches_after_tick reach_of outcomes_of memory_after_acts
     client_after_acts is_kept memory_after_reload world_after_reload client_reloaded answered_group after_packet after_packets after_piece read_group
-    acts_of decide_request decide digits text_verdict toml_on_literals
+    acts_of decide_request decide digits text_verdict toml_on_literals is_utf8 chars
 refusal_rows = record {
   response = inl refl;
   stranger = inr (inl refl);
@@ -210,10 +213,10 @@ refusal_rows = record {
   never_promised = λ h. h (setup_of before.world) client engineer 4 0x710 refl;
   released_promised = λ h. h (setup_of before.world) client engineer 3 0x710 refl;
   outdated_promised = λ h. h (setup_of after.world) client_after_it engineer 2 0x711 refl;
-  no_access = λ h. (h (setup_of before.world) client engineer 3 0x710 refl).any_form;
+  no_access = λ h. (h (setup_of before.world) client engineer 3 0x710 refl).read_write 4 (1 ∷ []);
+  no_addition = λ h. (h (setup_of before.world) client engineer 3 0x710 refl).add 4 4 0 0 OnChange refl (lit≤ tt);
   live_is_not_refused = λ h. false≢true (ap is_refusal (h.read 4));
   reads_none = λ bytes signals d e. absurd (false≢true (ap is_ok e));
   reads_too_many_signals = λ h. false≢true ((h [] 2 plant refl).each_port);
   no_text = refl;
-  rule_of_text = refl;
 }
