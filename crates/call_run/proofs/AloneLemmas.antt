@@ -96,9 +96,12 @@ prints_from e s out between new none later (inr (inl h)) = inr (inl (h.0, puts_f
 prints_from e s out between new none later (inr (inr (is, inl h))) =
     inr (inr (is, inl (h.0, puts_from h.0 out between new (last_line_of status.Memory) none later h.1)))
 prints_from e s out between new none later (inr (inr (is, inr h))) =
-    inr (inr (is, inr (
-      h.0,
-      puts_from put.Memory out between h.0 e.text none later h.1,
-      record { faults = le_trans later.faults h.2.faults; wants = le_trans later.wants h.2.wants },
-      h.3,
-    )))
+    inr (inr (
+      is,
+      inr (
+        h.0,
+        puts_from put.Memory out between h.0 e.text none later h.1,
+        record { faults = le_trans later.faults h.2.faults; wants = le_trans later.wants h.2.wants },
+        h.3,
+      ),
+    ))

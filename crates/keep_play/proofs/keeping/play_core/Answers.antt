@@ -42,7 +42,7 @@ returns-in-Ok-StoreFault-clause-ends g c = λ d waves stands. c.in-Ok-StoreFault
 
 pub returns-in-Ok-StoreLimit-clause-ends : goal.returns-in-Ok-StoreLimit-clause-ends
 returns-in-Ok-StoreLimit-clause-ends g c = λ d waves stands.
-    core_ends played.StoreLimit c.keep_script.new.served d waves c.args.script c.args.store.now.standing (body_of c.args.store.now) (λ saves. Unit) _
+    core_ends played.StoreLimit c.keep_script.new.served d waves c.args.script c.args.store.now.standing (body_of c.args.store.now) (λ saves. Unit) Unit
     ((rw c.in-Ok-StoreLimit.field-0-is at c.in-Ok-StoreLimit.ensures.ends) (begun d waves) stands (unused_begun d waves))
 
 pub returns-clause-ends : goal.returns-clause-ends
