@@ -8,7 +8,7 @@ use ads_outside::{Files, Link, LinkMove, MemFiles, MemLink, MemSink, MemWire, Mo
 use ads_run::{Status, run, run_program};
 use persist_store::{Disk, MemDisk};
 use run_sheets::{
-    CaseWire, Came, Fault, Given, LinkCase, Runs, StoreCase, WireCase, log_text, open_new, rows_of,
+    Came, CaseWire, Fault, Given, LinkCase, Runs, StoreCase, WireCase, log_text, open_new, rows_of,
     talk_of,
 };
 use sample_store::{Keeper, MapKeeper};
