@@ -70,7 +70,8 @@ module _ {D : Type 0} (noted : Noting World Client) (serves serves_new : Standin
       (HoldsWhole kept.counts (contents old_disk) standing) old.history new.history)
 
   ended_so : (x : Standing World Client) (r : End) (last : Option SaveEnd) (counts : SaveCounts)
-      → Keeps (record { ended = r; last = last; counts = counts }) → Marks (record { ended = r; last = last; counts = counts }) → (0 < counts.failed → Rose (faults old_disk) (faults new_disk))
+      → Keeps (record { ended = r; last = last; counts = counts }) → Marks (record { ended = r; last = last; counts = counts })
+      → (0 < counts.failed → Rose (faults old_disk) (faults new_disk))
       → PrintsSo r (status_by last counts) (Some counts.saved) serves_new s out out_new → StandsAnew serves x → Runs x
   ended_so x end.Done last counts h marks failed prints stands =
       let over = stands old.history.opened in

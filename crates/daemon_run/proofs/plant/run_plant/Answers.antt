@@ -34,8 +34,8 @@ returns-in-Err-clause-ends g c =
     wants_described (serves_plant h) (λ x. EndsPlant h x s out out_new disk wire wire) ((wire ≡ wire) × (d ≡ d)) (g.F.Files.state c.args.files.now).held
     (length h.waves) (λ bytes x. serves_plant h (plant_of name listen bytes x)) name
     (Rose (g.F.Files.state c.args.files.now).faults (g.F.Files.state c.read_description.new.files).faults) s out out_new (refl, refl) wants
-    (λ bytes x. plant_wanting g.D.Disk.contents g.D.Disk.may_leave g.D.Disk.moment g.D.Disk.left_since g.D.Disk.marked g.D.Disk.fault_count h (plant_of name listen bytes x)
-    ((wire ≡ wire) × (d ≡ d)) d s out out_new wire (g.met.D.Disk.only_now d) wants)
+    (λ bytes x. plant_wanting g.D.Disk.contents g.D.Disk.may_leave g.D.Disk.moment g.D.Disk.left_since g.D.Disk.marked g.D.Disk.fault_count
+    h (plant_of name listen bytes x) ((wire ≡ wire) × (d ≡ d)) d s out out_new wire (g.met.D.Disk.only_now d) wants)
 
 pub returns-in-Ok-Err-clause-ends : goal.returns-in-Ok-Err-clause-ends
 returns-in-Ok-Err-clause-ends g c =
