@@ -61,7 +61,8 @@ pub fn run_real<T: Threads + Sync, S: Sink>(
         (⟦<RealWire<HostRuntime> as Wire>⟧.state old.wire).history (⟦<RealWire<HostRuntime> as Wire>⟧.state new.wire).history
         (link_used ⟦<RealLink<HostRuntime> as Link>⟧.tells ⟦<RealLink<HostRuntime> as Link>⟧.state old.link new.link)
         (disk_used ⟦<RealDisk<HostRuntime> as Disk>⟧.contents ⟦<RealDisk<HostRuntime> as Disk>⟧.may_leave ⟦<RealDisk<HostRuntime> as Disk>⟧.moment
-        ⟦<RealDisk<HostRuntime> as Disk>⟧.left_since ⟦<RealDisk<HostRuntime> as Disk>⟧.fault_count old.disk new.disk)
+        ⟦<RealDisk<HostRuntime> as Disk>⟧.left_since ⟦<RealDisk<HostRuntime> as Disk>⟧.marked
+        ⟦<RealDisk<HostRuntime> as Disk>⟧.fault_count old.disk new.disk)
         (keeper_used ⟦<SqliteKeeper as Keeper>⟧.state old.keeper new.keeper))) }
     ensures unreadable { words ≡ Err ErrorKind.OutOfMemory → result ≡ Status.Memory }
     ensures usage { result ≡ Status.Usage → asked_task (words_behind_name words) ≡ None }
@@ -89,7 +90,8 @@ fn run_over<T: Threads + Sync, S: Sink>(
         (⟦<RealWire<HostRuntime> as Wire>⟧.state outside.old.wire).history (⟦<RealWire<HostRuntime> as Wire>⟧.state outside.new.wire).history
         (link_used ⟦<RealLink<HostRuntime> as Link>⟧.tells ⟦<RealLink<HostRuntime> as Link>⟧.state outside.old.link outside.new.link)
         (disk_used ⟦<RealDisk<HostRuntime> as Disk>⟧.contents ⟦<RealDisk<HostRuntime> as Disk>⟧.may_leave ⟦<RealDisk<HostRuntime> as Disk>⟧.moment
-        ⟦<RealDisk<HostRuntime> as Disk>⟧.left_since ⟦<RealDisk<HostRuntime> as Disk>⟧.fault_count outside.old.disk outside.new.disk)
+        ⟦<RealDisk<HostRuntime> as Disk>⟧.left_since ⟦<RealDisk<HostRuntime> as Disk>⟧.marked
+        ⟦<RealDisk<HostRuntime> as Disk>⟧.fault_count outside.old.disk outside.new.disk)
         (keeper_used ⟦<SqliteKeeper as Keeper>⟧.state outside.old.keeper outside.new.keeper)) }
     ensures unreadable { words ≡ Err ErrorKind.OutOfMemory → result ≡ Status.Memory }
     ensures usage { result ≡ Status.Usage → asked_task (words_behind_name words) ≡ None }
