@@ -11,8 +11,8 @@ pub(crate) fn joined(alloc: Global, log: &[u8]) -> Result<Octets, Fault> {
         return Err(Fault::Off("the log is no text"));
     };
     let mut lines = Octets::new(alloc);
-    // The connection of the line that is not ended.
-    let mut open = "";
+    // The connection of the line that is not ended, as it is written.
+    let mut open: &[u8] = b"";
     for line in text.lines() {
         open = put_line(alloc, &mut lines, open, line)?;
     }
@@ -24,29 +24,29 @@ pub(crate) fn joined(alloc: Global, log: &[u8]) -> Result<Octets, Fault> {
 fn put_line<'a>(
     alloc: Global,
     lines: &mut Octets,
-    open: &'a str,
+    open: &'a [u8],
     line: &'a str,
-) -> Result<&'a str, Fault> {
+) -> Result<&'a [u8], Fault> {
     let Some((conn, digits)) = taken_in(line) else {
         end_line(alloc, lines, open)?;
         lines.put(alloc, line.as_bytes())?;
         lines.put(alloc, b"\n")?;
-        return Ok("");
+        return Ok(b"");
     };
     if digits.is_empty() {
         return Ok(open);
     }
-    if conn != open {
+    if conn.as_bytes() != open {
         end_line(alloc, lines, open)?;
         lines.put(alloc, b"took ")?;
         lines.put(alloc, conn.as_bytes())?;
         lines.put(alloc, b" x")?;
     }
     lines.put(alloc, digits.as_bytes())?;
-    Ok(conn)
+    Ok(conn.as_bytes())
 }
 
-fn end_line(alloc: Global, lines: &mut Octets, open: &str) -> Result<(), Fault> {
+fn end_line(alloc: Global, lines: &mut Octets, open: &[u8]) -> Result<(), Fault> {
     if !open.is_empty() {
         lines.put(alloc, b"\n")?;
     }
