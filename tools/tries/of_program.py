@@ -102,8 +102,8 @@ def daemon_ends(program, folder):
     return len(asked)
 
 
-# A body of one entry with a name of one byte has 21 bytes beside its value, and 1,048,576 at most.
-MOST = 1_048_555
+# A body has 1,048,576 bytes at most; one of one entry has 21, its name's one included, and the 26 of its form beside its value.
+MOST = 1_048_529
 LONG = f"""schema = 1
 net = "{NET}"
 [[route]]
