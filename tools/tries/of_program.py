@@ -102,8 +102,9 @@ def daemon_ends(program, folder):
     return len(asked)
 
 
-# A body has 1,048,576 bytes at most; one of one entry has 21, its name's one included, and the 26 of its form beside its value.
-MOST = 1_048_529
+# A body of one entry has 21 bytes beside its value and its form, where the name has one byte, and the form has 26: "array [1..1048529] of byte". It has
+# 1,048,576 at most.
+MOST = 1_048_576 - 21 - 26
 LONG = f"""schema = 1
 net = "{NET}"
 [[route]]
@@ -136,6 +137,7 @@ def long_ones(program, folder):
     lines = out.splitlines()
     see(status == 0 and lines[-1] == "saved 1", f"keep of a long piece: {out[-200:]!r}, status {status}")
     see(len(lines) > 3 and lines[1].endswith(first.hex()), "keep: the long piece is not answered by what it wrote")
+    see(os.path.getsize(os.path.join(folder, "long.store")) > 1_048_576, "keep: the longest body is not in its file")
     out, status = ran(program, folder, "keep", "long.toml", "again.script", "long.store")
     see(status == 0 and out.splitlines()[0].endswith(then.hex()), f"keep again: the long body is not what was written, {out[-200:]!r}, status {status}")
 
@@ -198,7 +200,7 @@ def reads_much_at_once(program, folder):
     with Served(program, os.path.join(folder, "long.toml")) as server:
         came, spent = used(program, folder, "get", "x", *server.words())
     see(came == local, f"get over a socket prints {came[:80]!r}, in the same process {local[:80]!r}")
-    see(spent < 0.3 + 3 * took, f"get of a megabyte over a socket takes {spent:.2f} s of a processor, {took:.2f} s in the same process")
+    see(spent < 0.1 + 8 * took, f"get of a megabyte over a socket takes {spent:.2f} s of a processor, {took:.2f} s in the same process")
 
 
 def serves(program):
