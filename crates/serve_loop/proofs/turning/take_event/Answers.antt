@@ -29,5 +29,5 @@ pub returns-clause-ok : goal.returns-clause-ok
 returns-clause-ok g c =
     leads_from _ _ _ _ _ _ _ _ _ _
     (λ y comes. c.in_ok-due.ensures.stays y (comes_to _ _ _ (g.M.Served.serves c.step.new.self) _ c.in_ok-step.ensures.follows y comes))
-    (λ y ms serves all. all (rw c.as_slice.ensures (c.in_ok-due.ensures.due y serves)) (g.met.M.Served.apart c.due.new.self y serves))
+    (λ y ms serves all. all (rw c.as_slice.ensures.value (c.in_ok-due.ensures.due y serves)) (g.met.M.Served.apart c.due.new.self y serves))
     c.in_ok-serve_each.ensures.ok
