@@ -6,8 +6,17 @@ ghost use Rattle.ams_header.specs.Header.{address_of, ams_header_of};
 
 use ads_base::{AmsAddr, NetId, get16, get32};
 
-/// The flags of a response: an ADS command, and its answer.
+/// Bytes of an AMS header.
+pub const AMS_HEADER: usize = 32;
+
+/// The flags of a request: an ADS command.
+pub const REQUEST: u16 = 0x0004;
+
+// The flags of a response: an ADS command, and its answer.
 const RESPONSE: u16 = 0x0005;
+
+/// The command DeviceNotification.
+pub const NOTIFICATION: u16 = 8;
 
 /// An AMS header, 32 bytes on the wire, every number little-endian.
 ///
@@ -38,10 +47,10 @@ pub fn read(ams: &[u8]) -> Option<(Header, &[u8])>
     ensures header { IfSome result (λ (h, payload). header_of ams.now ≡ Some (ams_header_of h)) }
     ensures payload { IfSome result (λ (h, payload). payload.now ≡ payload_of ams.now) }
 {
-    if ams.len() < 32 {
+    if ams.len() < AMS_HEADER {
         return None;
     }
-    Some((header_in(ams), &ams[32..]))
+    Some((header_in(ams), &ams[AMS_HEADER..]))
 }
 
 /// The header of an AMS packet, which has 32 bytes at least.

@@ -3,4 +3,4 @@
 
 mod header;
 
-pub use header::{Header, answer_of, header_in, put, read};
+pub use header::{AMS_HEADER, Header, NOTIFICATION, REQUEST, answer_of, header_in, put, read};

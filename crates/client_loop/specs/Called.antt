@@ -1,7 +1,6 @@
 -- What a call over a link leaves in the link and in the sink.
 use Rattle.std.specs.Prelude.{◌≡◌, ◌⊎◌, ℕ, List, [], ◌∷◌, ◌++◌, Bool, true, false, Option, Some, None, Result, Ok, Err}
 use Rattle.ads_base.specs.declared.no_memory.NoMemory.{NoMemory}
-use Rattle.spec_formats.specs.Header.{AmsAddress}
 use Rattle.ads_outside.specs.declared.connected.Connected.{Connected}
 use Rattle.ads_outside.specs.declared.connected.Connected.TheVariants as connected
 use Rattle.ads_outside.specs.declared.link_move.LinkMove.{LinkMove}
@@ -10,8 +9,8 @@ use Rattle.ads_outside.specs.LinkState.{LinkState}
 use Rattle.ads_outside.specs.Puts.{Appends}
 use Rattle.ads_outside.specs.Rose.{Rose}
 use Rattle.ads_outside.specs.SinkState.{SinkState}
-use Rattle.spec_client.specs.Calls.{Call}
 use Rattle.spec_client.specs.CallOver.{call_over}
+pub use Rattle.spec_client.specs.CallOver.{Calling, calling}
 use Rattle.spec_client.specs.Conversation as conversation
 use Rattle.spec_client.specs.Conversation.{LinkAnswer, Conversation, conversation_begun, conversation_after}
 use Rattle.spec_client.specs.Runner.{CallStep}
@@ -22,16 +21,6 @@ use Rattle.client_loop.specs.declared.loop_end.LoopEnd.TheVariants as end
 use Rattle.client_loop.specs.Due.{AtSend, AtPrint, Anywhere, StopsAt, call_steps_last, call_text_up_to}
 use Rattle.client_loop.specs.LinkAfter.{history_over, history_left}
 use Rattle.client_loop.specs.Said.{SentSome}
-
--- a call, between which addresses it is made, and what the link is connected to
-pub record Calling : Type 0 where
-  pub me : AmsAddress
-  pub peer : AmsAddress
-  pub call : Call
-  pub to : List ℕ
-
-abbrev pub calling : AmsAddress → AmsAddress → Call → List ℕ → Calling
-calling me peer call to = record { me = me; peer = peer; call = call; to = to }
 
 -- the call over a link that was connected at a moment and gave these answers
 abbrev pub over : Calling → ℕ → List LinkAnswer → Conversation

@@ -3,18 +3,11 @@ use Rattle.std.specs.Prelude.{ℕ, ◌+◌, ◌≤◌, ◌<◌, ◌^◌, List, [
 use Rattle.spec_formats.specs.Request as request
 use Rattle.spec_client.specs.Unanswered.{outstanding_count}
 use Rattle.spec_client.specs.Calls.{Call, Info, State, Control, Get, Set, Symbols, Watch, Show, Record, MAX_SIZE}
+pub use Rattle.spec_client.specs.Calls.{MAX_TEXT, AreShort}
 use Rattle.spec_client.specs.Stages.{Output, ToSend, ToPrint, ToKeep, ForSamples, Stage, AwaitsEntry}
 use Rattle.spec_client.specs.Stages.{AwaitsHandle, AwaitsTypeInfo, AwaitsTypes, Watches, Records}
 use Rattle.spec_client.specs.Runner.{Runner}
 use Rattle.client_replies.specs.Rows.{HasRowNumbers}
-
--- the greatest length of a text of a call
-abbrev pub MAX_TEXT : ℕ
-MAX_TEXT = 65536
-
-abbrev pub AreShort : List (List ℕ) → Type 0
-AreShort [] = Unit {0}
-AreShort (name ∷ names) = (length name ≤ MAX_TEXT) × AreShort names
 
 -- each text of the call is short, and its rows have numbers from 1 to 2 ^ 63 - 1
 abbrev pub HasShortTexts : Call → Type 0

@@ -7,7 +7,7 @@ mod numbers;
 mod rule;
 
 pub use access::Reach;
-pub use groups::{AreaGroup, area_group, byte_group};
+pub use groups::{Group, HandleGroup, NameGroup, SumGroup, UploadGroup, byte_group};
 pub use numbers::{
     EXTENDED_INFO_BY_NAME, HANDLE_BY_NAME, INFO_BY_NAME, INPUT_BIT, INPUT_BYTES, INPUT_SIZE,
     MEMORY_BIT, MEMORY_BYTES, MEMORY_SIZE, OUTPUT_BIT, OUTPUT_BYTES, OUTPUT_SIZE, PROCESS_BYTES,

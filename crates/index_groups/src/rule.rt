@@ -1,13 +1,13 @@
 //! What an access names, or the code that refuses it.
 
-ghost use Rattle.std.specs.Prelude.{◌≡◌, IfOk};
+ghost use Rattle.std.specs.Prelude.{◌≡◌, Some, IfOk};
 ghost use Rattle.spec_plant.specs.Description.{size_in};
-ghost use Rattle.spec_formats.specs.Ranges.{range_of, byte_range, bit_range, size_range};
+ghost use Rattle.spec_formats.specs.Ranges.{range_of, range_in, byte_range, bit_range, size_range};
 ghost use Rattle.type_layout.specs.Descriptions.{area_of, sizes_of};
 ghost use Rattle.index_groups.specs.Access.{answer_meant, IsWithin};
+ghost use Rattle.index_groups.specs.Groups.{group_meant};
 
-use crate::Reach;
-use crate::groups::{AreaGroup, area_group};
+use crate::{Group, Reach};
 use return_codes::Code;
 use type_layout::{Area, Sizes};
 
@@ -30,11 +30,27 @@ pub fn reach(sizes: &Sizes, group: u32, offset: u32, len: u32) -> Result<Reach, 
     ensures rule { answer_meant result ≡ range_of (sizes_of sizes.now) group offset len }
     ensures within { IfOk result (IsWithin (sizes_of sizes.now)) }
 {
-    match area_group(group) {
-        Some(AreaGroup::Bytes(area)) => byte_reach(sizes, area, offset, len),
-        Some(AreaGroup::Bit(area)) => bit_reach(sizes, area, offset, len),
-        Some(AreaGroup::Size(area)) => size_reach(area, len),
+    match Group::of(group) {
+        Some(group) => group.reach(sizes, offset, len),
         None => Err(Code::C702),
+    }
+}
+
+impl Group {
+    /// The same of a group that is known.
+    #[inline(always)]
+    #[tactic(auto, unfolding(spec_formats::specs::Ranges::range_in))]
+    pub fn reach(self, sizes: &Sizes, offset: u32, len: u32) -> Result<Reach, Code>
+        ensures rule { answer_meant result ≡ range_in (Some (group_meant self)) (sizes_of sizes.now) offset len }
+        ensures within { IfOk result (IsWithin (sizes_of sizes.now)) }
+    {
+        match self {
+            Group::Bytes(area) => byte_reach(sizes, area, offset, len),
+            Group::Bit(area) => bit_reach(sizes, area, offset, len),
+            Group::Size(area) => size_reach(area, len),
+            Group::Handle(_) | Group::Name(_) => Err(Code::C702),
+            Group::Version | Group::Upload(_) | Group::Sum(_) => Err(Code::C702),
+        }
     }
 }
 

@@ -1,5 +1,5 @@
 -- The calls of the client, and the requests that they are made of. Beckhoff Information System, "ADS Commands".
-use Rattle.std.specs.Prelude.{ℕ, List}
+use Rattle.std.specs.Prelude.{ℕ, ◌≤◌, List, [], ◌∷◌, length}
 use Rattle.std.specs.Int.{w32, to_le_bytes}
 use Rattle.spec_formats.specs.Groups.{handle_by_name, value_by_name, value_by_handle, release_handle}
 use Rattle.spec_formats.specs.Groups.{extended_info_by_name, symbol_upload, upload_info, type_upload}
@@ -38,6 +38,14 @@ ENTRY_LEN = 65536
 
 abbrev pub MAX_SIZE : ℕ
 MAX_SIZE = 1048576
+
+-- the greatest length of a text of a call
+abbrev pub MAX_TEXT : ℕ
+MAX_TEXT = 65536
+
+abbrev pub AreShort : List (List ℕ) → Type 0
+AreShort [] = Unit {0}
+AreShort (name ∷ names) = (length name ≤ MAX_TEXT) × AreShort names
 
 abbrev pub entry_request : List ℕ → Request
 entry_request name = ReadWrite extended_info_by_name 0 ENTRY_LEN name
