@@ -1,11 +1,11 @@
 -- What a reading brought.
-use Rattle.std.specs.Prelude.{ℕ, ◌≤◌}
+use Rattle.std.specs.Prelude.{ℕ, ◌≤◌, ◌<◌}
 use Rattle.ads_edge.specs.declared.arrived.Arrived.{Arrived}
 use Rattle.ads_edge.specs.declared.arrived.Arrived.TheVariants as arrived
 
--- what came stands within a buffer of this length
+-- what came stands within a buffer of this length, and is something
 abbrev pub ArrivedWithin : Arrived → ℕ → Type 0
-ArrivedWithin (arrived.Bytes n) room = n ≤ room
+ArrivedWithin (arrived.Bytes n) room = (0 < n) × (n ≤ room)
 ArrivedWithin arrived.Nothing room = Unit {0}
 ArrivedWithin arrived.End room = Unit {0}
 ArrivedWithin arrived.Failed room = Unit {0}

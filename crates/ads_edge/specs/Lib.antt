@@ -10,6 +10,5 @@ pub mod Refusal
 pub mod RefusedPeers
 pub mod Sockets
 pub mod TickClock
-pub mod Told
 pub mod Waiting
 pub mod Written

@@ -1,11 +1,11 @@
-//! What a reading brought.
+//! What a reading brought, from a connection or over a link.
 
-/// What came on a connection when it was read.
+/// What came when a connection or a link was read.
 #[derive(Clone, Copy)]
 pub(crate) enum Arrived {
-    /// So many bytes, which stand at the front of the buffer.
+    /// So many bytes, at least one, which stand at the front of the buffer.
     Bytes(usize),
-    /// No bytes are there now.
+    /// No bytes are there now; over a link, nothing for 10 ms.
     Nothing,
     /// The peer sends no more.
     End,

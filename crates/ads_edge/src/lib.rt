@@ -26,7 +26,6 @@ mod sockets;
 mod stage;
 mod standard;
 mod tick_clock;
-mod told;
 mod vanished;
 mod wall_clock;
 mod words;
