@@ -1,6 +1,7 @@
 -- The numbers of the connections that are to be served.
 use Rattle.std.proofs.Common.{◌≡◌, ◌≢◌, ℕ, zero, suc, ◌<◌, ◌≤◌, List, [], ◌∷◌, ◌++◌, length, take, true, false, cond, refl, sym, ap, ◌∙◌, inl, inr, arith}
-use Rattle.std.specs.Prelude.{filter, slice_get, Some, None}
+use Rattle.std.specs.Prelude.{filter, slice_get, Some, None, Result, OnOk}
+use Rattle.std.proofs.lemmas.Result.{on_ok_weaker}
 use Rattle.std.proofs.lemmas.Bool.{cases_Bool, cases_eq, cond-true, cond-false}
 use Rattle.std.proofs.lemmas.List.{append-nil, append_assoc}
 use Rattle.connections.specs.declared.outlet.Outlet.{Outlet}
@@ -60,3 +61,15 @@ pub all_idle : (es : Outlets) → ((k : ℕ) → k < length es → due_at es k �
 all_idle [] idle k = refl
 all_idle (e ∷ es) idle zero = idle 0 (omega arith)
 all_idle (e ∷ es) idle (suc k) = all_idle es (λ j below. idle (suc j) (omega (arith, below))) k
+
+-- numbers that are put into room in which none stands
+pub one_put : {A E : Type 0} (r : Result A E) (es : Outlets) (a : ℕ) (old new : List ℕ) → ((k : ℕ) → k ≢ a → due_at es k ≡ false)
+    → old ≡ [] → OnOk r (new ≡ old ++ number_if_due (slice_get es a)) → OnOk r (new ≡ numbers_due es)
+one_put r es a old new idle none put = on_ok_weaker r (λ e. e ∙ ap (λ ns. ns ++ number_if_due (slice_get es a)) none ∙ sym (one_due es a idle)) put
+
+pub two_put : {A E : Type 0} (r : Result A E) (es : Outlets) (a b : ℕ) (old mid new : List ℕ) → a < b
+    → ((k : ℕ) → k ≢ a → k ≢ b → due_at es k ≡ false) → old ≡ [] → mid ≡ old ++ number_if_due (slice_get es a)
+    → OnOk r (new ≡ mid ++ number_if_due (slice_get es b)) → OnOk r (new ≡ numbers_due es)
+two_put r es a b old mid new order idle none first put = on_ok_weaker r
+    (λ e. e ∙ ap (λ ns. ns ++ number_if_due (slice_get es b)) (first ∙ ap (λ ns. ns ++ number_if_due (slice_get es a)) none)
+    ∙ sym (two_due es a b order idle)) put

@@ -53,14 +53,13 @@ stands_at {C} (j ∷ ks) i k apart there = elim (cases_Bool j.gone) [
   | inl gone ↦
       let rest = stands_at ks i k apart.1 (sym (ap (λ ps. slice_get ps i) (present-gone j ks gone)) ∙ there) in
       behind_gone j k ks i gone (other_before k.number j k ks apart.0 rest.found) rest
-  | inr here ↦ by i here (sym (ap (λ ps. slice_get ps i) (present-there j ks here)) ∙ there)
+  | inr here ↦ by (λ m. stands_at ks m k apart.1) i here (sym (ap (λ ps. slice_get ps i) (present-there j ks here)) ∙ there)
 ]
   where
-    by : (m : ℕ) → j.gone ≡ false → slice_get (j ∷ present ks) m ≡ Some k → StandsAt (j ∷ ks) m k
-    by zero here first = let same : j ≡ k = cc in subst (λ l. StandsAt (j ∷ ks) zero l) same (at_head j ks here)
-    by (suc m) here later =
-        let rest = stands_at ks m k apart.1 later in
-        behind_there j k ks m here (other_before k.number j k ks apart.0 rest.found) rest
+    by : ((m : ℕ) → slice_get (present ks) m ≡ Some k → StandsAt ks m k)
+        → (m : ℕ) → j.gone ≡ false → slice_get (j ∷ present ks) m ≡ Some k → StandsAt (j ∷ ks) m k
+    by rest zero here first = let same : j ≡ k = cc in subst (λ l. StandsAt (j ∷ ks) zero l) same (at_head j ks here)
+    by rest (suc m) here later = let at = rest m later in behind_there j k ks m here (other_before k.number j k ks apart.0 at.found) at
 
 -- those at other places have other numbers
 pub others_differ : {C : Type 0} (ks : List (Connection C)) (i m : ℕ) (k l : Connection C) → AreApart ks
@@ -69,15 +68,16 @@ others_differ {C} [] i m k l apart there also same = absurd (let none : ◌≡�
 others_differ {C} (j ∷ ks) i m k l apart there also same = elim (cases_Bool j.gone) [
   | inl gone ↦ others_differ ks i m k l apart.1 (sym (ap (λ ps. slice_get ps i) (present-gone j ks gone)) ∙ there)
       (sym (ap (λ ps. slice_get ps m) (present-gone j ks gone)) ∙ also) same
-  | inr here ↦ by i m (sym (ap (λ ps. slice_get ps i) (present-there j ks here)) ∙ there) (sym (ap (λ ps. slice_get ps m) (present-there j ks here)) ∙ also)
+  | inr here ↦ by (λ a b x y. others_differ ks a b k l apart.1 x y same) i m (sym (ap (λ ps. slice_get ps i) (present-there j ks here)) ∙ there) (sym (ap (λ ps. slice_get ps m) (present-there j ks here)) ∙ also)
 ]
   where
     first_again : (x y : Connection C) (a : ℕ) → j ≡ x → slice_get (present ks) a ≡ Some y → x.number ≡ y.number → ⊥
     first_again x y a first later equal =
         let rest = stands_at ks a y apart.1 later in
         other_before y.number j y ks apart.0 rest.found (ap (λ (z : Connection C). z.number) first ∙ equal)
-    by : (a b : ℕ) → slice_get (j ∷ present ks) a ≡ Some k → slice_get (j ∷ present ks) b ≡ Some l → b ≡ a
-    by zero zero x y = refl
-    by zero (suc b) x y = absurd (first_again k l b cc y (sym same))
-    by (suc a) zero x y = absurd (first_again l k a cc x same)
-    by (suc a) (suc b) x y = ap suc (others_differ ks a b k l apart.1 x y same)
+    by : ((a b : ℕ) → slice_get (present ks) a ≡ Some k → slice_get (present ks) b ≡ Some l → b ≡ a)
+        → (a b : ℕ) → slice_get (j ∷ present ks) a ≡ Some k → slice_get (j ∷ present ks) b ≡ Some l → b ≡ a
+    by rest zero zero x y = refl
+    by rest zero (suc b) x y = let first : j ≡ k = cc in absurd (first_again k l b first y (sym same))
+    by rest (suc a) zero x y = let first : j ≡ l = cc in absurd (first_again l k a first x same)
+    by rest (suc a) (suc b) x y = ap suc (rest a b x y)
