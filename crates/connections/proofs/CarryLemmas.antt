@@ -17,7 +17,7 @@ use Rattle.connections.proofs.EntryLemmas.{no_first, none_behind_first, entry_or
 use Rattle.connections.proofs.OutletLemmas.{without_at}
 use Rattle.connections.proofs.ColumnLemmas.{BothAt, each_at, each_removed, each_added}
 use Rattle.connections.proofs.PlaceLemmas.{StandsAt, stands_at, others_differ}
-use Rattle.connections.proofs.StateLemmas.{present-gone, present-there, present-append, connection_of-same, connection_of-other}
+use Rattle.connections.proofs.StateLemmas.{present-gone, present-there, present-append, connection_of-same, connection_of-other, put_back-same, put_back-other}
 use Rattle.connections.proofs.StateLemmas.{none_of_nil, was_none, was_none_append, AreApart-put_back, AreApart-append}
 
 -- a change of the blocked connections that concerns one number alone
@@ -64,6 +64,31 @@ within : {X : Type 0} (xs : List X) (i : ℕ) (x : X) → slice_get xs i ≡ Som
 within {X} [] i x t = absurd (let none : ◌≡◌ {A = Option X} None (Some x) = t in cc)
 within (y ∷ ys) zero x t = omega arith
 within (y ∷ ys) (suc i) x t = let rest = within ys i x t in omega (arith, rest)
+
+-- the marks, where an outlet changes, goes or comes
+marked_changed : (change : Outlet → Outlet) (old new : List ℕ) (n : ℕ) (es : Outlets) (i : ℕ) → Concerns n old new
+    → ((j : ℕ) (e : ℕ × Outlet) → j ≢ i → slice_get es j ≡ Some e → e.0 ≢ n)
+    → ((e : ℕ × Outlet) → slice_get es i ≡ Some e → (let o = change e.1 in o.blocked ≡ is_among e.0 new))
+    → EachMarked old es → EachMarked new (change_at change i es)
+marked_changed change old new n [] i concerns others own marks = tt
+marked_changed change old new n (f ∷ es) zero concerns others own marks = (own f refl, behind es (λ j e t. others (suc j) e (λ same. omega (arith, same)) t) marks.1)
+  where
+    behind : (gs : Outlets) → ((j : ℕ) (e : ℕ × Outlet) → slice_get gs j ≡ Some e → e.0 ≢ n) → EachMarked old gs → EachMarked new gs
+    behind [] other all = tt
+    behind (g ∷ gs) other all = (all.0 ∙ sym (concerns g.0 (other 0 g refl)), behind gs (λ j e t. other (suc j) e t) all.1)
+marked_changed change old new n (f ∷ es) (suc i) concerns others own marks =
+    (marks.0 ∙ sym (concerns f.0 (others 0 f (λ same. omega (arith, same)) refl)),
+     marked_changed change old new n es i concerns (λ j e other t. others (suc j) e (λ same. other (omega (arith, same))) t) own marks.1)
+
+marked_removed : (blocked : List ℕ) (es : Outlets) (i : ℕ) → EachMarked blocked es → EachMarked blocked (remove es i)
+marked_removed blocked [] zero all = all
+marked_removed blocked [] (suc i) all = all
+marked_removed blocked (e ∷ es) zero all = all.1
+marked_removed blocked (e ∷ es) (suc i) all = (all.0, marked_removed blocked es i all.1)
+
+marked_added : (blocked : List ℕ) (es : Outlets) (n : ℕ) → EachMarked blocked es → is_among n blocked ≡ false → EachMarked blocked (es ++ (n, fresh_outlet) ∷ [])
+marked_added blocked [] n all free = (sym free, tt)
+marked_added blocked (e ∷ es) n all free = (all.0, marked_added blocked es n all.1 free)
 
 module _ {C : Type 0} where
   pub at_place : (es : Outlets) (blocked : List ℕ) (ks : List (Connection C)) (n i : ℕ)
@@ -142,20 +167,6 @@ module _ {C : Type 0} where
       let same : f ≡ e = cc in
       (subst (λ (g : ℕ × Outlet). IsEntryOf (g.0, change g.1) l) (sym same) now, each.1)
   each_changed change (f ∷ es) (p ∷ ps) (suc i) e l each there now = (each.0, each_changed change es ps i e l each.1 there now)
-
-  marked_changed : (change : Outlet → Outlet) (old new : List ℕ) (n : ℕ) (es : Outlets) (i : ℕ) → Concerns n old new
-      → ((j : ℕ) (e : ℕ × Outlet) → j ≢ i → slice_get es j ≡ Some e → e.0 ≢ n)
-      → ((e : ℕ × Outlet) → slice_get es i ≡ Some e → (let o = change e.1 in o.blocked ≡ is_among e.0 new))
-      → EachMarked old es → EachMarked new (change_at change i es)
-  marked_changed change old new n [] i concerns others own marks = tt
-  marked_changed change old new n (f ∷ es) zero concerns others own marks = (own f refl, behind es (λ j e t. others (suc j) e (λ same. omega (arith, same)) t) marks.1)
-    where
-      behind : (gs : Outlets) → ((j : ℕ) (e : ℕ × Outlet) → slice_get gs j ≡ Some e → e.0 ≢ n) → EachMarked old gs → EachMarked new gs
-      behind [] other all = tt
-      behind (g ∷ gs) other all = (all.0 ∙ sym (concerns g.0 (other 0 g refl)), behind gs (λ j e t. other (suc j) e t) all.1)
-  marked_changed change old new n (f ∷ es) (suc i) concerns others own marks =
-      (marks.0 ∙ sym (concerns f.0 (others 0 f (λ same. omega (arith, same)) refl)),
-       marked_changed change old new n es i concerns (λ j e other t. others (suc j) e (λ same. other (omega (arith, same))) t) own marks.1)
 
   known_put : (es : Outlets) (old new : List ℕ) (ks : List (Connection C)) (n : ℕ) (k l : Connection C) → Carries es old ks → connection_of n ks ≡ Some k
       → Concerns n old new → (m : ℕ) → connection_of m (put_back l ks) ≡ None → is_among m new ≡ false
@@ -271,12 +282,6 @@ module _ {C : Type 0} where
           (keeps.number one.k ∙ number) (keeps.gone one.k ∙ one.gone))
 
   -- one connection goes
-  marked_removed : (blocked : List ℕ) (es : Outlets) (i : ℕ) → EachMarked blocked es → EachMarked blocked (remove es i)
-  marked_removed blocked [] zero all = all
-  marked_removed blocked [] (suc i) all = all
-  marked_removed blocked (e ∷ es) zero all = all.1
-  marked_removed blocked (e ∷ es) (suc i) all = (all.0, marked_removed blocked es i all.1)
-
   pub ended : (es : Outlets) (blocked : List ℕ) (ks : List (Connection C)) (n i : ℕ) (l : Connection C)
       → Carries es blocked ks → AtNumber es blocked ks n i → IsEntry es n i → l.number ≡ n → l.gone ≡ true
       → Carries (without_number n es) blocked (put_back l ks)
@@ -289,9 +294,14 @@ module _ {C : Type 0} where
       })
 
   -- one connection comes
-  marked_added : (blocked : List ℕ) (es : Outlets) (n : ℕ) → EachMarked blocked es → is_among n blocked ≡ false → EachMarked blocked (es ++ (n, fresh_outlet) ∷ [])
-  marked_added blocked [] n all free = (sym free, tt)
-  marked_added blocked (e ∷ es) n all free = (all.0, marked_added blocked es n all.1 free)
+  fresh_is : (client : C) (n : ℕ) → IsOutlet fresh_outlet (fresh_connection client n)
+  unfolding left_after
+  fresh_is client n = record { waiting = refl; bytes_taken = omega arith; closing = refl }
+
+  pub present_opened : (client : C) (ks : List (Connection C)) (n : ℕ) → present (ks ++ fresh_connection client n ∷ []) ≡ present ks ++ fresh_connection client n ∷ []
+  present_opened client ks n =
+      let k = fresh_connection client n in
+      present-append ks (k ∷ []) ∙ ap (λ ps. present ks ++ ps) (present-there k [] refl)
 
   pub opened : (client : C) (es : Outlets) (blocked : List ℕ) (ks : List (Connection C)) (n : ℕ)
       → Carries es blocked ks → connection_of n ks ≡ None
@@ -303,16 +313,6 @@ module _ {C : Type 0} where
     marked = marked_added blocked es n c.marked (c.known n new);
     known = λ m none. c.known m (was_none_append m ks (fresh_connection client n ∷ []) none);
   }
-    where
-      fresh_is : (client : C) (n : ℕ) → IsOutlet fresh_outlet (fresh_connection client n)
-      unfolding left_after
-      fresh_is client n = record { waiting = refl; bytes_taken = omega arith; closing = refl }
-
-  pub present_opened : (client : C) (ks : List (Connection C)) (n : ℕ) → present (ks ++ fresh_connection client n ∷ []) ≡ present ks ++ fresh_connection client n ∷ []
-  present_opened client ks n =
-      let k = fresh_connection client n in
-      present-append ks (k ∷ []) ∙ ap (λ ps. present ks ++ ps) (present-there k [] refl)
-
   -- a number that a new connection may have is not kept
   pub new_number : (es : Outlets) (blocked : List ℕ) (ks : List (Connection C)) (n i : ℕ) → Carries es blocked ks → connection_of n ks ≡ None → IsEntry es n i → ⊥
   new_number es blocked ks n i c none place = let at = at_number es blocked ks n i c place in let both = sym none ∙ at.found in cc

@@ -1,12 +1,14 @@
 -- The numbers of the connections that are to be served.
-use Rattle.std.proofs.Common.{◌≡◌, ◌≢◌, ℕ, zero, suc, ◌<◌, ◌≤◌, List, [], ◌∷◌, ◌++◌, length, take, true, false, cond, refl, sym, ap, ◌∙◌, inl, inr, arith}
+use Rattle.std.proofs.Common.{◌≡◌, ◌≢◌, ℕ, zero, suc, ◌<◌, ◌≤◌, List, [], ◌∷◌, ◌++◌, length, take, true, false, cond, refl, sym, ap, ◌∙◌, subst, inl, inr, arith}
 use Rattle.std.specs.Prelude.{filter, slice_get, Some, None, Result, OnOk}
 use Rattle.std.proofs.lemmas.Result.{on_ok_weaker}
 use Rattle.std.proofs.lemmas.Bool.{cases_Bool, cases_eq, cond-true, cond-false}
 use Rattle.std.proofs.lemmas.List.{append-nil, append_assoc}
 use Rattle.connections.specs.declared.outlet.Outlet.{Outlet}
 use Rattle.connections.specs.Outlets.{Outlets, is_due_outlet, numbers_of, numbers_due}
-use Rattle.connections.specs.Touched.{due_at, number_if_due}
+use Rattle.connections.specs.declared.touched.Touched.{Touched}
+use Rattle.connections.specs.declared.touched.Touched.TheVariants.{Nothing}
+use Rattle.connections.specs.Touched.{IsUntouched, OthersIdle, due_at, number_if_due}
 
 -- the first, and those behind it
 pub due_cons : (e : ℕ × Outlet) (es : Outlets) → numbers_due (e ∷ es) ≡ number_if_due (Some e) ++ numbers_due es
@@ -73,3 +75,8 @@ pub two_put : {A E : Type 0} (r : Result A E) (es : Outlets) (a b : ℕ) (old mi
 two_put r es a b old mid new order idle none first put = on_ok_weaker r
     (λ e. e ∙ ap (λ ns. ns ++ number_if_due (slice_get es b)) (first ∙ ap (λ ns. ns ++ number_if_due (slice_get es a)) none)
     ∙ sym (two_due es a b order idle)) put
+
+-- none is touched
+pub no_number_due : (touched : Touched) (es seen : Outlets) → es ≡ seen → OthersIdle touched es → touched ≡ Nothing → [] ≡ numbers_due seen
+no_number_due touched es seen view idle none =
+    sym (none_due es (λ k. idle k (subst (λ (t : Touched). IsUntouched t k) (sym none) tt))) ∙ ap numbers_due view

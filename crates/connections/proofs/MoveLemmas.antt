@@ -65,6 +65,29 @@ marked_absent n old new concerns [] none all = tt
 marked_absent n old new concerns (e ∷ es) none all =
     (all.0 ∙ sym (concerns e.0 (no_first e es n none)), marked_absent n old new concerns es (none_behind_first e es n none) all.1)
 
+-- it is writable again
+pub writable : {C : Type 0} (es : Outlets) (blocked : List ℕ) (ks : List (Connection C)) (n : ℕ) → Carries es blocked ks
+    → Carries (change_of freed n es) (blocked_after_move blocked (move.Event (event.Writable n))) ks
+writable {C} es blocked ks n c = elim (entry_or_not es n) [
+  | inl e ↦
+      let at = at_number es blocked ks n e.i c e.place in
+      subst (λ (fs : Outlets). Carries fs (writable_list n blocked) ks) (sym (changed_at freed es n e.i e.place))
+      (subst (λ (ls : List (Connection C)). Carries (change_at freed e.i es) (writable_list n blocked) ls) (put_back-itself n at.k ks at.found)
+      (changed_by freed es blocked (writable_list n blocked) ks n e.i at.k c at (freed_stands at.o at.k at.stands) at.number at.there
+      (λ m other. writable-other n m blocked other) (sym (writable-same n blocked))))
+  | inr none ↦
+      subst (λ (fs : Outlets). Carries fs (writable_list n blocked) ks) (sym (unchanged_of freed es n none)) (record {
+        each = c.each;
+        apart = c.apart;
+        marked = marked_absent n blocked (writable_list n blocked) (λ m other. writable-other n m blocked other) es none c.marked;
+        known = λ m new. known m new (cases_eq m n);
+      })
+]
+  where
+    known : (m : ℕ) → connection_of m ks ≡ None → (m ≡ n) ⊎ (m ≢ n) → is_among m (writable_list n blocked) ≡ false
+    known m new (inl same) = ap (λ q. is_among q (writable_list n blocked)) same ∙ writable-same n blocked
+    known m new (inr other) = writable-other n m blocked other ∙ c.known m new
+
 module _ {W C : Type 0} where
   -- a change of a connection that is gone, or that never was, is none
   pub unmoved : (n : ℕ) (f : Exchange W C → Exchange W C) (s : MachineState W C) → IsNotThere n s.connections
@@ -103,29 +126,6 @@ module _ {W C : Type 0} where
         (sym (unmoved n with_gone s (absent_is es blocked s.connections n c none) (gone_twice s)))
         (subst (λ (fs : Outlets). Carries fs blocked s.connections) (sym (without_none es n none)) c)
   ]
-
-  -- it is writable again
-  pub writable : (es : Outlets) (blocked : List ℕ) (ks : List (Connection C)) (n : ℕ) → Carries es blocked ks
-      → Carries (change_of freed n es) (blocked_after_move blocked (move.Event (event.Writable n))) ks
-  writable es blocked ks n c = elim (entry_or_not es n) [
-    | inl e ↦
-        let at = at_number es blocked ks n e.i c e.place in
-        subst (λ (fs : Outlets). Carries fs (writable_list n blocked) ks) (sym (changed_at freed es n e.i e.place))
-        (subst (λ (ls : List (Connection C)). Carries (change_at freed e.i es) (writable_list n blocked) ls) (put_back-itself n at.k ks at.found)
-        (changed_by freed es blocked (writable_list n blocked) ks n e.i at.k c at (freed_stands at.o at.k at.stands) at.number at.there
-        (λ m other. writable-other n m blocked other) (sym (writable-same n blocked))))
-    | inr none ↦
-        subst (λ (fs : Outlets). Carries fs (writable_list n blocked) ks) (sym (unchanged_of freed es n none)) (record {
-          each = c.each;
-          apart = c.apart;
-          marked = marked_absent n blocked (writable_list n blocked) (λ m other. writable-other n m blocked other) es none c.marked;
-          known = λ m new. known m new (cases_eq m n);
-        })
-  ]
-    where
-      known : (m : ℕ) → connection_of m ks ≡ None → (m ≡ n) ⊎ (m ≢ n) → is_among m (writable_list n blocked) ≡ false
-      known m new (inl same) = ap (λ q. is_among q (writable_list n blocked)) same ∙ writable-same n blocked
-      known m new (inr other) = writable-other n m blocked other ∙ c.known m new
 
   -- bytes of its offer are taken
   took_at : (step : EventStep W C) (es : Outlets) (x : Running W C) (n i : ℕ) (left bytes : List ℕ) → Carries es x.blocked x.state.connections

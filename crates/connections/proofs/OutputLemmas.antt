@@ -1,6 +1,6 @@
 -- What waits for a connection while bytes of it are taken, or a frame is produced.
 use Rattle.std.proofs.Common.{◌≡◌, ℕ, ◌+◌, ◌-◌, ◌<◌, ◌≤◌, List, [], ◌∷◌, ◌++◌, length, true, false, cond, refl, sym, ap, ◌∙◌, subst, inl, inr, arith}
-use Rattle.std.specs.Prelude.{Bool, map, nat_le}
+use Rattle.std.specs.Prelude.{Bool, not, ◌&&◌, map, nat_le}
 use Rattle.std.proofs.lemmas.Bool.{cases_Bool, cond-true, cond-false}
 use Rattle.std.proofs.lemmas.List.{map-append, length-append}
 use Rattle.std.proofs.lemmas.List.Concat.{flat_map-append}
@@ -14,6 +14,16 @@ use Rattle.connections.specs.Offering.{FitsFirst}
 use Rattle.connections.specs.Outlets.{taken, freed, emptied, given, closed, has_room, is_fitting}
 use Rattle.connections.specs.Carries.{IsOutlet}
 use Rattle.connections.proofs.QueueLemmas.{left_after-push, queued-left_after, left_after-took, took_fits, fits_front}
+
+-- its mark stays
+pub given_mark : (o : Outlet) (frame : List ℕ) → (let g = given frame o in g.blocked) ≡ o.blocked
+unfolding given
+given_mark o frame = by o.closing (has_room frame o)
+  where
+    by : (a b : Bool) → (let g = cond a o (cond b (record o { out = o.out ++ frame ∷ [] }) (closed o)) in g.blocked) ≡ o.blocked
+    by true b = refl
+    by false true = refl
+    by false false = refl
 
 module _ {C : Type 0} where
   -- so many more bytes are taken
@@ -52,7 +62,7 @@ module _ {C : Type 0} where
 
   -- whether it waits
   pub fitting_is : (o : Outlet) (k : Connection C) (f : Produced) → IsOutlet o k → k.closing ≡ false → is_fitting (bytes_of f) o ≡ fits f k
-  fitting_is o k f s open_ = ap (λ b. cond b false (has_room (bytes_of f) o)) (s.closing ∙ open_) ∙ room_is o k f s
+  fitting_is o k f s open_ = ap (λ b. not b && has_room (bytes_of f) o) (s.closing ∙ open_) ∙ room_is o k f s
 
   with_frame_is : (o : Outlet) (k : Connection C) (f : Produced) → IsOutlet o k → 0 < length (bytes_of f)
       → IsOutlet (record o { out = o.out ++ bytes_of f ∷ [] }) (with_frame f k)
@@ -82,16 +92,6 @@ module _ {C : Type 0} where
       by false false false false same room = closed_stands o k s
       by false false true false same room = absurd (cc)
       by false false false true same room = absurd (cc)
-
-  -- its mark stays
-  pub given_mark : (o : Outlet) (frame : List ℕ) → (let g = given frame o in g.blocked) ≡ o.blocked
-  unfolding given
-  given_mark o frame = by o.closing (has_room frame o)
-    where
-      by : (a b : Bool) → (let g = cond a o (cond b (record o { out = o.out ++ frame ∷ [] }) (closed o)) in g.blocked) ≡ o.blocked
-      by true b = refl
-      by false true = refl
-      by false false = refl
 
   -- what the connection of the machine keeps of its number and whether it is gone
   pub produce_number : (f : Produced) (k : Connection C) → (let l = produce f k in l.number) ≡ k.number

@@ -23,6 +23,31 @@ use Rattle.connections.proofs.LentLemmas.{is_lent}
 use Rattle.connections.proofs.OutletLemmas.{read_at, read_absent}
 use Rattle.connections.proofs.CarryLemmas.{AtNumber, at_number, at_place, IsNotThere, absent_is}
 
+-- nothing is offered where nothing waits
+no_offer : (b : Bool) (frames : List (List ℕ)) → frames ≡ [] → cond b None (front_of frames) ≡ None
+no_offer true frames e = refl
+no_offer false frames e = ap front_of e
+
+-- the numbers of those that are there
+numbers_same : {C : Type 0} (es : Outlets) (ps : List (Connection C)) → EachOutlet es ps → numbers_of es ≡ map (λ (k : Connection C). k.number) ps
+numbers_same {C} [] [] each = refl
+numbers_same {C} [] (p ∷ ps) each = absurd each
+numbers_same {C} (e ∷ es) [] each = absurd each
+numbers_same {C} (e ∷ es) (p ∷ ps) each = ap (λ n. n ∷ numbers_of es) each.0.number ∙ ap (λ ns. p.number ∷ ns) (numbers_same es ps each.1)
+
+-- the numbers of those that are due, where a test says who is
+due_pass : (test : ℕ → Bool) (es : Outlets) → ((i : ℕ) (e : ℕ × Outlet) → slice_get es i ≡ Some e → test e.0 ≡ is_due_outlet e.1)
+    → numbers_due es ≡ filter test (numbers_of es)
+due_pass test [] same = refl
+due_pass test (e ∷ es) same =
+    due_cons e es ∙ ap (λ ns. number_if_due (Some e) ++ ns) (due_pass test es (λ i f there. same (suc i) f there)) ∙ by (same 0 e refl) (cases_Bool (test e.0))
+  where
+    rest : List ℕ
+    rest = filter test (numbers_of es)
+    by : test e.0 ≡ is_due_outlet e.1 → (test e.0 ≡ true) ⊎ (test e.0 ≡ false) → number_if_due (Some e) ++ rest ≡ filter test (numbers_of (e ∷ es))
+    by q (inl t) = ap (λ ns. ns ++ rest) (cond-true (is_due_outlet e.1) (e.0 ∷ []) [] (sym q ∙ t)) ∙ sym (cond-true (test e.0) (e.0 ∷ rest) rest t)
+    by q (inr t) = ap (λ ns. ns ++ rest) (cond-false (is_due_outlet e.1) (e.0 ∷ []) [] (sym q ∙ t)) ∙ sym (cond-false (test e.0) (e.0 ∷ rest) rest t)
+
 module _ {W C : Type 0} where
   -- what waits for a connection that is there
   waits : (es : Outlets) (x : Running W C) (n i : ℕ) → (at : AtNumber es x.blocked x.state.connections n i) → waiting_at n x.state ≡ (let o = at.o in o.out)
@@ -42,10 +67,6 @@ module _ {W C : Type 0} where
       let k = at.k in
       let s = at.stands in
       s.closing ∙ sym (ap is_to_be_shut at.found ∙ ap (λ b. not b && k.closing) at.there)
-
-  no_offer : (b : Bool) (frames : List (List ℕ)) → frames ≡ [] → cond b None (front_of frames) ≡ None
-  no_offer true frames e = refl
-  no_offer false frames e = ap front_of e
 
   nothing_waits : (n : ℕ) (x : Running W C) → IsNotThere n x.state.connections → waiting_at n x.state ≡ []
   nothing_waits n x (inl none) = ap waiting_of none
@@ -88,13 +109,6 @@ module _ {W C : Type 0} where
     | inr none ↦ read_absent is_closing false es n none ∙ sym (not_shut n x (absent_is es x.blocked x.state.connections n c none))
   ]
 
-  -- the numbers of those that are there
-  numbers_same : (es : Outlets) (ps : List (Connection C)) → EachOutlet es ps → numbers_of es ≡ map (λ (k : Connection C). k.number) ps
-  numbers_same [] [] each = refl
-  numbers_same [] (p ∷ ps) each = absurd each
-  numbers_same (e ∷ es) [] each = absurd each
-  numbers_same (e ∷ es) (p ∷ ps) each = ap (λ n. n ∷ numbers_of es) each.0.number ∙ ap (λ ns. p.number ∷ ns) (numbers_same es ps each.1)
-
   pub numbers_are : (es : Outlets) (blocked : List ℕ) (s : MachineState W C) → Carries es blocked s.connections → numbers_of es ≡ present_numbers s
   numbers_are es blocked s c = numbers_same es (present s.connections) c.each
 
@@ -109,25 +123,15 @@ module _ {W C : Type 0} where
       let at = at_place es x.blocked x.state.connections e.0 i c (inside es i e there)
       (λ f also. let same : e ≡ f = (let both = sym there ∙ also in cc) in ap (λ (g : ℕ × Outlet). g.0) (sym same)) in
       let own : at.o ≡ e.1 = (let both = sym at.entry ∙ there in let same : (e.0, at.o) ≡ e = cc in ap (λ (g : ℕ × Outlet). g.1) same) in
-      sym (ap (λ b. is_some (offer_at e.0 x) || b) (shut_there es x e.0 i at))
-      ∙ sym (ap (λ o. is_some o || (let p = at.o in p.closing)) (offer_there es x e.0 i at)) ∙ ap is_due_outlet own
+      by at.o (offer_there es x e.0 i at) (shut_there es x e.0 i at) own
     where
+      by : (o : Outlet) → offer_of_outlet o ≡ offer_at e.0 x → o.closing ≡ is_to_be_shut_at e.0 x → o ≡ e.1 → is_due x e.0 ≡ is_due_outlet e.1
+      by o offer shut own =
+          sym (ap (λ b. is_some (offer_at e.0 x) || b) shut) ∙ sym (ap (λ p. is_some p || o.closing) offer) ∙ ap is_due_outlet own
       inside : (fs : Outlets) (j : ℕ) (f : ℕ × Outlet) → slice_get fs j ≡ Some f → j < length fs
       inside [] j f t = absurd (let none : ◌≡◌ {A = Option (ℕ × Outlet)} None (Some f) = t in cc)
       inside (g ∷ fs) zero f t = omega arith
       inside (g ∷ fs) (suc j) f t = let rest = inside fs j f t in omega (arith, rest)
-
-  due_pass : (test : ℕ → Bool) (es : Outlets) → ((i : ℕ) (e : ℕ × Outlet) → slice_get es i ≡ Some e → test e.0 ≡ is_due_outlet e.1)
-      → numbers_due es ≡ filter test (numbers_of es)
-  due_pass test [] same = refl
-  due_pass test (e ∷ es) same =
-      due_cons e es ∙ ap (λ ns. number_if_due (Some e) ++ ns) (due_pass test es (λ i f there. same (suc i) f there)) ∙ by (same 0 e refl) (cases_Bool (test e.0))
-    where
-      rest : List ℕ
-      rest = filter test (numbers_of es)
-      by : test e.0 ≡ is_due_outlet e.1 → (test e.0 ≡ true) ⊎ (test e.0 ≡ false) → number_if_due (Some e) ++ rest ≡ filter test (numbers_of (e ∷ es))
-      by q (inl t) = ap (λ ns. ns ++ rest) (cond-true (is_due_outlet e.1) (e.0 ∷ []) [] (sym q ∙ t)) ∙ sym (cond-true (test e.0) (e.0 ∷ rest) rest t)
-      by q (inr t) = ap (λ ns. ns ++ rest) (cond-false (is_due_outlet e.1) (e.0 ∷ []) [] (sym q ∙ t)) ∙ sym (cond-false (test e.0) (e.0 ∷ rest) rest t)
 
   pub due_are : (es : Outlets) (x : Running W C) → Carries es x.blocked x.state.connections → numbers_due es ≡ filter (is_due x) (present_numbers x.state)
   due_are es x c = due_pass (is_due x) es (λ i e there. due_is es x i e c there) ∙ ap (filter (is_due x)) (numbers_are es x.blocked x.state c)

@@ -21,7 +21,7 @@ invariant_of-self c =
 pub returns-clause-frames : goal.returns-clause-frames
 returns-clause-frames c =
     let o = c.index_mut-outlet.result.now in
-    c.open.ensures.frames ∙ c.lend.ensures.out
+    c.open-2.ensures.frames ∙ c.lend.ensures.out
     ∙ sym (ap frames_in (subst (λ (es : Outlets). outlet_at es c.args.i ≡ Some o) c.self.view_is c.index_mut-outlet.ensures.value))
 
 pub returns-clause-rest : goal.returns-clause-rest
