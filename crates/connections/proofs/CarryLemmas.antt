@@ -1,13 +1,14 @@
 -- Outlets that stand for the connections of a machine: one changes, goes or comes.
-use Rattle.std.proofs.Common.{◌≡◌, ◌≢◌, ◌⊎◌, ℕ, zero, suc, ◌<◌, List, [], ◌∷◌, ◌++◌, length, map, set, get_or, true, false, refl, sym, ap, ◌∙◌, subst, inl, inr, arith}
-use Rattle.std.specs.Prelude.{Bool, remove, slice_get, Option, Some, None}
+use Rattle.std.proofs.Common.{◌≡◌, ◌≢◌, ◌⊎◌, ℕ, zero, suc, ◌<◌, List, [], ◌∷◌, ◌++◌, length, map, set, get_or, true, false}
+use Rattle.std.proofs.Common.{refl, sym, ap, ◌∙◌, subst, inl, inr, arith}
+use Rattle.std.specs.Prelude.{remove, slice_get, Option, Some, None}
 use Rattle.std.specs.Map.{keys_of}
 use Rattle.std.proofs.lemmas.Bool.{cases_Bool, cases_eq}
+use Rattle.std.proofs.lemmas.Option.{slice_get_within}
 use Rattle.spec_machine.specs.Connection.{Connection, connection_of, put_back, fresh_connection, bytes_of, bytes_of_all}
 use Rattle.spec_machine.specs.MachineState.{MachineState, Exchange, after_exchange}
 use Rattle.spec_machine.specs.Offers.{is_among, left_after}
 use Rattle.spec_machine.proofs.Find.{number_of_found}
-use Rattle.ads_served.specs.Opened.{AreApart}
 use Rattle.connections.specs.declared.outlet.Outlet.{Outlet}
 use Rattle.connections.specs.Present.{present}
 use Rattle.connections.specs.Entries.{IsEntry, IsNoEntry}
@@ -16,7 +17,7 @@ use Rattle.connections.specs.Carries.{IsOutlet, IsEntryOf, EachOutlet, EachMarke
 use Rattle.connections.proofs.EntryLemmas.{no_first, none_behind_first, entry_or_not}
 use Rattle.connections.proofs.OutletLemmas.{without_at}
 use Rattle.connections.proofs.ColumnLemmas.{BothAt, each_at, each_removed, each_added}
-use Rattle.connections.proofs.PlaceLemmas.{StandsAt, stands_at, others_differ}
+use Rattle.connections.proofs.PlaceLemmas.{stands_at, others_differ}
 use Rattle.connections.proofs.StateLemmas.{present-gone, present-there, present-append, connection_of-same, connection_of-other, put_back-same, put_back-other}
 use Rattle.connections.proofs.StateLemmas.{none_of_nil, was_none, was_none_append, AreApart-put_back, AreApart-append}
 
@@ -60,25 +61,22 @@ mark_at blocked [] i e marks t = absurd (let none : ◌≡◌ {A = Option (ℕ �
 mark_at blocked (g ∷ fs) zero e marks t = let same : g ≡ e = cc in subst (λ (h : ℕ × Outlet). (let o = h.1 in o.blocked ≡ is_among h.0 blocked)) same marks.0
 mark_at blocked (g ∷ fs) (suc i) e marks t = mark_at blocked fs i e marks.1 t
 
-within : {X : Type 0} (xs : List X) (i : ℕ) (x : X) → slice_get xs i ≡ Some x → i < length xs
-within {X} [] i x t = absurd (let none : ◌≡◌ {A = Option X} None (Some x) = t in cc)
-within (y ∷ ys) zero x t = omega arith
-within (y ∷ ys) (suc i) x t = let rest = within ys i x t in omega (arith, rest)
-
 -- the marks, where an outlet changes, goes or comes
 marked_changed : (change : Outlet → Outlet) (old new : List ℕ) (n : ℕ) (es : Outlets) (i : ℕ) → Concerns n old new
     → ((j : ℕ) (e : ℕ × Outlet) → j ≢ i → slice_get es j ≡ Some e → e.0 ≢ n)
     → ((e : ℕ × Outlet) → slice_get es i ≡ Some e → (let o = change e.1 in o.blocked ≡ is_among e.0 new))
     → EachMarked old es → EachMarked new (change_at change i es)
 marked_changed change old new n [] i concerns others own marks = tt
-marked_changed change old new n (f ∷ es) zero concerns others own marks = (own f refl, behind es (λ j e t. others (suc j) e (λ same. omega (arith, same)) t) marks.1)
+marked_changed change old new n (f ∷ es) zero concerns others own marks =
+    (own f refl, behind es (λ j e t. others (suc j) e (λ same. omega (arith, same)) t) marks.1)
   where
     behind : (gs : Outlets) → ((j : ℕ) (e : ℕ × Outlet) → slice_get gs j ≡ Some e → e.0 ≢ n) → EachMarked old gs → EachMarked new gs
     behind [] other all = tt
     behind (g ∷ gs) other all = (all.0 ∙ sym (concerns g.0 (other 0 g refl)), behind gs (λ j e t. other (suc j) e t) all.1)
-marked_changed change old new n (f ∷ es) (suc i) concerns others own marks =
-    (marks.0 ∙ sym (concerns f.0 (others 0 f (λ same. omega (arith, same)) refl)),
-     marked_changed change old new n es i concerns (λ j e other t. others (suc j) e (λ same. other (omega (arith, same))) t) own marks.1)
+marked_changed change old new n (f ∷ es) (suc i) concerns others own marks = (
+  marks.0 ∙ sym (concerns f.0 (others 0 f (λ same. omega (arith, same)) refl)),
+  marked_changed change old new n es i concerns (λ j e other t. others (suc j) e (λ same. other (omega (arith, same))) t) own marks.1,
+)
 
 marked_removed : (blocked : List ℕ) (es : Outlets) (i : ℕ) → EachMarked blocked es → EachMarked blocked (remove es i)
 marked_removed blocked [] zero all = all
@@ -86,7 +84,8 @@ marked_removed blocked [] (suc i) all = all
 marked_removed blocked (e ∷ es) zero all = all.1
 marked_removed blocked (e ∷ es) (suc i) all = (all.0, marked_removed blocked es i all.1)
 
-marked_added : (blocked : List ℕ) (es : Outlets) (n : ℕ) → EachMarked blocked es → is_among n blocked ≡ false → EachMarked blocked (es ++ (n, fresh_outlet) ∷ [])
+marked_added : (blocked : List ℕ) (es : Outlets) (n : ℕ) → EachMarked blocked es → is_among n blocked ≡ false
+    → EachMarked blocked (es ++ (n, fresh_outlet) ∷ [])
 marked_added blocked [] n all free = (sym free, tt)
 marked_added blocked (e ∷ es) n all free = (all.0, marked_added blocked es n all.1 free)
 
@@ -116,7 +115,7 @@ module _ {C : Type 0} where
             put = λ l same there. here.put l (same ∙ sym number) there;
             ended = λ l same ends. here.ended l (same ∙ sym number) ends;
             others = λ j f other there same.
-                let also = each_at IsEntryOf es (present ks) j c.each (within es j f there) in
+                let also = each_at IsEntryOf es (present ks) j c.each (slice_get_within es j f there) in
                 let f_is : also.x ≡ f = (let both_there = sym also.column ∙ there in cc) in
                 other (others_differ ks i j k also.k c.apart both.machine also.machine
                 (sym also.stands.number ∙ ap (λ (g : ℕ × Outlet). g.0) f_is ∙ same ∙ sym number));
@@ -241,7 +240,8 @@ module _ {C : Type 0} where
   still_gone n k l (j ∷ ks) found gone number ends = elim (cases_eq j.number n) [
     | inl same ↦
         let first : j ≡ k = (let both = sym (connection_of-same n j ks same) ∙ found in cc) in
-        ap present (put_back-same l j ks (same ∙ sym number)) ∙ present-gone l ks ends ∙ sym (present-gone j ks (ap (λ (x : Connection C). x.gone) first ∙ gone))
+        ap present (put_back-same l j ks (same ∙ sym number)) ∙ present-gone l ks ends
+        ∙ sym (present-gone j ks (ap (λ (x : Connection C). x.gone) first ∙ gone))
     | inr other ↦
         ap present (put_back-other l j ks (λ e. other (e ∙ number)))
         ∙ same_behind j (put_back l ks) ks (still_gone n k l ks (sym (connection_of-other n j ks other) ∙ found) gone number ends)
@@ -270,10 +270,12 @@ module _ {C : Type 0} where
     where
       change : Exchange W C → Exchange W C
       change x = record x { connection = f x.connection }
+
       moved : (k : Connection C) → connection_of n s.connections ≡ Some k → Carries es blocked (put_back (f k) s.connections)
           → (let t = after_exchange (connection_of n s.connections) change s in Carries es blocked t.connections)
       moved k found after =
           subst (λ (o : Option (Connection C)). (let t = after_exchange o change s in Carries es blocked t.connections)) (sym found) after
+
       by : IsNotThere n s.connections → (let t = after_exchange (connection_of n s.connections) change s in Carries es blocked t.connections)
       by (inl none) = subst (λ (o : Option (Connection C)). (let t = after_exchange o change s in Carries es blocked t.connections)) (sym none) c
       by (inr one) =
@@ -298,7 +300,8 @@ module _ {C : Type 0} where
   unfolding left_after
   fresh_is client n = record { waiting = refl; bytes_taken = omega arith; closing = refl }
 
-  pub present_opened : (client : C) (ks : List (Connection C)) (n : ℕ) → present (ks ++ fresh_connection client n ∷ []) ≡ present ks ++ fresh_connection client n ∷ []
+  pub present_opened : (client : C) (ks : List (Connection C)) (n : ℕ)
+      → present (ks ++ fresh_connection client n ∷ []) ≡ present ks ++ fresh_connection client n ∷ []
   present_opened client ks n =
       let k = fresh_connection client n in
       present-append ks (k ∷ []) ∙ ap (λ ps. present ks ++ ps) (present-there k [] refl)
@@ -313,6 +316,8 @@ module _ {C : Type 0} where
     marked = marked_added blocked es n c.marked (c.known n new);
     known = λ m none. c.known m (was_none_append m ks (fresh_connection client n ∷ []) none);
   }
+
   -- a number that a new connection may have is not kept
-  pub new_number : (es : Outlets) (blocked : List ℕ) (ks : List (Connection C)) (n i : ℕ) → Carries es blocked ks → connection_of n ks ≡ None → IsEntry es n i → ⊥
+  pub new_number : (es : Outlets) (blocked : List ℕ) (ks : List (Connection C)) (n i : ℕ)
+      → Carries es blocked ks → connection_of n ks ≡ None → IsEntry es n i → ⊥
   new_number es blocked ks n i c none place = let at = at_number es blocked ks n i c place in let both = sym none ∙ at.found in cc

@@ -1,8 +1,9 @@
 -- The numbers of the connections that are to be served.
-use Rattle.std.proofs.Common.{◌≡◌, ◌≢◌, ℕ, zero, suc, ◌<◌, ◌≤◌, List, [], ◌∷◌, ◌++◌, length, take, true, false, cond, refl, sym, ap, ◌∙◌, subst, inl, inr, arith}
-use Rattle.std.specs.Prelude.{filter, slice_get, Some, None, Result, OnOk}
+use Rattle.std.proofs.Common.{◌≡◌, ◌≢◌, ℕ, zero, suc, ◌<◌, List, [], ◌∷◌, ◌++◌, length, take, false}
+use Rattle.std.proofs.Common.{refl, sym, ap, ◌∙◌, subst, inl, inr, arith}
+use Rattle.std.specs.Prelude.{filter, slice_get, Some, Result, OnOk}
 use Rattle.std.proofs.lemmas.Result.{on_ok_weaker}
-use Rattle.std.proofs.lemmas.Bool.{cases_Bool, cases_eq, cond-true, cond-false}
+use Rattle.std.proofs.lemmas.Bool.{cases_Bool, cond-true, cond-false}
 use Rattle.std.proofs.lemmas.List.{append-nil, append_assoc}
 use Rattle.connections.specs.declared.outlet.Outlet.{Outlet}
 use Rattle.connections.specs.Outlets.{Outlets, is_due_outlet, numbers_of, numbers_due}
@@ -13,8 +14,10 @@ use Rattle.connections.specs.Touched.{IsUntouched, OthersIdle, due_at, number_if
 -- the first, and those behind it
 pub due_cons : (e : ℕ × Outlet) (es : Outlets) → numbers_due (e ∷ es) ≡ number_if_due (Some e) ++ numbers_due es
 due_cons e es = elim (cases_Bool (is_due_outlet e.1)) [
-  | inl t ↦ ap numbers_of (cond-true (is_due_outlet e.1) (e ∷ due es) (due es) t) ∙ sym (ap (λ ns. ns ++ numbers_due es) (cond-true (is_due_outlet e.1) (e.0 ∷ []) [] t))
-  | inr t ↦ ap numbers_of (cond-false (is_due_outlet e.1) (e ∷ due es) (due es) t) ∙ sym (ap (λ ns. ns ++ numbers_due es) (cond-false (is_due_outlet e.1) (e.0 ∷ []) [] t))
+  | inl t ↦ ap numbers_of (cond-true (is_due_outlet e.1) (e ∷ due es) (due es) t)
+      ∙ sym (ap (λ ns. ns ++ numbers_due es) (cond-true (is_due_outlet e.1) (e.0 ∷ []) [] t))
+  | inr t ↦ ap numbers_of (cond-false (is_due_outlet e.1) (e ∷ due es) (due es) t)
+      ∙ sym (ap (λ ns. ns ++ numbers_due es) (cond-false (is_due_outlet e.1) (e.0 ∷ []) [] t))
 ]
   where
     due : Outlets → Outlets
@@ -32,7 +35,8 @@ none_due (e ∷ es) idle = idle_first e es (idle 0) ∙ none_due es (λ k. idle 
 pub one_due : (es : Outlets) (a : ℕ) → ((k : ℕ) → k ≢ a → due_at es k ≡ false) → numbers_due es ≡ number_if_due (slice_get es a)
 one_due [] a idle = refl
 one_due (e ∷ es) zero idle =
-    due_cons e es ∙ ap (λ ns. number_if_due (Some e) ++ ns) (none_due es (λ k. idle (suc k) (λ same. omega (arith, same)))) ∙ append-nil (number_if_due (Some e))
+    due_cons e es ∙ ap (λ ns. number_if_due (Some e) ++ ns) (none_due es (λ k. idle (suc k) (λ same. omega (arith, same))))
+    ∙ append-nil (number_if_due (Some e))
 one_due (e ∷ es) (suc a) idle =
     idle_first e es (idle 0 (λ same. omega (arith, same))) ∙ one_due es a (λ k other. idle (suc k) (λ same. other (omega (arith, same))))
 

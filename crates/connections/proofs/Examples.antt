@@ -1,7 +1,7 @@
 -- A worked example: of two connections, one to be shut and one blocked, the first alone is due.
 use Rattle.std.proofs.Common.{◌≡◌, [], ◌∷◌, true, false, refl}
 use Rattle.connections.specs.declared.outlet.Outlet.{Outlet}
-use Rattle.connections.specs.Outlets.{Outlets, numbers_due, fresh_outlet, freed, closed}
+use Rattle.connections.specs.Outlets.{numbers_due, fresh_outlet, freed, closed}
 
 abbrev waiting : Outlet
 waiting = record { out = (1 ∷ 2 ∷ []) ∷ []; closing = false; blocked = true }

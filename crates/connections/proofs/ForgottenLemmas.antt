@@ -123,7 +123,8 @@ module _ {C : Type 0} where
       → (ks : List (Connection C)) → connection_of n (map f ks) ≡ None → connection_of n ks ≡ None
   known_mapped n f numbers [] e = e
   known_mapped n f numbers (k ∷ ks) e =
-      connection_of-other n k ks (λ same. number_differs n (f k) (map f ks) e (numbers k ∙ same)) ∙ known_mapped n f numbers ks (none_behind n (f k) (map f ks) e)
+      connection_of-other n k ks (λ same. number_differs n (f k) (map f ks) e (numbers k ∙ same))
+      ∙ known_mapped n f numbers ks (none_behind n (f k) (map f ks) e)
 
   pub mapped : (f : Connection C → Connection C) → ((k : Connection C) → (let l = f k in l.number) ≡ k.number)
       → ((k : Connection C) → (let l = f k in l.gone) ≡ k.gone)

@@ -1,9 +1,8 @@
 -- The moves of a machine and what is kept of its connections' output. Its world, its clients and how events change it are any.
-use Rattle.std.proofs.Common.{◌≡◌, ◌≢◌, ◌⊎◌, ℕ, zero, suc, ◌<◌, ◌≤◌, List, [], ◌∷◌, length, true, false, cond, not, refl, sym, ap, ◌∙◌, subst, inl, inr, arith}
+use Rattle.std.proofs.Common.{◌≡◌, ◌≢◌, ◌⊎◌, ℕ, ◌≤◌, List, [], ◌∷◌, length, true, false, cond, not, refl, sym, ap, ◌∙◌, subst, inl, inr, arith}
 use Rattle.std.specs.Prelude.{Bool, ◌==◌, ◌||◌, nat_lt, filter, Option, Some, None, IsSomeAnd}
 use Rattle.std.specs.Prelude.{unwrap_or}
-use Rattle.std.specs.Map.{keys_of}
-use Rattle.std.proofs.lemmas.Bool.{cases_eq, cond-true, cond-false, or_left}
+use Rattle.std.proofs.lemmas.Bool.{cases_eq, cond-false, or_left}
 use Rattle.ads_outside.specs.declared.event.Event.TheVariants as event
 use Rattle.ads_outside.specs.declared.moves.Move.TheVariants as move
 use Rattle.ads_outside.specs.Wholes.{wholes}
@@ -16,7 +15,7 @@ use Rattle.spec_machine.proofs.Find.{test_same, test_other}
 use Rattle.ads_served.specs.Standing.{running_after_all}
 use Rattle.out_queue.specs.Queue.{front_of, frames_after}
 use Rattle.connections.specs.declared.outlet.Outlet.{Outlet}
-use Rattle.connections.specs.Offering.{FitsFirst, first_left, some_frames}
+use Rattle.connections.specs.Offering.{FitsFirst, first_left}
 use Rattle.connections.specs.Entries.{IsEntry, IsNoEntry}
 use Rattle.connections.specs.Outlets.{Outlets, outlet_at, taken, emptied, freed, change_of, change_at, without_number}
 use Rattle.connections.specs.Outlets.{offer_of_outlet, offer_among, run_of_outlet, run_among}
@@ -25,7 +24,8 @@ use Rattle.connections.proofs.StateLemmas.{put_back-itself}
 use Rattle.connections.proofs.OfferLemmas.{is_offer}
 use Rattle.connections.proofs.LentLemmas.{IsLent, is_lent, whole_after, not_short}
 use Rattle.connections.proofs.EntryLemmas.{entry_or_not, no_first, none_behind_first}
-use Rattle.connections.proofs.OutletLemmas.{read_at, read_absent, changed_at, unchanged_of, without_none, entry_changed, outlet_changed, change_same, change_twice}
+use Rattle.connections.proofs.OutletLemmas.{read_at, read_absent, changed_at, unchanged_of, without_none}
+use Rattle.connections.proofs.OutletLemmas.{entry_changed, outlet_changed, change_same, change_twice}
 use Rattle.connections.proofs.CarryLemmas.{Concerns, AtNumber, at_number, IsNotThere, absent_is, changed_by, ended}
 use Rattle.connections.proofs.OutputLemmas.{with_taken, taken_stands, freed_stands}
 

@@ -1,7 +1,7 @@
 -- An outlet by its number and by its place: what is read of it, and its changes.
-use Rattle.std.proofs.Common.{◌≡◌, ℕ, zero, suc, ◌<◌, ◌≤◌, List, [], ◌∷◌, length, get_or, refl, sym, ap, ◌∙◌, arith}
-use Rattle.std.specs.Prelude.{◌==◌, remove, slice_get, Option, Some, None, Result, Ok, Err, OnOk, OnErr}
-use Rattle.std.specs.Map.{keys_of, values_of}
+use Rattle.std.proofs.Common.{◌≡◌, ℕ, zero, suc, ◌≤◌, List, [], ◌∷◌, length, get_or, refl, sym, ap, ◌∙◌, arith}
+use Rattle.std.specs.Prelude.{◌==◌, remove, Option, Some, None, Result, Ok, Err, OnOk, OnErr}
+use Rattle.std.specs.Map.{keys_of}
 use Rattle.std.proofs.lemmas.Bool.{cond-true, cond-false}
 use Rattle.indexmap.specs.IndexMap.{set_value_at}
 use Rattle.spec_machine.proofs.Find.{test_same, test_other}
@@ -43,7 +43,8 @@ read_changed read none change (e ∷ es) n (suc i) o at value =
     ∙ read_changed read none change es n i o (entry_behind e es n i at) value
 
 -- a value that is set at a place is a change there
-pub set_is : (change : Outlet → Outlet) (es : Outlets) (i : ℕ) (o p : Outlet) → outlet_at es i ≡ Some o → p ≡ change o → set_value_at es i p ≡ change_at change i es
+pub set_is : (change : Outlet → Outlet) (es : Outlets) (i : ℕ) (o p : Outlet) → outlet_at es i ≡ Some o → p ≡ change o
+    → set_value_at es i p ≡ change_at change i es
 set_is change [] i o p value same = refl
 set_is change (e ∷ es) zero o p value same = let at : e.1 ≡ o = cc in ap (λ q. (e.0, q) ∷ es) (same ∙ ap change (sym at))
 set_is change (e ∷ es) (suc i) o p value same = ap (λ fs. e ∷ fs) (set_is change es i o p value same)
@@ -131,7 +132,8 @@ entry_changed change es n i j at = record {
 }
 
 -- what is there after a change
-pub outlet_changed : (change : Outlet → Outlet) (es : Outlets) (i : ℕ) (o : Outlet) → outlet_at es i ≡ Some o → outlet_at (change_at change i es) i ≡ Some (change o)
+pub outlet_changed : (change : Outlet → Outlet) (es : Outlets) (i : ℕ) (o : Outlet) → outlet_at es i ≡ Some o
+    → outlet_at (change_at change i es) i ≡ Some (change o)
 outlet_changed change [] i o here = absurd (let none : ◌≡◌ {A = Option Outlet} None (Some o) = here in cc)
 outlet_changed change (e ∷ es) zero o here = let same : e.1 ≡ o = cc in ap (λ p. Some (change p)) same
 outlet_changed change (e ∷ es) (suc i) o here = outlet_changed change es i o here

@@ -1,7 +1,6 @@
 -- What waits for a connection while bytes of it are taken, or a frame is produced.
-use Rattle.std.proofs.Common.{◌≡◌, ℕ, ◌+◌, ◌-◌, ◌<◌, ◌≤◌, List, [], ◌∷◌, ◌++◌, length, true, false, cond, refl, sym, ap, ◌∙◌, subst, inl, inr, arith}
+use Rattle.std.proofs.Common.{◌≡◌, ℕ, ◌+◌, ◌-◌, ◌<◌, List, [], ◌∷◌, ◌++◌, length, true, false, cond, refl, sym, ap, ◌∙◌, subst, arith}
 use Rattle.std.specs.Prelude.{Bool, not, ◌&&◌, map, nat_le}
-use Rattle.std.proofs.lemmas.Bool.{cases_Bool, cond-true, cond-false}
 use Rattle.std.proofs.lemmas.List.{map-append, length-append}
 use Rattle.std.proofs.lemmas.List.Concat.{flat_map-append}
 use Rattle.spec_machine.specs.Device.{Produced}
@@ -11,7 +10,7 @@ use Rattle.spec_machine.proofs.Waiting.{joined, joined_bytes}
 use Rattle.out_queue.specs.Queue.{queued, frames_after, FitsFront}
 use Rattle.connections.specs.declared.outlet.Outlet.{Outlet}
 use Rattle.connections.specs.Offering.{FitsFirst}
-use Rattle.connections.specs.Outlets.{taken, freed, emptied, given, closed, has_room, is_fitting}
+use Rattle.connections.specs.Outlets.{taken, freed, given, closed, has_room, is_fitting}
 use Rattle.connections.specs.Carries.{IsOutlet}
 use Rattle.connections.proofs.QueueLemmas.{left_after-push, queued-left_after, left_after-took, took_fits, fits_front}
 

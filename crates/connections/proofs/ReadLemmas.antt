@@ -1,10 +1,9 @@
 -- What is read of outlets that stand for the connections of a machine: offers, runs, who is to be shut, who is due.
-use Rattle.std.proofs.Common.{◌≡◌, ◌⊎◌, ℕ, zero, suc, ◌<◌, List, [], ◌∷◌, ◌++◌, length, map, true, false, cond, not, refl, sym, ap, ◌∙◌, inl, inr, arith}
-use Rattle.std.specs.Prelude.{Bool, ◌||◌, ◌&&◌, filter, is_some, slice_get, Option, Some, None, option_map}
-use Rattle.std.specs.Map.{keys_of}
+use Rattle.std.proofs.Common.{◌≡◌, ◌⊎◌, ℕ, suc, List, [], ◌∷◌, ◌++◌, map, true, false, cond, not, refl, sym, ap, ◌∙◌, inl, inr}
+use Rattle.std.specs.Prelude.{Bool, ◌||◌, ◌&&◌, filter, is_some, slice_get, Some, None, option_map}
 use Rattle.std.proofs.lemmas.Bool.{cases_Bool, cond-true, cond-false}
-use Rattle.std.proofs.lemmas.Option.{slice_get-map}
-use Rattle.spec_machine.specs.Connection.{Connection, connection_of, bytes_of}
+use Rattle.std.proofs.lemmas.Option.{slice_get-map, slice_get_within}
+use Rattle.spec_machine.specs.Connection.{Connection, bytes_of}
 use Rattle.spec_machine.specs.MachineState.{MachineState, present_numbers}
 use Rattle.spec_machine.specs.Offers.{is_among, waiting_of, waiting_at, left_after}
 use Rattle.spec_machine.specs.Running.{Running, offer_at, is_to_be_shut, is_to_be_shut_at}
@@ -12,11 +11,10 @@ use Rattle.ads_served.specs.Due.{IsRun, is_due}
 use Rattle.out_queue.specs.Queue.{front_of}
 use Rattle.connections.specs.declared.outlet.Outlet.{Outlet}
 use Rattle.connections.specs.Present.{present}
-use Rattle.connections.specs.Entries.{IsNoEntry}
 use Rattle.connections.specs.Outlets.{Outlets, numbers_of, numbers_due, is_due_outlet, is_closing, closing_among}
 use Rattle.connections.specs.Outlets.{offer_of_outlet, offer_among, run_of_outlet, run_among}
 use Rattle.connections.specs.Touched.{number_if_due}
-use Rattle.connections.specs.Carries.{IsOutlet, EachOutlet, Carries}
+use Rattle.connections.specs.Carries.{EachOutlet, Carries}
 use Rattle.connections.proofs.DueLemmas.{due_cons}
 use Rattle.connections.proofs.EntryLemmas.{entry_or_not}
 use Rattle.connections.proofs.LentLemmas.{is_lent}
@@ -44,6 +42,7 @@ due_pass test (e ∷ es) same =
   where
     rest : List ℕ
     rest = filter test (numbers_of es)
+
     by : test e.0 ≡ is_due_outlet e.1 → (test e.0 ≡ true) ⊎ (test e.0 ≡ false) → number_if_due (Some e) ++ rest ≡ filter test (numbers_of (e ∷ es))
     by q (inl t) = ap (λ ns. ns ++ rest) (cond-true (is_due_outlet e.1) (e.0 ∷ []) [] (sym q ∙ t)) ∙ sym (cond-true (test e.0) (e.0 ∷ rest) rest t)
     by q (inr t) = ap (λ ns. ns ++ rest) (cond-false (is_due_outlet e.1) (e.0 ∷ []) [] (sym q ∙ t)) ∙ sym (cond-false (test e.0) (e.0 ∷ rest) rest t)
@@ -117,21 +116,22 @@ module _ {W C : Type 0} where
   number_is es blocked s i c = sym (slice_get-map (λ (e : ℕ × Outlet). e.0) es i) ∙ ap (λ ns. slice_get ns i) (numbers_are es blocked s c)
 
   -- those that are due are due in the machine
+  due_there : (es : Outlets) (x : Running W C) (i : ℕ) (e : ℕ × Outlet) → slice_get es i ≡ Some e → AtNumber es x.blocked x.state.connections e.0 i
+      → is_due x e.0 ≡ is_due_outlet e.1
+  due_there es x i e there at = by at.o (offer_there es x e.0 i at) (shut_there es x e.0 i at) (let both = sym at.entry ∙ there in cc)
+    where
+      by : (o : Outlet) → offer_of_outlet o ≡ offer_at e.0 x → o.closing ≡ is_to_be_shut_at e.0 x → (e.0, o) ≡ e → is_due x e.0 ≡ is_due_outlet e.1
+      by o offer shut own =
+          sym (ap (λ b. is_some (offer_at e.0 x) || b) shut) ∙ sym (ap (λ p. is_some p || o.closing) offer)
+          ∙ ap (λ (f : ℕ × Outlet). is_due_outlet f.1) own
+
   due_is : (es : Outlets) (x : Running W C) (i : ℕ) (e : ℕ × Outlet) → Carries es x.blocked x.state.connections → slice_get es i ≡ Some e
       → is_due x e.0 ≡ is_due_outlet e.1
   due_is es x i e c there =
-      let at = at_place es x.blocked x.state.connections e.0 i c (inside es i e there)
-      (λ f also. let same : e ≡ f = (let both = sym there ∙ also in cc) in ap (λ (g : ℕ × Outlet). g.0) (sym same)) in
-      let own : at.o ≡ e.1 = (let both = sym at.entry ∙ there in let same : (e.0, at.o) ≡ e = cc in ap (λ (g : ℕ × Outlet). g.1) same) in
-      by at.o (offer_there es x e.0 i at) (shut_there es x e.0 i at) own
+      due_there es x i e there (at_place es x.blocked x.state.connections e.0 i c (slice_get_within es i e there) same)
     where
-      by : (o : Outlet) → offer_of_outlet o ≡ offer_at e.0 x → o.closing ≡ is_to_be_shut_at e.0 x → o ≡ e.1 → is_due x e.0 ≡ is_due_outlet e.1
-      by o offer shut own =
-          sym (ap (λ b. is_some (offer_at e.0 x) || b) shut) ∙ sym (ap (λ p. is_some p || o.closing) offer) ∙ ap is_due_outlet own
-      inside : (fs : Outlets) (j : ℕ) (f : ℕ × Outlet) → slice_get fs j ≡ Some f → j < length fs
-      inside [] j f t = absurd (let none : ◌≡◌ {A = Option (ℕ × Outlet)} None (Some f) = t in cc)
-      inside (g ∷ fs) zero f t = omega arith
-      inside (g ∷ fs) (suc j) f t = let rest = inside fs j f t in omega (arith, rest)
+      same : (f : ℕ × Outlet) → slice_get es i ≡ Some f → f.0 ≡ e.0
+      same f also = let one : f ≡ e = (let both = sym also ∙ there in cc) in ap (λ (g : ℕ × Outlet). g.0) one
 
   pub due_are : (es : Outlets) (x : Running W C) → Carries es x.blocked x.state.connections → numbers_due es ≡ filter (is_due x) (present_numbers x.state)
   due_are es x c = due_pass (is_due x) es (λ i e there. due_is es x i e c there) ∙ ap (filter (is_due x)) (numbers_are es x.blocked x.state c)

@@ -1,8 +1,7 @@
 -- Which connections are idle while one is touched, opened or gone.
-use Rattle.std.proofs.Common.{◌≡◌, ◌≢◌, ℕ, zero, suc, ◌+◌, ◌<◌, ◌≤◌, List, [], ◌∷◌, ◌++◌, length, true, false, refl, sym, ap, ◌∙◌, subst, inl, inr}
+use Rattle.std.proofs.Common.{◌≡◌, ◌≢◌, ℕ, zero, suc, ◌+◌, ◌<◌, ◌≤◌, List, [], ◌∷◌, ◌++◌, length, false, refl, sym, ap, ◌∙◌, subst, inl, inr}
 use Rattle.std.proofs.Common.{nat_eq, add-one, arith}
-use Rattle.std.specs.Prelude.{remove, slice_get, Result, Ok, Err, OnOk, OnErr}
-use Rattle.std.specs.Map.{values_of}
+use Rattle.std.specs.Prelude.{remove, Result, Ok, Err, OnOk, OnErr}
 use Rattle.std.proofs.lemmas.Bool.{cases_lt}
 use Rattle.indexmap.specs.IndexMap.{set_value_at, insert_entry}
 use Rattle.connections.specs.declared.touched.Touched.{Touched}

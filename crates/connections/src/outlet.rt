@@ -21,7 +21,8 @@ pub struct Outlet {
 }
 
 impl Outlet {
-    ghost use Rattle.connections.specs.Outlets.{fresh_outlet, taken, emptied, freed, closed, with_nothing, holding, given, is_fitting, offer_of_outlet, run_of_outlet, is_due_outlet};
+    ghost use Rattle.connections.specs.Outlets.{fresh_outlet, taken, emptied, freed, closed, with_nothing, holding};
+    ghost use Rattle.connections.specs.Outlets.{given, is_fitting, offer_of_outlet, run_of_outlet, is_due_outlet};
 
     /// Nothing waits.
     pub(crate) fn fresh(alloc: Global) -> Result<Outlet, NoMemory>
@@ -40,11 +41,7 @@ impl Outlet {
         ensures offer { option_copied result ≡ offer_of_outlet self.now }
         ensures bound { IfSome result (λ left. length left.now ≤ QUEUE_LIMIT) }
     {
-        if self.blocked {
-            None
-        } else {
-            self.out.front()
-        }
+        if self.blocked { None } else { self.out.front() }
     }
 
     /// Bytes of the first frame were taken.

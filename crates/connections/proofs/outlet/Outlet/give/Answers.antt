@@ -1,4 +1,4 @@
-use Rattle.std.proofs.Common.{◌≡◌, ◌++◌, Ok, sym, ap, ◌∙◌}
+use Rattle.std.proofs.Common.{Ok, sym, ap, ◌∙◌}
 use Rattle.connections.proofs.GivenLemmas.{given_closing, given_done, given_over, fitting_done, fitting_over}
 use Rattle.connections.proofs.outlet.Outlet.give.Goals as goal
 

@@ -6,7 +6,8 @@ use Rattle.connections.proofs.outlets.Outlets.close.Goals as goal
 
 pub invariant_of-self : goal.invariant_of-self
 invariant_of-self c =
-    idle_set c.self.inside.touched c.with-self-inside.result c.self.inside.entries.entries c.args.i c.close.new.self c.self.invariant c.with-self-inside.ensures
+    idle_set c.self.inside.touched c.with-self-inside.result c.self.inside.entries.entries c.args.i c.close.new.self
+    c.self.invariant c.with-self-inside.ensures
 
 pub returns-then-i-len : goal.returns-then-i-len
 returns-then-i-len c =

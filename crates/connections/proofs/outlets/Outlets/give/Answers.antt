@@ -1,6 +1,5 @@
-use Rattle.std.proofs.Common.{◌≡◌, ◌++◌, ◌≤◌, List, ℕ, length, sym, ap, ◌∙◌, subst, arith}
-use Rattle.connections.specs.declared.outlet.Outlet.{Outlet}
-use Rattle.connections.specs.Outlets.{Outlets, given, is_fitting, outlet_at, test_in}
+use Rattle.std.proofs.Common.{◌≤◌, length, sym, ap, subst, arith}
+use Rattle.connections.specs.Outlets.{Outlets, given, is_fitting, test_in}
 use Rattle.connections.proofs.TouchedLemmas.{idle_set}
 use Rattle.connections.proofs.OutletLemmas.{set_ok, set_err, unchanged_at, no_outlet}
 use Rattle.connections.proofs.outlets.Outlets.give.Goals as goal
@@ -17,7 +16,8 @@ returns-then-i-len-clause-fitted c =
 
 pub invariant_of-self : goal.invariant_of-self
 invariant_of-self c =
-    idle_set c.self.inside.touched c.with-self-inside.result c.self.inside.entries.entries c.args.i c.give.new.self c.self.invariant c.with-self-inside.ensures
+    idle_set c.self.inside.touched c.with-self-inside.result c.self.inside.entries.entries c.args.i c.give.new.self
+    c.self.invariant c.with-self-inside.ensures
 
 pub returns-clause-given : goal.returns-clause-given
 returns-clause-given c =

@@ -16,7 +16,8 @@ returns-then-i-len-clause-rest c =
 
 pub invariant_of-self : goal.invariant_of-self
 invariant_of-self c =
-    idle_set c.self.inside.touched c.with-self-inside.result c.self.inside.entries.entries c.args.i c.lend.new.self c.self.invariant c.with-self-inside.ensures
+    idle_set c.self.inside.touched c.with-self-inside.result c.self.inside.entries.entries c.args.i c.lend.new.self
+    c.self.invariant c.with-self-inside.ensures
 
 pub returns-clause-frames : goal.returns-clause-frames
 returns-clause-frames c =

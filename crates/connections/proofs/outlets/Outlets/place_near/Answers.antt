@@ -1,4 +1,4 @@
-use Rattle.std.proofs.Common.{ℕ, subst}
+use Rattle.std.proofs.Common.{subst}
 use Rattle.std.specs.Prelude.{IfSome, IfNone}
 use Rattle.connections.specs.Entries.{IsEntry, IsNoEntry}
 use Rattle.connections.specs.Outlets.{Outlets}

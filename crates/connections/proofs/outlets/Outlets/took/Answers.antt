@@ -1,6 +1,6 @@
-use Rattle.std.proofs.Common.{◌≡◌, ◌≤◌, ◌<◌, ℕ, List, length, Some, None, refl, sym, ◌∙◌, subst}
+use Rattle.std.proofs.Common.{◌≡◌, ◌≤◌, ◌<◌, ℕ, List, length, Some, None, refl, sym, subst}
 use Rattle.std.specs.Prelude.{IsSomeAnd}
-use Rattle.connections.specs.Outlets.{Outlets, outlet_at, taken, change_of, offer_of_outlet, offers_of_outlet, offers_among}
+use Rattle.connections.specs.Outlets.{Outlets, outlet_at, taken, offer_of_outlet, offers_of_outlet, offers_among}
 use Rattle.connections.proofs.TouchedLemmas.{idle_set}
 use Rattle.connections.proofs.OfferLemmas.{fits_first, fewer_left}
 use Rattle.connections.proofs.OutletLemmas.{read_at, read_absent, read_changed, set_of, unchanged_of}
@@ -15,7 +15,8 @@ took-requires c =
 
 pub invariant_of-self : goal.invariant_of-self
 invariant_of-self c =
-    idle_set c.self.inside.touched c.with-self-inside.result c.self.inside.entries.entries c.in-Some.i c.took.new.self c.self.invariant c.with-self-inside.ensures
+    idle_set c.self.inside.touched c.with-self-inside.result c.self.inside.entries.entries c.in-Some.i c.took.new.self
+    c.self.invariant c.with-self-inside.ensures
 
 pub returns-in-Some-clause-taken : goal.returns-in-Some-clause-taken
 returns-in-Some-clause-taken c =

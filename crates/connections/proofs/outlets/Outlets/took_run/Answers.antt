@@ -6,7 +6,8 @@ use Rattle.connections.proofs.outlets.Outlets.took_run.Goals as goal
 
 pub invariant_of-self : goal.invariant_of-self
 invariant_of-self c =
-    idle_set c.self.inside.touched c.with-self-inside.result c.self.inside.entries.entries c.in-Some.i c.took_run.new.self c.self.invariant c.with-self-inside.ensures
+    idle_set c.self.inside.touched c.with-self-inside.result c.self.inside.entries.entries c.in-Some.i c.took_run.new.self
+    c.self.invariant c.with-self-inside.ensures
 
 pub returns-in-Some : goal.returns-in-Some
 returns-in-Some c =
