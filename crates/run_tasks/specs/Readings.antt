@@ -68,6 +68,16 @@ asks_link (Some (task.Ask what client)) = is_over_link client.peer
 asks_link (Some (task.Record what)) = is_over_link what.client.peer
 asks_link t = false
 
+-- whether a task is served over a wire
+abbrev pub is_service : Option Task → Bool
+is_service None = false
+is_service (Some (task.OfFiles t)) = false
+is_service (Some (task.Serve description listen events)) = true
+is_service (Some (task.RelayServe description listen events)) = true
+is_service (Some (task.Keep description script store)) = false
+is_service (Some (task.Ask what client)) = false
+is_service (Some (task.Record what)) = false
+
 -- whether a task keeps values on a disk
 abbrev pub asks_disk : Option Task → Bool
 asks_disk None = false
