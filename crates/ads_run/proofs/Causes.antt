@@ -1,5 +1,5 @@
 -- Why a run ended so, by the counts of what it is handed in; and how a run ends where nothing fails.
-use Rattle.std.specs.Prelude.{◌≡◌, ◌⊎◌, ◌<◌, ℕ, Bool, true, false, List, Option, Some, None}
+use Rattle.std.specs.Prelude.{◌≡◌, ◌⊎◌, ◌<◌, ℕ, Bool, true, List, Option, Some, None}
 use Rattle.ads_outside.specs.FilesState.{FilesState}
 use Rattle.ads_outside.specs.LinkState.{LinkState}
 use Rattle.ads_outside.specs.Rose.{Rose, raised}

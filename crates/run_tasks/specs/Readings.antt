@@ -1,5 +1,5 @@
 -- Which files a run has read, and what they held.
-use Rattle.std.specs.Prelude.{◌≡◌, ◌⊎◌, ℕ, Bool, true, false, List, [], ◌∷◌, Option, Some, None}
+use Rattle.std.specs.Prelude.{◌⊎◌, ℕ, Bool, true, false, List, [], ◌∷◌, Option, Some, None}
 use Rattle.ads_outside.specs.declared.named_file.NamedFile.{NamedFile}
 use Rattle.ads_outside.specs.FilesState.{ReadsSome, ReadsAll}
 use Rattle.cli_words.specs.declared.client_words.PeerWords.{PeerWords}

@@ -5,8 +5,8 @@ use Rattle.spec_relay.proofs.PromiseLemmas.{relay_play_keeps_promises}
 use Rattle.ads_run.specs.Program.{words_behind_name}
 use Rattle.ads_run.specs.ProgramWaves.{program_waves}
 use Rattle.run_tasks.specs.Tasks.{asked_task}
-use Rattle.ads_run.specs.Uses.{disk_used, uses}
-use Rattle.call_run.specs.CallUses.{keeper_used, link_used}
+use Rattle.ads_run.specs.Uses.{disk_used}
+use Rattle.call_run.specs.CallUses.{keeper_used}
 use Rattle.run_tasks.specs.Verdict.{verdict_of}
 use Rattle.file_run.proofs.KeepLemmas.{untouched_same}
 use Rattle.run_tasks.proofs.OpenLemmas.{store_wanting, table_wanting}
