@@ -33,7 +33,7 @@ use Rattle.client_loop.specs.Called.{calling}
 use Rattle.run_tasks.specs.declared.client_task.ClientTask.{ClientTask}
 use Rattle.run_tasks.specs.Asking.{local_calling, call_asked, own_address, asked_address}
 use Rattle.run_tasks.specs.declared.record_task.RecordTask.{RecordTask}
-use Rattle.ads_run.specs.Causes.{CauseOfRecord, CauseOfAsking, CauseOfKeeping, CauseOfService, IsLocalEnd, HasCause, EndsOfWire, TakesAll, FailsOfWire}
+use Rattle.ads_run.proofs.Causes.{CauseOfRecord, CauseOfAsking, CauseOfKeeping, CauseOfService, IsLocalEnd, HasCause, EndsOfWire, TakesAll, FailsOfWire}
 use Rattle.run_tasks.specs.Ending.{Ending, line_alone}
 use Rattle.ads_run.specs.Ends.{RunsSo, RunsBy}
 use Rattle.run_tasks.specs.KeepAsked.{Keeping, keeping}
@@ -43,7 +43,7 @@ use Rattle.run_tasks.specs.Readings.{OverFiles}
 use Rattle.run_tasks.specs.Service.{Service, ServedMachine, OfRelay, server_with, ending_after}
 use Rattle.file_run.specs.Serving.{MakesMoves, PrintsAt, EndsService}
 use Rattle.run_tasks.specs.RecordAsked.{recording_to, local_recording}
-use Rattle.ads_run.specs.RecordCauses.{CauseOfLocalRecording}
+use Rattle.ads_run.proofs.RecordCauses.{CauseOfLocalRecording}
 use Rattle.call_run.specs.CallUses.{KeeperUse}
 use Rattle.ads_run.specs.Uses.{Uses}
 use Rattle.run_tasks.specs.Verdict.{verdict_of_recorded, verdict_of_recorded_text, verdict_of_record, Verdict, ended, prints, over_store}
@@ -98,7 +98,7 @@ memory_cause (Some (task.Keep d script store)) u = tt
 memory_cause (Some (task.Ask what client)) u = at_memory what client client.peer u.link.old u.link.new
 memory_cause (Some (task.Record what)) u = recording_wants what what.client.peer u.link.old u.link.new u.keeper
 
-pub cause_without_memory : {O : Type 0} (asked : Option Task) (s : Status) (u : Uses O) → s ≡ status.Memory → HasCause asked s u
+cause_without_memory : {O : Type 0} (asked : Option Task) (s : Status) (u : Uses O) → s ≡ status.Memory → HasCause asked s u
 cause_without_memory asked s u is = subst (λ t. HasCause asked t u) (sym is) (memory_cause asked u)
 
 at_reading : (what : ClientTask) (client : ClientWords) (p : PeerWords) (lo ln : LinkState) → CauseOfAsking what client p status.ReadFault lo ln

@@ -1,3 +1,5 @@
+pub mod RecordCauses
+pub mod Causes
 pub mod CallCauseLemmas
 pub mod RecordCauseLemmas
 pub mod RecordLocalEnds
@@ -7,3 +9,4 @@ pub mod StoreLemmas
 pub mod RecordRunLemmas
 pub mod OwnLemmas
 pub mod SignalLemmas
+pub mod RunLaws

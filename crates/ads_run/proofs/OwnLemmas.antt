@@ -1,5 +1,5 @@
 -- How a run ends where nothing failed.
-use Rattle.std.proofs.Common.{◌≡◌, ℕ, List, [], Option, Some, None, inl, inr}
+use Rattle.std.proofs.Common.{◌≡◌, ℕ, List, Option, inl, inr}
 use Rattle.std.specs.Prelude.{◌⊎◌}
 use Rattle.ads_outside.specs.declared.end.End.{End}
 use Rattle.ads_outside.specs.declared.end.End.TheVariants as end
@@ -13,7 +13,7 @@ use Rattle.spec_store.specs.Slots.{Standing}
 use Rattle.keep_play.specs.KeptSaves.{saves_of_play}
 use Rattle.run_tasks.specs.declared.status.Status.{Status}
 use Rattle.run_tasks.specs.declared.status.Status.TheVariants as status
-use Rattle.ads_run.specs.Causes.{IsOwnEnd, NothingFailed}
+use Rattle.ads_run.proofs.Causes.{IsOwnEnd, NothingFailed}
 use Rattle.run_tasks.specs.Ending.{Ending, line_alone}
 use Rattle.ads_run.specs.Ends.{RunsSo, RunsBy}
 use Rattle.run_tasks.specs.KeepAsked.{Keeping}
@@ -99,18 +99,3 @@ own_end held verdict_for files files_new s u ends_so nothing =
     (λ first second. IsOwnEnd (verdict_for first second) s u)
     (λ first second h. own_by (verdict_for first second) s files files_new u nothing h)
     ends_so
-
--- a run that wanted memory has its own end
-memory_own : {O : Type 0} (v : Verdict) (s : Status) (u : Uses O) → s ≡ status.Memory → IsOwnEnd v s u
-memory_own (Ends e) s u is = inr is
-memory_own (Serves service) s u is = inr (inr is)
-memory_own (Calls x) s u is = inr is
-memory_own (CallsLocally x) s u is = inr is
-memory_own (Keeps x) s u is = inr (inr is)
-memory_own (Records x) s u is = inr (inr is)
-memory_own (RecordsLocally x) s u is = inr (inr is)
-
-pub own_without_memory : {O : Type 0} (held : Option (List NamedFile)) (verdict_for : List NamedFile → List NamedFile → Verdict) (s : Status) (u : Uses O)
-    → s ≡ status.Memory → OverFiles held (λ first second. IsOwnEnd (verdict_for first second) s u)
-own_without_memory None verdict_for s u is = ([], [], memory_own (verdict_for [] []) s u is)
-own_without_memory (Some files) verdict_for s u is = memory_own (verdict_for files files) s u is

@@ -25,7 +25,7 @@ use Rattle.run_tasks.specs.Asking.{LocalCalling}
 use Rattle.call_run.specs.Calling.{status_of_call, status_of_loop, local_conversation}
 use Rattle.call_run.specs.Recording.{MOST_ROWS, PrintsRecorded, BehindOpening}
 use Rattle.call_run.specs.Recording.{AfterLocalRecord, EndsLocalRecorded, EndsLocalRecording}
-use Rattle.ads_run.specs.RecordCauses.{CauseOfLocalRecording, IsEndOfLocalRecording, IsFull}
+use Rattle.ads_run.proofs.RecordCauses.{CauseOfLocalRecording, IsEndOfLocalRecording, IsFull}
 use Rattle.call_run.specs.CallUses.{KeeperUse}
 use Rattle.ads_run.proofs.CallCauseLemmas.{CallFacts, told_facts, wanting_facts, unwritten_facts, no_writing, no_usage, told_own, not_unwritten}
 use Rattle.run_tasks.proofs.ReadingLemmas.{rose_from}

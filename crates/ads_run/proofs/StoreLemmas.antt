@@ -14,7 +14,7 @@ use Rattle.run_tasks.specs.declared.task.Task.{Task}
 use Rattle.run_tasks.specs.declared.task.Task.TheVariants as task
 use Rattle.call_run.specs.Calling.{status_of_loop}
 use Rattle.run_tasks.specs.declared.record_task.RecordTask.{RecordTask}
-use Rattle.ads_run.specs.Causes.{CauseOfAsking, CauseOfRecord, HasCause, IsNoStoreEnd}
+use Rattle.ads_run.proofs.Causes.{CauseOfAsking, CauseOfRecord, HasCause, IsNoStoreEnd}
 use Rattle.call_run.specs.CallUses.{KeeperUse}
 use Rattle.ads_run.specs.Uses.{Uses}
 

@@ -7,7 +7,6 @@ use Rattle.signals.specs.Wave.{Wave}
 use Rattle.spec_plant.specs.Description.{Description}
 use Rattle.spec_machine.specs.ScriptLine.{ScriptLine}
 use Rattle.run_tasks.specs.declared.status.Status.{Status}
-use Rattle.ads_run.specs.Causes.{IsOwnEnd, NothingFailed}
 use Rattle.ads_run.specs.Ends.{RunsBy}
 use Rattle.file_run.specs.Migrated.{HasMigrated}
 use Rattle.file_run.specs.Promises.{PlayKeepsPromises}
@@ -24,6 +23,5 @@ words_behind_name (Err fault) = []
 -- a run of these words over signals with these waves: what `run` says of it. No public clause cites this.
 pub record RunsWith {O : Type 0} (waves : List Wave) (words : List (List ℕ)) (s : Status) (files files_new : FilesState) (u : Uses O) : Type 0 where
   pub ends : OverFiles files.held (λ first second. RunsBy (verdict_of waves words first second) (Rose files.faults files_new.faults) s u)
-  pub complete : NothingFailed files files_new u → OverFiles files.held (λ first second. IsOwnEnd (verdict_of waves words first second) s u)
   pub migrated : HasMigrated (length waves) (asked_task words) s files.held u.out u.out_new
   pub promises : (d : Description) (lines : List ScriptLine) → PlayKeepsPromises d waves lines

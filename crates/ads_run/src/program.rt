@@ -5,7 +5,6 @@ ghost use Rattle.ads_outside.specs.Rose.{Rose};
 ghost use Rattle.spec_plant.specs.Description as plant;
 ghost use Rattle.spec_machine.specs.ScriptLine.{ScriptLine};
 ghost use Rattle.spec_relay.specs.RelayPromises.{RelayPlayKeepsPromises};
-ghost use Rattle.ads_run.specs.Causes.{HasCause, IsOwnEnd, NothingFailed, is_service};
 ghost use Rattle.run_tasks.specs.BeforeRun.{IsBeforeRun};
 ghost use Rattle.run_tasks.specs.Ending.{line_alone};
 ghost use Rattle.ads_run.specs.Ends.{RunsBy};
@@ -15,7 +14,7 @@ ghost use Rattle.ads_run.specs.Program.{RunsWith, words_behind_name};
 ghost use Rattle.ads_run.specs.ProgramWaves.{program_waves};
 ghost use Rattle.file_run.specs.Promises.{PlayKeepsPromises};
 ghost use Rattle.run_tasks.specs.Openings.{OpensStore, OpensTable};
-ghost use Rattle.run_tasks.specs.Readings.{OverFiles, ReadsFiles, asks_disk, asks_keeper, asks_link, reads_no_file};
+ghost use Rattle.run_tasks.specs.Readings.{OverFiles, ReadsFiles, asks_disk, asks_keeper, asks_link, is_service, reads_no_file};
 ghost use Rattle.call_run.specs.RecordRows.{AddsRows};
 ghost use Rattle.run_tasks.specs.Tasks.{asked_task};
 ghost use Rattle.ads_run.specs.Uses.{disk_used, uses};
@@ -87,24 +86,6 @@ pub fn run_program<T: Threads + Sync, F: Files, W: Wire, L: Link, S: Sink, D: Di
     ensures write_fault { result ≡ Status.WriteFault → Rose (S.state out.old).faults (S.state out.new).faults }
     ensures store_fault { result ≡ Status.StoreFault → Rose (D.fault_count disk.old) (D.fault_count disk.new) }
     ensures keeper_fault { result ≡ Status.KeeperFault → Rose (K.state keeper.old).faults (K.state keeper.new).faults }
-    ensures cause { HasCause (asked_task (words_behind_name words)) result
-        (uses (S.state out.old) (S.state out.new) (W.state wire.old).history (W.state wire.new).history
-        (link_used L.tells L.state link.old link.new)
-        (disk_used D.contents D.may_leave D.moment D.left_since D.marked D.fault_count disk.old disk.new)
-        (keeper_used K.state keeper.old keeper.new)) }
-
-    // Where nothing failed, the run ends as its verdict says; a service is done, or took all its events; a play over a store is
-    // done, or stopped by the limit.
-    ensures complete { NothingFailed (F.state files.old) (F.state files.new)
-        (uses (S.state out.old) (S.state out.new) (W.state wire.old).history (W.state wire.new).history
-        (link_used L.tells L.state link.old link.new)
-        (disk_used D.contents D.may_leave D.moment D.left_since D.marked D.fault_count disk.old disk.new)
-        (keeper_used K.state keeper.old keeper.new))
-        → OverFiles (F.state files.old).held (λ first second. IsOwnEnd (verdict_of program_waves (words_behind_name words) first second) result
-        (uses (S.state out.old) (S.state out.new) (W.state wire.old).history (W.state wire.new).history
-        (link_used L.tells L.state link.old link.new)
-        (disk_used D.contents D.may_leave D.moment D.left_since D.marked D.fault_count disk.old disk.new)
-        (keeper_used K.state keeper.old keeper.new))) }
 
     // What `migrate` prints where it is done: the description under schema 2, of which the rules say the same.
     ensures migrated { HasMigrated (length program_waves) (asked_task (words_behind_name words)) result
@@ -160,11 +141,6 @@ fn run_signals<T: Threads + Sync, F: Files, W: Wire, L: Link, S: Sink, D: Disk, 
     ensures write_fault { IfOk result (λ s. s ≡ Status.WriteFault → Rose (S.state out.old).faults (S.state out.new).faults) }
     ensures store_fault { IfOk result (λ s. s ≡ Status.StoreFault → Rose (D.fault_count disk.old) (D.fault_count disk.new)) }
     ensures keeper_fault { IfOk result (λ s. s ≡ Status.KeeperFault → Rose (K.state keeper.old).faults (K.state keeper.new).faults) }
-    ensures cause { IfOk result (λ s. HasCause (asked_task (words_behind_name words)) s
-        (uses (S.state out.old) (S.state out.new) (W.state wire.old).history (W.state wire.new).history
-        (link_used L.tells L.state link.old link.new)
-        (disk_used D.contents D.may_leave D.moment D.left_since D.marked D.fault_count disk.old disk.new)
-        (keeper_used K.state keeper.old keeper.new))) }
     ensures no_memory { OnErr result ((files.new ≡ files.old) × (wire.new ≡ wire.old) × (link.new ≡ link.old) × (out.new ≡ out.old)
         × (disk.new ≡ disk.old) × (keeper.new ≡ keeper.old)) }
 {

@@ -6,4 +6,5 @@ pub mod NumberLemmas
 pub mod StoppedLemmas
 pub mod NameLemmas
 pub mod NetIdLemmas
+pub mod FitLemmas
 mod Examples

@@ -4,3 +4,4 @@ pub mod Values
 pub mod Forms
 pub mod Commands
 pub mod Dividing
+pub mod Fits

@@ -1,6 +1,7 @@
 //! The words of the command line, read.
 
-ghost use Rattle.std.specs.Prelude.{◌≡◌, ◌∷◌, IfOk, map, string_bytes};
+ghost use Rattle.std.specs.Prelude.{◌≡◌, ◌∷◌, IfOk, IfSome, map, string_bytes};
+ghost use Rattle.cli_words.specs.Fits.{FitsCommand};
 ghost use Rattle.cli_words.specs.Reading.{Reads};
 ghost use Rattle.cli_words.specs.Forms.{are_among, may_stand, options_of};
 ghost use Rattle.cli_words.specs.Commands.{command_of};
@@ -19,7 +20,8 @@ use std::alloc::Global;
 /// `--x V`, where V does not begin with `-`, or `--x=V`, and stands at most once; all words behind a word `--` are
 /// positional. There are no short forms, no abbreviations, and no help or version options.
 pub fn read_words(alloc: Global, words: &[String]) -> Result<Option<Command>, NoMemory>
-    ensures { IfOk result (λ command. command ≡ command_of (map string_bytes words.now)) }
+    ensures command { IfOk result (λ command. command ≡ command_of (map string_bytes words.now)) }
+    ensures fits { IfOk result (λ command. IfSome command FitsCommand) }
 {
     match command_of_words(alloc, words) {
         Ok(command) => Ok(Some(command)),

@@ -38,7 +38,7 @@ use Rattle.client_loop.specs.LinkAfter.{history_left, history_over}
 use Rattle.client_loop.specs.Said.{SendsSome}
 use Rattle.call_run.specs.CallUses.{LinkUse, link_used, used}
 use Rattle.call_run.specs.Calling.{EndsCall, status_of_call, status_of_loop}
-use Rattle.ads_run.specs.Causes.{IsEndOfCall}
+use Rattle.ads_run.proofs.Causes.{IsEndOfCall}
 use Rattle.run_tasks.specs.declared.status.Status.TheVariants as status
 
 -- the state is asked over a link that is connected at 5; nothing comes at first, and at 7 the response

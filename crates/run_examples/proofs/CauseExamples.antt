@@ -13,13 +13,14 @@ use Rattle.run_tasks.specs.declared.status.Status.TheVariants as status
 use Rattle.run_tasks.specs.declared.task.Task.TheVariants as task
 use Rattle.run_tasks.specs.BuiltIn.{built_in}
 use Rattle.run_tasks.specs.KeepAsked.{keeping}
+use Rattle.run_tasks.specs.Readings.{is_service}
 use Rattle.run_tasks.specs.StatusTable.{number_of}
 use Rattle.run_tasks.specs.Verdict.{Calls, Keeps, Records, RecordsLocally, Serves, ended}
 use Rattle.call_run.specs.Recording.{MOST_ROWS}
-use Rattle.ads_run.specs.Causes.{CauseOfKeeping, CauseOfService, EndsOfWire, FailsOfWire, HasCause, IsEndOfCall, IsEndOfLocal, IsNoServiceEnd, IsOwnEnd}
-use Rattle.ads_run.specs.Causes.{NothingFailed, TakesAll, is_service}
+use Rattle.ads_run.proofs.Causes.{CauseOfKeeping, CauseOfService, EndsOfWire, FailsOfWire, HasCause, IsEndOfCall, IsEndOfLocal, IsNoServiceEnd, IsOwnEnd}
+use Rattle.ads_run.proofs.Causes.{NothingFailed, TakesAll}
 use Rattle.ads_run.specs.Ends.{RunsBy, RunsSo}
-use Rattle.ads_run.specs.RecordCauses.{CauseOfLocalRecording, CauseOfRecording, IsEndOfRecording, IsFull}
+use Rattle.ads_run.proofs.RecordCauses.{CauseOfLocalRecording, CauseOfRecording, IsEndOfRecording, IsFull}
 use Rattle.ads_run.specs.Uses.{Uses, uses}
 use Rattle.run_examples.proofs.CallExamples as calls
 use Rattle.run_examples.proofs.RecordExamples as records

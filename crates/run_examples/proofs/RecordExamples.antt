@@ -56,7 +56,7 @@ use Rattle.call_run.specs.CallUses.{LinkUse, keeper_used, used}
 use Rattle.call_run.specs.RecordRows.{AddsRows}
 use Rattle.call_run.specs.Recording.{BehindOpening, EndsRecording, MOST_ROWS, PrintsRecorded}
 use Rattle.run_tasks.specs.declared.status.Status.TheVariants as status
-use Rattle.ads_run.specs.RecordCauses.{IsEndOfRecording}
+use Rattle.ads_run.proofs.RecordCauses.{IsEndOfRecording}
 
 -- one sample of `a`, an INT, is recorded on change, from row 1 on
 abbrev here : List ℕ

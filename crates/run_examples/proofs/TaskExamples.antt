@@ -1,5 +1,5 @@
 -- Which task the words ask for, by computation.
-use Rattle.std.specs.Prelude.{◌≡◌, refl, ℕ, List, [], ◌∷◌, codes, map, true, false, Some, None, replicate}
+use Rattle.std.specs.Prelude.{◌≡◌, refl, ℕ, List, [], ◌∷◌, codes, map, true, false, Some, None}
 use Rattle.std.proofs.lemmas.Bool.{false≢true, le-leb}
 use Rattle.std.proofs.Common.{lit≤}
 use Rattle.std.specs.Fmt.{digits}
@@ -23,7 +23,7 @@ use Rattle.run_tasks.specs.Asking.{asked_address, call_asked, local_calling, own
 use Rattle.run_tasks.specs.BuiltIn.{built_in}
 use Rattle.run_tasks.specs.Fits.{FitsClientTask, FitsTask}
 use Rattle.run_tasks.specs.RecordAsked.{call_recorded, local_recording, recording_to}
-use Rattle.run_tasks.specs.Tasks.{asked_task, task_of_ask, task_of_command, task_of_load, task_of_record}
+use Rattle.run_tasks.specs.Tasks.{asked_task, task_of_command}
 use Rattle.client_loop.specs.Called.{calling}
 use Rattle.spec_client.specs.Calls.{Info, State, Control, Get, Set, Symbols, Watch, Show, Record}
 
@@ -63,8 +63,13 @@ unfolding command_of form_of divided kind_of are_among options_of command_in loa
 no_command = refl
 
 -- a load has at most 100,000
-loads : map task_of_load (0 ∷ 100000 ∷ 100001 ∷ []) ≡ Some (task.OfFiles (file_task.Load 0)) ∷ Some (task.OfFiles (file_task.Load 100000)) ∷ None ∷ []
+loads : asked_task (codes "load" ∷ codes "100000" ∷ []) ≡ Some (task.OfFiles (file_task.Load 100000))
+unfolding command_of form_of divided kind_of are_among options_of command_in load_in number_in number_of digits task_of_command
 loads = refl
+
+too_great : asked_task (codes "load" ∷ codes "100001" ∷ []) ≡ None
+unfolding command_of form_of divided kind_of are_among options_of command_in load_in number_in number_of digits task_of_command
+too_great = refl
 
 -- the task of each command over files
 abbrev p : List ℕ
@@ -76,22 +81,21 @@ s = codes "s"
 abbrev files_alone : List Command
 files_alone = command.Selftest s ∷ command.Check p ∷ command.Replay p s ∷ command.Relay p s ∷ command.Migrate p ∷ []
 
-of_files : map (λ c. task_of_command (Some c)) files_alone
-    ≡ Some (task.OfFiles (file_task.Selftest s)) ∷ Some (task.OfFiles (file_task.Check p)) ∷ Some (task.OfFiles (file_task.Replay p s))
-    ∷ Some (task.OfFiles (file_task.Relay p s)) ∷ Some (task.OfFiles (file_task.Migrate p)) ∷ []
+of_files : map task_of_command files_alone ≡ map task.OfFiles
+    (file_task.Selftest s ∷ file_task.Check p ∷ file_task.Replay p s ∷ file_task.Relay p s ∷ file_task.Migrate p ∷ [])
 unfolding task_of_command
 of_files = refl
 
-kept : task_of_command (Some (command.Keep p s (codes "f"))) ≡ Some (task.Keep p s (codes "f"))
+kept : task_of_command (command.Keep p s (codes "f")) ≡ task.Keep p s (codes "f")
 unfolding task_of_command
 kept = refl
 
-relayed : task_of_command (Some (command.RelayServe p (codes "127.0.0.1:1") 9)) ≡ Some (task.RelayServe p (codes "127.0.0.1:1") 9)
+relayed : task_of_command (command.RelayServe p (codes "127.0.0.1:1") 9) ≡ task.RelayServe p (codes "127.0.0.1:1") 9
 unfolding task_of_command
 relayed = refl
 
-nothing : task_of_command None ≡ None
-unfolding task_of_command
+nothing : asked_task [] ≡ None
+unfolding command_of
 nothing = refl
 
 -- the task of each command of a client
@@ -103,17 +107,9 @@ abbrev questions : List ClientTask
 questions = ask.Info ∷ ask.State ∷ ask.List ∷ ask.Control 5 0 ∷ ask.Get (codes "a") ∷ ask.Show (codes "a") ∷ ask.Set (codes "a") (codes "1")
     ∷ ask.Watch (codes "a") true 0 3 ∷ []
 
-asked : map (λ c. task_of_command (Some c)) asks ≡ map (λ what. Some (task.Ask what client)) questions
+asked : map task_of_command asks ≡ map (λ what. task.Ask what client) questions
 unfolding task_of_command
 asked = refl
-
--- what is too large is no task: a port, a state, a cycle, and samples none of which or too many are asked
-too_large : map (λ what. task_of_ask what client) (ask.Control 65536 0 ∷ ask.Control 5 65536 ∷ ask.Watch (codes "a") false 4294967296 1
-    ∷ ask.Watch (codes "a") false 0 0 ∷ ask.Watch (codes "a") false 0 1000001 ∷ []) ≡ None ∷ None ∷ None ∷ None ∷ None ∷ []
-too_large = refl
-
-port_too_large : task_of_ask ask.Info (client_at 65536 (peer.Local p)) ≡ None
-port_too_large = refl
 
 -- the call of each question
 calls : map call_asked questions
@@ -142,16 +138,9 @@ its_call = refl
 abbrev pub what : RecordTask
 what = record { names = codes "a" ∷ codes "b" ∷ []; change = true; cycle = 10; count = 4; store = codes "f"; client = client }
 
-recorded : task_of_record what ≡ Some (task.Record what)
-recorded = refl
-
-recorded_command : task_of_command (Some (command.Record (codes "a" ∷ codes "b" ∷ []) true 10 4 (codes "f") client)) ≡ Some (task.Record what)
+recorded : task_of_command (command.Record (codes "a" ∷ codes "b" ∷ []) true 10 4 (codes "f") client) ≡ task.Record what
 unfolding task_of_command
-recorded_command = refl
-
-not_recorded : map task_of_record (record what { names = [] } ∷ record what { count = 0 } ∷ record what { cycle = 4294967296 }
-    ∷ record what { names = replicate 17 (codes "a") } ∷ []) ≡ None ∷ None ∷ None ∷ None ∷ []
-not_recorded = refl
+recorded = refl
 
 -- behind 6 rows the first has number 7
 seventh_row : call_recorded what 6 ≡ Record (codes "a" ∷ codes "b" ∷ []) (record { mode = 4; cycle = 10; count = 4 }) 7

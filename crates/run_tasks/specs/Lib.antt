@@ -2,7 +2,6 @@ pub mod StatusTable
 pub mod Ending
 pub mod BuiltIn
 pub mod Tasks
-pub mod Groups
 pub mod Report
 pub mod Load
 pub mod Asking

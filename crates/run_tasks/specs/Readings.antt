@@ -1,5 +1,5 @@
 -- Which files a run has read, and what they held.
-use Rattle.std.specs.Prelude.{◌≡◌, ◌⊎◌, ℕ, Bool, true, false, List, [], ◌∷◌, Option, Some, None}
+use Rattle.std.specs.Prelude.{◌⊎◌, ℕ, Bool, true, false, List, [], ◌∷◌, Option, Some, None}
 use Rattle.ads_outside.specs.declared.named_file.NamedFile.{NamedFile}
 use Rattle.ads_outside.specs.FilesState.{ReadsSome, ReadsAll}
 use Rattle.cli_words.specs.declared.client_words.PeerWords.{PeerWords}
@@ -68,34 +68,28 @@ asks_link (Some (task.Ask what client)) = is_over_link client.peer
 asks_link (Some (task.Record what)) = is_over_link what.client.peer
 asks_link t = false
 
+-- whether a task is served over a wire
+abbrev pub is_service : Option Task → Bool
+is_service (Some (task.Serve description listen events)) = true
+is_service (Some (task.RelayServe description listen events)) = true
+is_service t = false
+
 -- whether a task keeps values on a disk
 abbrev pub asks_disk : Option Task → Bool
-asks_disk None = false
-asks_disk (Some (task.OfFiles t)) = false
-asks_disk (Some (task.Serve description listen events)) = false
-asks_disk (Some (task.RelayServe description listen events)) = false
 asks_disk (Some (task.Keep description script store)) = true
-asks_disk (Some (task.Ask what client)) = false
-asks_disk (Some (task.Record what)) = false
+asks_disk t = false
 
 -- whether a task records samples in a keeper
 abbrev pub asks_keeper : Option Task → Bool
-asks_keeper None = false
-asks_keeper (Some (task.OfFiles t)) = false
-asks_keeper (Some (task.Serve description listen events)) = false
-asks_keeper (Some (task.RelayServe description listen events)) = false
-asks_keeper (Some (task.Keep description script store)) = false
-asks_keeper (Some (task.Ask what client)) = false
 asks_keeper (Some (task.Record what)) = true
+asks_keeper t = false
 
 abbrev pub reads_no_file : Option Task → Bool
 reads_no_file None = true
 reads_no_file (Some (task.OfFiles t)) = asks_no_file t
-reads_no_file (Some (task.Serve description listen events)) = false
-reads_no_file (Some (task.RelayServe description listen events)) = false
-reads_no_file (Some (task.Keep description script store)) = false
 reads_no_file (Some (task.Ask what client)) = is_over_link client.peer
 reads_no_file (Some (task.Record what)) = is_over_link what.client.peer
+reads_no_file t = false
 
 -- of a client's command: the description of the server in the same process
 abbrev pub ReadsOfPeer : PeerWords → Status → Names → Names → Type 0

@@ -3,7 +3,5 @@ use Rattle.ads_program.proofs.process.run_over.Goals as goal
 pub returns-clause-ends : goal.returns-clause-ends
 returns-clause-ends g c = record {
   ends = c.run_program.ensures.ends;
-  cause = c.run_program.ensures.cause;
-  complete = c.run_program.ensures.complete;
   read_fault = c.run_program.ensures.read_fault;
 }

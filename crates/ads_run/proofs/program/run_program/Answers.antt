@@ -5,23 +5,18 @@ use Rattle.spec_relay.proofs.PromiseLemmas.{relay_play_keeps_promises}
 use Rattle.ads_run.specs.Program.{words_behind_name}
 use Rattle.ads_run.specs.ProgramWaves.{program_waves}
 use Rattle.run_tasks.specs.Tasks.{asked_task}
-use Rattle.ads_run.specs.Uses.{disk_used, uses}
-use Rattle.call_run.specs.CallUses.{keeper_used, link_used}
+use Rattle.ads_run.specs.Uses.{disk_used}
+use Rattle.call_run.specs.CallUses.{keeper_used}
 use Rattle.run_tasks.specs.Verdict.{verdict_of}
-use Rattle.ads_run.proofs.CauseLemmas.{cause_without_memory}
 use Rattle.file_run.proofs.KeepLemmas.{untouched_same}
 use Rattle.run_tasks.proofs.OpenLemmas.{store_wanting, table_wanting}
 use Rattle.file_run.proofs.MigrationLemmas.{any_without_memory}
-use Rattle.ads_run.proofs.OwnLemmas.{own_without_memory}
 use Rattle.file_run.proofs.PromiseLemmas.{play_keeps_promises}
 use Rattle.ads_run.proofs.RunLemmas.{runs_untouched}
 use Rattle.ads_run.proofs.program.run_program.Goals as goal
 
 pub returns-in-Ok-clause-ends : goal.returns-in-Ok-clause-ends
 returns-in-Ok-clause-ends g c = c.in-Ok.ensures.runs.ends
-
-pub returns-in-Ok-clause-complete : goal.returns-in-Ok-clause-complete
-returns-in-Ok-clause-complete g c = c.in-Ok.ensures.runs.complete
 
 pub returns-in-Ok-clause-migrated : goal.returns-in-Ok-clause-migrated
 returns-in-Ok-clause-migrated g c = c.in-Ok.ensures.runs.migrated
@@ -44,23 +39,6 @@ returns-in-Err-clause-ends g c =
     )
     c.end_without_memory.ensures.memory c.end_without_memory.ensures.line
     c.in-Err.ensures.no_memory.3 c.in-Err.ensures.no_memory.1 c.in-Err.ensures.no_memory.2
-
-pub returns-in-Err-clause-cause : goal.returns-in-Err-clause-cause
-returns-in-Err-clause-cause g c = cause_without_memory (asked_task (words_behind_name c.args.words)) c.end_without_memory.result
-    (uses (g.S.Sink.state c.args.out.now) (g.S.Sink.state c.end_without_memory.new.out)
-    (g.W.Wire.state c.args.wire.now).history (g.W.Wire.state c.run_signals.new.wire).history
-    (link_used g.L.Link.tells g.L.Link.state c.args.link.now c.run_signals.new.link)
-    (disk_used g.D.Disk.contents g.D.Disk.may_leave g.D.Disk.moment g.D.Disk.left_since g.D.Disk.marked g.D.Disk.fault_count c.args.disk.now c.run_signals.new.disk)
-    (keeper_used g.K.Keeper.state c.args.keeper.now c.run_signals.new.keeper)) c.end_without_memory.ensures.memory
-
-pub returns-in-Err-clause-complete : goal.returns-in-Err-clause-complete
-returns-in-Err-clause-complete g c = λ nothing. own_without_memory (g.F.Files.state c.args.files.now).held
-    (λ first second. verdict_of program_waves (words_behind_name c.args.words) first second) c.end_without_memory.result
-    (uses (g.S.Sink.state c.args.out.now) (g.S.Sink.state c.end_without_memory.new.out)
-    (g.W.Wire.state c.args.wire.now).history (g.W.Wire.state c.run_signals.new.wire).history
-    (link_used g.L.Link.tells g.L.Link.state c.args.link.now c.run_signals.new.link)
-    (disk_used g.D.Disk.contents g.D.Disk.may_leave g.D.Disk.moment g.D.Disk.left_since g.D.Disk.marked g.D.Disk.fault_count c.args.disk.now c.run_signals.new.disk)
-    (keeper_used g.K.Keeper.state c.args.keeper.now c.run_signals.new.keeper)) c.end_without_memory.ensures.memory
 
 pub returns-in-Err-clause-migrated : goal.returns-in-Err-clause-migrated
 returns-in-Err-clause-migrated g c =

@@ -38,7 +38,7 @@ returns-clause-runs g c =
     (disk_used g.D.Disk.contents g.D.Disk.may_leave g.D.Disk.moment g.D.Disk.left_since g.D.Disk.marked g.D.Disk.fault_count c.args.disk.now c.run.new.disk)
     (keeper_used g.K.Keeper.state c.args.keeper.now c.run.new.keeper)) waves
     (ap (map string_bytes) behind ∙ c.in_ok-all.ensures.words)
-    (record { ends = c.run.ensures.ends; complete = c.run.ensures.complete; migrated = c.run.ensures.migrated; promises = c.run.ensures.promises })
+    (record { ends = c.run.ensures.ends; migrated = c.run.ensures.migrated; promises = c.run.ensures.promises })
 
 pub returns-clause-no_command : goal.returns-clause-no_command
 returns-clause-no_command g c = λ none.

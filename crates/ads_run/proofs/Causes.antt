@@ -1,5 +1,5 @@
 -- Why a run ended so, by the counts of what it is handed in; and how a run ends where nothing fails.
-use Rattle.std.specs.Prelude.{◌≡◌, ◌⊎◌, ◌<◌, ℕ, Bool, true, false, List, Option, Some, None}
+use Rattle.std.specs.Prelude.{◌≡◌, ◌⊎◌, ◌<◌, ℕ, Bool, true, List, Option, Some, None}
 use Rattle.ads_outside.specs.FilesState.{FilesState}
 use Rattle.ads_outside.specs.LinkState.{LinkState}
 use Rattle.ads_outside.specs.Rose.{Rose, raised}
@@ -22,20 +22,10 @@ use Rattle.run_tasks.specs.declared.task.Task.TheVariants as task
 use Rattle.run_tasks.specs.Asking.{LocalCalling, call_asked, own_address, asked_address}
 use Rattle.call_run.specs.Calling.{status_of_loop, local_conversation}
 use Rattle.run_tasks.specs.RecordAsked.{recording_to}
-use Rattle.ads_run.specs.RecordCauses.{CauseOfRecording, CauseOfLocalRecording, IsEndOfRecording, IsEndOfLocalRecording, IsFull}
+use Rattle.ads_run.proofs.RecordCauses.{CauseOfRecording, CauseOfLocalRecording, IsEndOfRecording, IsEndOfLocalRecording, IsFull}
 use Rattle.call_run.specs.CallUses.{KeeperUse}
 use Rattle.ads_run.specs.Uses.{Uses}
 use Rattle.run_tasks.specs.Verdict.{Verdict, Ends, Serves, Calls, CallsLocally, Keeps, Records, RecordsLocally}
-
--- whether a task is served over a wire
-abbrev pub is_service : Option Task → Bool
-is_service None = false
-is_service (Some (task.OfFiles t)) = false
-is_service (Some (task.Serve description listen events)) = true
-is_service (Some (task.RelayServe description listen events)) = true
-is_service (Some (task.Keep description script store)) = false
-is_service (Some (task.Ask what client)) = false
-is_service (Some (task.Record what)) = false
 
 -- the wire gave fewer events than that, and then answered End
 pub record EndsOfWire (limit : ℕ) (old new : WireHistory) : Type 0 where
