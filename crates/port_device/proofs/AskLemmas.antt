@@ -15,7 +15,7 @@ use Rattle.spec_plant.specs.World.{PlantPort}
 use Rattle.spec_plant.specs.Finding as plant
 use Rattle.spec_plant.specs.Finding.{found_of}
 use Rattle.spec_formats.specs.Codes.{invalid_group, invalid_size}
-use Rattle.spec_formats.specs.Groups.{ValueByName, InfoByName}
+use Rattle.spec_formats.specs.Groups.{ValueByName, InfoByName, ExtendedInfoByName}
 use Rattle.spec_machine.specs.World.{World, Setup, setup_of}
 use Rattle.spec_machine.specs.Access.{Addressed, WholeByte}
 use Rattle.spec_machine.specs.Client as client

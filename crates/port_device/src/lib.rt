@@ -34,4 +34,5 @@ pub use manner::Manner;
 pub use own::states_range;
 pub use port::Port;
 pub use ports::Ports;
+pub use writable::may_write;
 pub use writing::{RUN, STOP};
