@@ -9,12 +9,9 @@ ghost use Rattle.ads_commands.specs.Request.{IsWritable, request_meant};
 
 use ads_base::{AmsAddr, NoMemory, Octets};
 use ads_commands::{Request, put_request};
-use ams_header::{Header, put};
+use ams_header::{AMS_HEADER, Header, REQUEST, put};
 use ams_tcp::put_frame;
 use std::alloc::Global;
-
-/// The flags of a request: an ADS command.
-const REQUEST: u16 = 0x0004;
 
 /// The frame of a request.
 pub(crate) fn frame_of(
@@ -55,7 +52,7 @@ fn packet_of(
         error: 0,
         id,
     };
-    let mut head = [0; 32];
+    let mut head = [0; AMS_HEADER];
     put(&header, &mut head);
     let mut packet = Octets::copy_of(alloc, &head)?;
     packet.put(alloc, payload.as_slice())?;

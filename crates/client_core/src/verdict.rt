@@ -13,7 +13,7 @@ use crate::samples::{StampedSample, samples_in};
 use crate::unanswered::{Unanswered, is_answer};
 use ads_base::{AmsAddr, NoMemory, Octets};
 use ads_commands::read_reply;
-use ams_header::{Header, read};
+use ams_header::{AMS_HEADER, Header, NOTIFICATION, read};
 use std::alloc::Global;
 use std::collections::VecDeque;
 
@@ -46,13 +46,13 @@ pub(crate) fn verdict_on(
     let Some((h, payload)) = read(packet) else {
         return Ok(Verdict::Passes);
     };
-    if h.len as usize + 32 != packet.len() {
+    if h.len as usize + AMS_HEADER != packet.len() {
         return broken_off(alloc, packet);
     }
     if h.flags % 2 == 1 {
         return on_response(alloc, me, peer, unanswered, &h, packet, payload);
     }
-    if h.command == 8 {
+    if h.command == NOTIFICATION {
         return on_notification(alloc, packet, payload);
     }
     Ok(Verdict::Passes)

@@ -1,8 +1,6 @@
--- What a board is told of events, and the body text of a server's world.
-use Rattle.std.specs.Prelude.{◌≡◌, ℕ, List, [], ◌∷◌, ◌++◌, Option, Some, None}
+-- What a board is told of events.
+use Rattle.std.specs.Prelude.{◌≡◌, List, [], ◌∷◌, ◌++◌, Option, Some, None}
 use Rattle.spec_machine.specs.Outcomes.{EventOutcome}
-use Rattle.spec_machine.specs.World.{World}
-use Rattle.spec_persistent.specs.Persistent.{body_of}
 use Rattle.server_core.specs.declared.outcome.Outcome.{Outcome}
 use Rattle.server_core.specs.Outcomes.{outcome_of}
 
@@ -22,7 +20,3 @@ pub record Posts (old new : Option (List Outcome)) (outcome : EventOutcome) : Ty
   pub posted : Outcome
   pub adds : Adds old new posted
   pub is : outcome_of posted ≡ outcome
-
--- the body text of what a world's persistent symbols hold
-abbrev pub body_of_world : World → List ℕ
-body_of_world w = body_of w.plant w.memory

@@ -13,7 +13,7 @@ impl<S: Sources, B: Board + Drop> Persistent for PostedCore<S, B> {
     ghost use Rattle.spec_machine.specs.RunText.{notes_of_event};
     ghost use Rattle.server_core.specs.Served as device;
     ghost use Rattle.server_core.specs.Serves.{StandsAt, HasFailed};
-    ghost use Rattle.daemon_core.specs.Posting.{body_of_world};
+    ghost use Rattle.spec_persistent.specs.Persistent.{body_of_world};
 
     ghost World = { device.World };
 

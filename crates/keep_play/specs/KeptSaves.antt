@@ -4,8 +4,7 @@ use Rattle.std.specs.Fmt.{decimal}
 use Rattle.signals.specs.Wave.{Wave}
 use Rattle.spec_plant.specs.Description.{Description}
 use Rattle.spec_machine.specs.ScriptLine.{ScriptLine}
-use Rattle.spec_machine.specs.World.{World}
-use Rattle.spec_persistent.specs.Persistent.{body_of}
+pub use Rattle.spec_persistent.specs.Persistent.{body_of_world}
 use Rattle.spec_persistent.specs.Stored.{description_with_stored}
 use Rattle.spec_server.specs.Server.{server, server_start, server_play, server_text}
 use Rattle.spec_store.specs.Slots.{Standing}
@@ -15,10 +14,6 @@ use Rattle.keep_loop.specs.Bodies.{bodies_of_run, saves_in}
 -- the body that stands
 abbrev pub body_standing : Option Standing → Option (List ℕ)
 body_standing standing = option_map (λ (s : Standing). s.slot.body) standing
-
--- the body text of what a world's persistent symbols hold
-abbrev pub body_of_world : World → List ℕ
-body_of_world w = body_of w.plant w.memory
 
 -- the description that the server begins with: its persistent symbols with the bytes of the body that stands
 abbrev pub description_kept : Description → Option Standing → Description

@@ -9,9 +9,6 @@ pub const WRITE: u16 = 3;
 /// The number of ADS Add Device Notification.
 pub const ADD: u16 = 6;
 
-/// The state flags of an AMS header: a request, of ADS.
-pub const REQUEST: u16 = 4;
-
 /// The bytes of a symbol, which is a `DINT`.
 pub const SYMBOL_LEN: u32 = 4;
 

@@ -9,11 +9,11 @@ ghost use Rattle.load_maker.specs.MadeLines.{line_text};
 ghost use Rattle.load_maker.specs.LoadScript.{plant_address, client_address, request_line};
 
 use crate::lines::put_sent;
-use crate::numbers::{CLIENT_PORTS, PLANT_PORT, REQUEST};
+use crate::numbers::{CLIENT_PORTS, PLANT_PORT};
 use crate::room::Room;
 use ads_base::{AmsAddr, NetId, NoMemory, Octets};
 use ads_commands::{Request, put_request};
-use ams_header::{Header, put};
+use ams_header::{AMS_HEADER, Header, REQUEST, put};
 use ams_tcp::put_frame;
 use std::alloc::Global;
 
@@ -53,7 +53,7 @@ fn put_packet(
     requires writable { IsWritable request.now }
     ensures { OnOk result (packet.new ≡ header_bytes (ams_header_of header.now) ++ request_bytes (request_meant request.now)) }
 {
-    let mut head = [0; 32];
+    let mut head = [0; AMS_HEADER];
     put(header, &mut head);
     packet.cut(0);
     packet.put(alloc, &head)?;

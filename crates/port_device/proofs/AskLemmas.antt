@@ -8,14 +8,14 @@ use Rattle.return_codes.specs.declared.code.Code.{Code}
 use Rattle.return_codes.specs.declared.code.Code.TheVariants.{C705, C710}
 use Rattle.return_codes.specs.Code.{number_of}
 use Rattle.type_layout.specs.Descriptions.{area_of}
-use Rattle.index_groups.specs.AreaGroups.{byte_number}
+use Rattle.index_groups.specs.Groups.{byte_number, group_meant}
 use Rattle.spec_plant.specs.Listed.{NamedType}
 use Rattle.spec_plant.specs.Description.{Area, Inputs, Outputs, Memory, Process}
 use Rattle.spec_plant.specs.World.{PlantPort}
 use Rattle.spec_plant.specs.Finding as plant
 use Rattle.spec_plant.specs.Finding.{found_of}
 use Rattle.spec_formats.specs.Codes.{invalid_group, invalid_size}
-use Rattle.spec_formats.specs.Groups.{Group, HandleByName, ValueByName, ValueByHandle, InfoByName, ExtendedInfoByName}
+use Rattle.spec_formats.specs.Groups.{ValueByName, InfoByName, ExtendedInfoByName}
 use Rattle.spec_machine.specs.World.{World, Setup, setup_of}
 use Rattle.spec_machine.specs.Access.{Addressed, WholeByte}
 use Rattle.spec_machine.specs.Client as client
@@ -29,37 +29,45 @@ use Rattle.spec_machine.specs.Reads.{fixed_reply, read_act}
 use Rattle.symbol_table.specs.declared.found.Found.{Found}
 use Rattle.symbol_table.specs.declared.place.Place.{Place}
 use Rattle.symbol_table.specs.FoundPlaces.{Finds}
+use Rattle.index_groups.specs.declared.groups.Group as code
+use Rattle.index_groups.specs.declared.groups.Group.TheVariants as value
+use Rattle.index_groups.specs.declared.groups.HandleGroup.TheVariants as handle
+use Rattle.index_groups.specs.declared.groups.UploadGroup.TheVariants as upload
+use Rattle.index_groups.specs.declared.groups.SumGroup.TheVariants as sum
 use Rattle.port_device.specs.PortMemory.{PortMemory}
+use Rattle.port_device.specs.Groups.{without_handles}
 use Rattle.port_device.specs.Holds.{HoldsPort}
 use Rattle.port_device.specs.Answers.{AnswersAct, IsNamed, FindsPlace, place_read_act, path_entry_act}
-use Rattle.port_device.specs.Groups.{is_value_by_name, is_info_by_name, is_entry_by_name, without_handles}
 use Rattle.port_device.proofs.NameLemmas.{found_by_path, found_by_none}
 use Rattle.port_device.proofs.ReadLemmas.{answers_along, refusal_answers}
 
-pub asked_value : (s : Setup) (c : client.Client) (p : PlantPort) (g : Option Group) (len : ℕ) (name : List ℕ) → is_value_by_name g ≡ true
-    → read_write_group s c p (without_handles g) len name ≡ read_write_group s c p (Some ValueByName) len name
-asked_value s c p (Some ValueByName) len name h = refl
-asked_value s c p g len name h = absurd (false≢true h)
+-- the groups of what a name leads to
+abbrev pub is_name : code.Group → Bool
+is_name (value.Name which) = true
+is_name group = false
 
-pub asked_info : (s : Setup) (c : client.Client) (p : PlantPort) (g : Option Group) (len : ℕ) (name : List ℕ) → is_info_by_name g ≡ true
-    → read_write_group s c p (without_handles g) len name ≡ read_write_group s c p (Some InfoByName) len name
-asked_info s c p (Some InfoByName) len name h = refl
-asked_info s c p g len name h = absurd (false≢true h)
-
-pub asked_entry : (s : Setup) (c : client.Client) (p : PlantPort) (g : Option Group) (len : ℕ) (name : List ℕ) → is_entry_by_name g ≡ true
-    → read_write_group s c p (without_handles g) len name ≡ read_write_group s c p (Some ExtendedInfoByName) len name
-asked_entry s c p (Some ExtendedInfoByName) len name h = refl
-asked_entry s c p g len name h = absurd (false≢true h)
-
-pub asked_otherwise : (s : Setup) (c : client.Client) (p : PlantPort) (g : Option Group) (len : ℕ) (name : List ℕ) → is_value_by_name g ≡ false → is_info_by_name g ≡ false
-    → is_entry_by_name g ≡ false → read_write_group s c p (without_handles g) len name ≡ Refusal invalid_group
+pub asked_otherwise : (s : Setup) (c : client.Client) (p : PlantPort) (g : code.Group) (len : ℕ) (name : List ℕ) → is_name g ≡ false
+    → read_write_group s c p (without_handles (Some (group_meant g))) len name ≡ Refusal invalid_group
 unfolding read_write_group
-asked_otherwise s c p (Some ValueByName) len name h k l = absurd (false≢true (sym h))
-asked_otherwise s c p (Some InfoByName) len name h k l = absurd (false≢true (sym k))
-asked_otherwise s c p (Some ExtendedInfoByName) len name h k l = absurd (false≢true (sym l))
-asked_otherwise s c p (Some HandleByName) len name h k l = refl
-asked_otherwise s c p (Some ValueByHandle) len name h k l = refl
-asked_otherwise s c p g len name h k l = refl
+asked_otherwise s c p (value.Bytes area) len name h = refl
+asked_otherwise s c p (value.Bit area) len name h = refl
+asked_otherwise s c p (value.Size area) len name h = refl
+asked_otherwise s c p (value.Handle handle.ByName) len name h = refl
+asked_otherwise s c p (value.Handle handle.Value) len name h = refl
+asked_otherwise s c p (value.Handle handle.Release) len name h = refl
+asked_otherwise s c p (value.Name which) len name h = absurd (false≢true (sym h))
+asked_otherwise s c p value.Version len name h = refl
+asked_otherwise s c p (value.Upload upload.Symbols) len name h = refl
+asked_otherwise s c p (value.Upload upload.Info) len name h = refl
+asked_otherwise s c p (value.Upload upload.Types) len name h = refl
+asked_otherwise s c p (value.Upload upload.InfoWithTypes) len name h = refl
+asked_otherwise s c p (value.Sum sum.Read) len name h = refl
+asked_otherwise s c p (value.Sum sum.Write) len name h = refl
+asked_otherwise s c p (value.Sum sum.ReadWrite) len name h = refl
+
+pub asked_nothing : (s : Setup) (c : client.Client) (p : PlantPort) (len : ℕ) (name : List ℕ) → read_write_group s c p None len name ≡ Refusal invalid_group
+unfolding read_write_group
+asked_nothing s c p len name = refl
 
 -- a value
 
@@ -148,13 +156,6 @@ entry_unknown w c p len name out e =
     (sym (ap (λ o. if_found o (λ f. fixed_reply len (entry_bytes (entry_of_part w.profile.manner f)))) (found_by_none p.symbols name e)))
 
 -- answers that are passed on
-
-pub asked_as : (m : PortMemory) (r : Result (Result (Unit {0}) Code) NoMemory) (act other : World → client.Client → PlantPort → Act) (old new : List ℕ)
-    → ((w : World) (c : client.Client) (p : PlantPort) → other w c p ≡ act w c p)
-    → IfOk r (λ answer. (w : World) (c : client.Client) (p : PlantPort) → HoldsPort w p m → AnswersAct w (act w c p) answer old new)
-    → IfOk r (λ answer. (w : World) (c : client.Client) (p : PlantPort) → HoldsPort w p m → AnswersAct w (other w c p) answer old new)
-asked_as m (Ok answer) act other old new e h = λ w c p held. answers_along w (act w c p) (other w c p) answer old new (e w c p) (h w c p held)
-asked_as m (Err no_memory) act other old new e h = h
 
 pub value_passed : (m : PortMemory) (place : Place) (len : ℕ) (name : List ℕ) (r : Result (Result (Unit {0}) Code) NoMemory) (old new : List ℕ)
     → ((w : World) (p : PlantPort) → HoldsPort w p m → FindsPlace w p (found_of p.symbols name) (Ok place))

@@ -1,16 +1,18 @@
 -- Which groups a port answers by itself, and what a range by a group is.
 use Rattle.std.proofs.Common.{◌≡◌, ℕ, ◌+◌, ◌<◌, List, length, true, false, refl, sym, ◌∙◌, ap, subst, inl, inr, arith}
-use Rattle.std.specs.Prelude.{Bool, ◌/◌, ◌%◌, Option, Some, None, Ok, Err, Result, min, nat_lt, nat_le, ◌==◌, ◌||◌, not, if◌then◌else◌}
+use Rattle.std.specs.Prelude.{option_map, Bool, ◌/◌, ◌%◌, Option, Some, None, Ok, Err, Result, min, nat_lt, nat_le, ◌==◌, ◌||◌, not, if◌then◌else◌}
 use Rattle.std.proofs.lemmas.Bool.{cases_Bool, false≢true, eqb-true, lt-ltb, ltb-true, leb-true, leb-false}
-use Rattle.spec_plant.specs.Description.{Area, Sizes, size_in}
+use Rattle.spec_plant.specs.Description.{Area, Process, Sizes, size_in}
 use Rattle.spec_formats.specs.Codes.{invalid_group, invalid_offset, invalid_size, not_permitted}
-use Rattle.spec_formats.specs.Groups.{Group, AreaBytes, AreaBit, AreaSize, group_of}
-use Rattle.spec_formats.specs.Ranges.{Range, Bytes, Bit, Size, greatest_len, byte_range, bit_range, size_range, range_in, range_of}
+use Rattle.spec_formats.specs.Groups.{Group, AreaBytes, AreaBit, AreaSize, process_bytes, group_in, group_of}
+use Rattle.spec_formats.specs.Ranges.{Range, Bytes, Bit, Size, greatest_len, byte_range, bit_range, size_range, range_in}
 use Rattle.spec_machine.specs.Client as client
 use Rattle.spec_machine.specs.Acts.{Refusal}
 use Rattle.spec_machine.specs.Reach.{addressed_by_range, reach_of}
 use Rattle.spec_machine.specs.Writes.{Asker, may_write, write_act, write_group}
 use Rattle.spec_machine.proofs.Find.{test_other}
+use Rattle.index_groups.specs.declared.groups.Group as code
+use Rattle.index_groups.specs.Groups.{group_meant}
 use Rattle.port_device.specs.Groups.{is_written_by_port, written_by_port}
 use Rattle.port_device.specs.Endings.{range_write_act}
 
@@ -25,6 +27,18 @@ unfolding write_group reach_of
 is_range_write c k (Some (AreaBytes area)) offset bytes h = refl
 is_range_write c k (Some (AreaBit area)) offset bytes h = refl
 is_range_write c k g offset bytes h = absurd (false≢true h)
+
+-- the group of most accesses
+pub group_of_data : (n : ℕ) → n ≡ process_bytes → Some (AreaBytes Process) ≡ group_of n
+unfolding group_in group_of
+group_of_data n e = rw e refl
+
+-- what the code found of a number is what the number names
+pub known : (r : Option code.Group) (g h : code.Group) (n : ℕ) → r ≡ Some g → g ≡ h → option_map group_meant r ≡ group_of n → Some (group_meant h) ≡ group_of n
+known r g h n is same e = sym (ap (λ x. Some (group_meant x)) same) ∙ sym (ap (option_map group_meant) is) ∙ e
+
+pub unknown : (r : Option code.Group) (n : ℕ) → r ≡ None → option_map group_meant r ≡ group_of n → None ≡ group_of n
+unknown r n is e = sym (ap (option_map group_meant) is) ∙ e
 
 -- the length of a range is the one that was asked, or 1 for a bit
 abbrev pub HasLen : Range → ℕ → Type 0
@@ -116,11 +130,9 @@ short-len g sizes offset n = elim (cases_Bool (nat_le n 4294967295)) [
 ]
 
 -- what a group and an offset name, where the length was cut to 32 bits
-pub reached : (sizes : Sizes) (group offset n len : ℕ) (q : Result Range ℕ) → n ≡ min len 4294967295 → q ≡ range_of sizes group offset n
-    → range_in (group_of group) sizes offset len ≡ q
-unfolding range_of
-reached sizes group offset n len q cut rule =
-    sym (short-len (group_of group) sizes offset len) ∙ ap (range_in (group_of group) sizes offset) (sym cut) ∙ sym rule
+pub reached : (sizes : Sizes) (g : Option Group) (offset n len : ℕ) (q : Result Range ℕ) → n ≡ min len 4294967295 → q ≡ range_in g sizes offset n
+    → range_in g sizes offset len ≡ q
+reached sizes g offset n len q cut rule = sym (short-len g sizes offset len) ∙ ap (range_in g sizes offset) (sym cut) ∙ sym rule
 
 -- a write to what a range names, by one who may write
 pub write_is : (c : client.Client) (k : Asker) (g : Option Group) (offset : ℕ) (bytes : List ℕ) (q : Result Range ℕ) → is_written_by_port g ≡ true

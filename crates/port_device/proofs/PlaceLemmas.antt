@@ -27,7 +27,7 @@ use Rattle.port_device.specs.PortMemory.{PortMemory}
 use Rattle.port_device.specs.Holds.{HoldsPort}
 use Rattle.port_device.specs.Answers.{IsNamed, IsPlaceOf, AnswersAct, numbered, place_read_act}
 use Rattle.port_device.specs.Ports.{IsPortMemory}
-use Rattle.port_device.specs.declared.upload.UploadSizes.{UploadSizes}
+use Rattle.port_device.specs.declared.uploads.UploadSizes.{UploadSizes}
 use Rattle.port_device.proofs.PortLemmas.{bytes_read}
 use Rattle.port_device.proofs.GroupLemmas.{is_false}
 

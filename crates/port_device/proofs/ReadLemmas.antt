@@ -9,9 +9,9 @@ use Rattle.return_codes.specs.declared.code.Code.TheVariants.{C705}
 use Rattle.return_codes.specs.Code.{number_of}
 use Rattle.spec_plant.specs.Description.{Area, Sizes, size_in}
 use Rattle.spec_plant.specs.World.{PlantPort}
-use Rattle.spec_formats.specs.Codes.{invalid_offset, invalid_size}
-use Rattle.spec_formats.specs.Groups.{Group, AreaBytes, AreaBit, AreaSize, SymbolVersion, group_of}
-use Rattle.spec_formats.specs.Ranges.{Range, Bytes, Bit, Size, greatest_len, byte_range, bit_range, size_range, range_in, range_of}
+use Rattle.spec_formats.specs.Codes.{invalid_group, invalid_offset, invalid_size}
+use Rattle.spec_formats.specs.Groups.{Group, SymbolVersion}
+use Rattle.spec_formats.specs.Ranges.{Range, Bytes, Bit, Size, greatest_len, byte_range, bit_range, size_range, range_in}
 use Rattle.spec_machine.specs.World.{World, Setup, own_names, own_bytes}
 use Rattle.spec_machine.specs.Access.{Addressed, WholeByte}
 use Rattle.spec_machine.specs.MoreActs.{states_reach}
@@ -20,10 +20,17 @@ use Rattle.spec_machine.specs.Client as client
 use Rattle.spec_machine.specs.Acts.{Act, Refusal, fixed_data}
 use Rattle.spec_machine.specs.Reach.{addressed_by_range, reach_of}
 use Rattle.spec_machine.specs.Reads.{fixed_reply, read_act, read_group}
+use Rattle.type_layout.specs.Descriptions.{area_of}
+use Rattle.index_groups.specs.declared.groups.Group as code
+use Rattle.index_groups.specs.declared.groups.Group.TheVariants as value
+use Rattle.index_groups.specs.declared.groups.HandleGroup.TheVariants as handle
+use Rattle.index_groups.specs.declared.groups.NameGroup.TheVariants as name
+use Rattle.index_groups.specs.declared.groups.SumGroup.TheVariants as sum
+use Rattle.index_groups.specs.Groups.{group_meant}
 use Rattle.port_device.specs.PortMemory.{PortMemory}
 use Rattle.port_device.specs.Holds.{HoldsPort}
 use Rattle.port_device.specs.Answers.{AnswersAct, range_read_act}
-use Rattle.port_device.specs.Groups.{is_version_group, without_handles}
+use Rattle.port_device.specs.Groups.{without_handles}
 use Rattle.port_device.proofs.GroupLemmas.{is_false}
 use Rattle.port_device.proofs.PortLemmas.{same_sizes}
 
@@ -61,37 +68,43 @@ size_read : (p : PlantPort) (area : Area) (len : ℕ) → fixed_reply len (to_le
 unfolding size_range
 size_read p area len = sized p area (nat_lt len 4)
 
--- the groups of Read that give no upload: bytes, a bit and the size of an area, and the symbol version
-abbrev pub read_by_port : Option Group → Option Group
-read_by_port (Some (AreaBytes area)) = Some (AreaBytes area)
-read_by_port (Some (AreaBit area)) = Some (AreaBit area)
-read_by_port (Some (AreaSize area)) = Some (AreaSize area)
-read_by_port (Some SymbolVersion) = Some SymbolVersion
-read_by_port group = None
+-- the groups that name a range of an area, and those that Read does not answer
+abbrev pub is_ranged : code.Group → Bool
+is_ranged value.Version = false
+is_ranged (value.Upload which) = false
+is_ranged group = true
 
-pub read_by_range : (d : Setup) (c : client.Client) (p : PlantPort) (g : Option Group) (offset len : ℕ) → is_version_group g ≡ false
-    → read_group d c p (read_by_port g) offset len ≡ range_read_act p (range_in g p.sizes offset len)
+pub read_of_range : (d : Setup) (c : client.Client) (p : PlantPort) (g : code.Group) (offset len : ℕ) → is_ranged g ≡ true
+    → read_group d c p (without_handles (Some (group_meant g))) offset len ≡ range_read_act p (range_in (Some (group_meant g)) p.sizes offset len)
 unfolding read_group reach_of range_in
-read_by_range d c p (Some (AreaBytes area)) offset len h = sym (bytes_addressed p area (size_in p.sizes area) offset len)
-read_by_range d c p (Some (AreaBit area)) offset len h = sym (bit_addressed p area (size_in p.sizes area) offset len)
-read_by_range d c p (Some (AreaSize area)) offset len h = size_read p area len
-read_by_range d c p (Some SymbolVersion) offset len h = absurd (false≢true (sym h))
-read_by_range d c p g offset len h = refl
+read_of_range d c p (value.Bytes area) offset len h = sym (bytes_addressed p (area_of area) (size_in p.sizes (area_of area)) offset len)
+read_of_range d c p (value.Bit area) offset len h = sym (bit_addressed p (area_of area) (size_in p.sizes (area_of area)) offset len)
+read_of_range d c p (value.Size area) offset len h = size_read p (area_of area) len
+read_of_range d c p (value.Handle handle.ByName) offset len h = refl
+read_of_range d c p (value.Handle handle.Value) offset len h = refl
+read_of_range d c p (value.Handle handle.Release) offset len h = refl
+read_of_range d c p (value.Name name.Value) offset len h = refl
+read_of_range d c p (value.Name name.Info) offset len h = refl
+read_of_range d c p (value.Name name.Entry) offset len h = refl
+read_of_range d c p (value.Sum sum.Read) offset len h = refl
+read_of_range d c p (value.Sum sum.Write) offset len h = refl
+read_of_range d c p (value.Sum sum.ReadWrite) offset len h = refl
+read_of_range d c p value.Version offset len h = absurd (false≢true h)
+read_of_range d c p (value.Upload which) offset len h = absurd (false≢true h)
 
--- a range that is reached is one of an area
-pub read_of_reached : (d : Setup) (c : client.Client) (p : PlantPort) (g : Option Group) (offset len : ℕ) (r : Range) → range_in g p.sizes offset len ≡ Ok r
-    → read_group d c p (without_handles g) offset len ≡ range_read_act p (Ok r)
-unfolding range_in
-read_of_reached d c p (Some (AreaBytes area)) offset len r h = read_by_range d c p (Some (AreaBytes area)) offset len refl ∙ ap (range_read_act p) h
-read_of_reached d c p (Some (AreaBit area)) offset len r h = read_by_range d c p (Some (AreaBit area)) offset len refl ∙ ap (range_read_act p) h
-read_of_reached d c p (Some (AreaSize area)) offset len r h = read_by_range d c p (Some (AreaSize area)) offset len refl ∙ ap (range_read_act p) h
-read_of_reached d c p g offset len r h = cc
-
-pub read_of_version : (d : Setup) (c : client.Client) (p : PlantPort) (g : Option Group) (offset len : ℕ) → is_version_group g ≡ true
-    → read_group d c p (without_handles g) offset len ≡ fixed_reply len (d.version ∷ [])
+pub read_of_version : (d : Setup) (c : client.Client) (p : PlantPort) (offset len : ℕ)
+    → read_group d c p (Some SymbolVersion) offset len ≡ fixed_reply len (d.version ∷ [])
 unfolding read_group
-read_of_version d c p (Some SymbolVersion) offset len h = refl
-read_of_version d c p g offset len h = absurd (false≢true h)
+read_of_version d c p offset len = refl
+
+pub read_of_none : (d : Setup) (c : client.Client) (p : PlantPort) (offset len : ℕ) → read_group d c p None offset len ≡ Refusal invalid_group
+unfolding read_group reach_of
+read_of_none d c p offset len = refl
+
+-- a read of a group that is known
+pub read_of_group : (d : Setup) (c : client.Client) (p : PlantPort) (g h : Option Group) (offset len : ℕ) (act : Act) → h ≡ g
+    → read_group d c p (without_handles h) offset len ≡ act → read_group d c p (without_handles g) offset len ≡ act
+read_of_group d c p g h offset len act e is = ap (λ x. read_group d c p (without_handles x) offset len) (sym e) ∙ is
 
 -- the act behind another name has the same answer
 pub answers_along : (w : World) (act other : Act) (answer : Result (Unit {0}) Code) (old new : List ℕ) → other ≡ act → AnswersAct w act answer old new
@@ -110,29 +123,18 @@ pub reads_as : (m : PortMemory) (r : Result (Result (Unit {0}) Code) NoMemory) (
 reads_as m (Ok answer) act other old new e h = λ w c p held. answers_along w (act w p) (other w c p) answer old new (e w c p held) (h w p held)
 reads_as m (Err no_memory) act other old new e h = h
 
--- the same where no range is reached, at whatever offset
-pub unreached_reads_as : (m : PortMemory) (r : Result (Result (Unit {0}) Code) NoMemory) (act : World → PlantPort → Act)
-    (other : World → client.Client → PlantPort → ℕ → Act) (Refused : PlantPort → ℕ → Type 0) (old new : List ℕ)
-    → ((w : World) (c : client.Client) (p : PlantPort) (offset : ℕ) → other w c p offset ≡ act w p)
-    → IfOk r (λ answer. (w : World) (p : PlantPort) → HoldsPort w p m → AnswersAct w (act w p) answer old new)
-    → IfOk r (λ answer. (w : World) (c : client.Client) (p : PlantPort) (offset : ℕ) → HoldsPort w p m → Refused p offset
-    → AnswersAct w (other w c p offset) answer old new)
-unreached_reads_as m (Ok answer) act other Refused old new e h = λ w c p offset held refused.
-    answers_along w (act w p) (other w c p offset) answer old new (e w c p offset) (h w p held)
-unreached_reads_as m (Err no_memory) act other Refused old new e h = h
+pub range_at_port : (w : World) (p : PlantPort) (m : PortMemory) (sizes : Sizes) (g : Option Group) (offset len : ℕ) (q : Result Range ℕ) → HoldsPort w p m
+    → m.table.sizes ≡ sizes → q ≡ range_in g sizes offset len → range_in g p.sizes offset len ≡ q
+range_at_port w p m sizes g offset len q h s rule = ap (λ x. range_in g x offset len) (same_sizes w p m h ∙ s) ∙ sym rule
 
-pub unreached_at : (m : PortMemory) (r : Result (Result (Unit {0}) Code) NoMemory) (other : World → client.Client → PlantPort → ℕ → Act)
-    (Refused : PlantPort → ℕ → Type 0) (offset : ℕ) (old new : List ℕ) → ((w : World) (p : PlantPort) → HoldsPort w p m → Refused p offset)
-    → IfOk r (λ answer. (w : World) (c : client.Client) (p : PlantPort) (at_ : ℕ) → HoldsPort w p m → Refused p at_
-    → AnswersAct w (other w c p at_) answer old new)
-    → IfOk r (λ answer. (w : World) (c : client.Client) (p : PlantPort) → HoldsPort w p m → AnswersAct w (other w c p offset) answer old new)
-unreached_at m (Ok answer) other Refused offset old new refused h = λ w c p held. h w c p offset held (refused w p held)
-unreached_at m (Err no_memory) other Refused offset old new refused h = h
-
-pub range_at_port : (w : World) (p : PlantPort) (m : PortMemory) (sizes : Sizes) (group offset len : ℕ) (q : Result Range ℕ) → HoldsPort w p m
-    → m.table.sizes ≡ sizes → q ≡ range_of sizes group offset len → range_in (group_of group) p.sizes offset len ≡ q
-unfolding range_of
-range_at_port w p m sizes group offset len q h s rule = ap (λ x. range_in (group_of group) x offset len) (same_sizes w p m h ∙ s) ∙ sym rule
+-- what a range gives of a port is what it gives of the plant's
+pub range_reads_as : (m : PortMemory) (r : Result (Result (Unit {0}) Code) NoMemory) (q : Result Range ℕ) (other : PlantPort → Result Range ℕ)
+    (old new : List ℕ) → ((w : World) (p : PlantPort) → HoldsPort w p m → other p ≡ q)
+    → IfOk r (λ answer. (w : World) (p : PlantPort) → HoldsPort w p m → AnswersAct w (range_read_act p q) answer old new)
+    → IfOk r (λ answer. (w : World) (p : PlantPort) → HoldsPort w p m → AnswersAct w (range_read_act p (other p)) answer old new)
+range_reads_as m (Ok answer) q other old new e h =
+    λ w p held. answers_along w (range_read_act p q) (range_read_act p (other p)) answer old new (ap (range_read_act p) (e w p held)) (h w p held)
+range_reads_as m (Err no_memory) q other old new e h = h
 
 pub version_refused : (w : World) (len : ℕ) (out : List ℕ) → len ≡ 0 → AnswersAct w (fixed_reply len (w.version ∷ [])) (Err C705) out out
 version_refused w len out e =

@@ -1,6 +1,6 @@
 -- Which act a read of an upload is, and what is answered to it.
 use Rattle.std.proofs.Common.{◌≡◌, ℕ, ◌<◌, ◌≤◌, List, [], ◌∷◌, ◌++◌, length, map, true, false, refl, sym, ◌∙◌, ap, arith}
-use Rattle.std.specs.Prelude.{Option, Some, None, Ok, Err, nat_lt, flat_map, if◌then◌else◌}
+use Rattle.std.specs.Prelude.{Some, Ok, Err, nat_lt, flat_map, if◌then◌else◌}
 use Rattle.std.specs.Int.{w32, to_le_bytes}
 use Rattle.std.proofs.lemmas.Bool.{lt-ltb, ltb-true}
 use Rattle.std.proofs.lemmas.List.{append-nil, length-map}
@@ -15,69 +15,31 @@ use Rattle.spec_formats.specs.SymbolEntry.{upload_bytes}
 use Rattle.spec_machine.specs.Acts.{Refusal, fixed_data}
 use Rattle.spec_machine.specs.Entries.{entry_of_symbol, symbol_upload_of, upload_info_of, upload_info_with_types_of}
 use Rattle.spec_plant.specs.World.{PlantPort}
-use Rattle.spec_formats.specs.Groups.{Group, AreaBytes, AreaBit, AreaSize}
-use Rattle.spec_formats.specs.Groups.{SymbolVersion, SymbolUpload, UploadInfo}
-use Rattle.spec_formats.specs.Groups.{TypeUpload, UploadInfoWithTypes}
 use Rattle.spec_machine.specs.Manner.{Manner}
 use Rattle.spec_plant.specs.Entries.{upload_size}
 use Rattle.spec_machine.specs.World.{World, Setup}
 use Rattle.spec_machine.specs.Client as client
-use Rattle.spec_machine.specs.Reach.{reach_of}
 use Rattle.spec_machine.specs.Reads.{fixed_reply, read_group}
-use Rattle.port_device.specs.Groups.{is_version_group, uploads_alone, without_handles}
+use Rattle.port_device.specs.Groups.{without_handles}
 use Rattle.symbol_table.specs.Tables.{SymbolTable, table_symbol}
 use Rattle.port_device.specs.PortMemory.{PortMemory}
 use Rattle.port_device.specs.Holds.{HoldsPort}
-use Rattle.port_device.specs.Answers.{AnswersAct, IsRefusedRange, range_read_act}
-use Rattle.port_device.specs.Uploads.{upload_group, upload_act, described, symbols_upload, types_upload}
+use Rattle.port_device.specs.Answers.{AnswersAct}
+use Rattle.port_device.specs.Uploads.{upload_act, described, symbols_upload, types_upload}
 use Rattle.port_device.proofs.GroupLemmas.{is_false}
-use Rattle.port_device.proofs.ReadLemmas.{answers_along, read_by_port, read_by_range}
+use Rattle.port_device.proofs.ReadLemmas.{answers_along}
 use Rattle.port_device.proofs.UploadLengths.{described_symbols, length-upload}
-use Rattle.port_device.specs.declared.upload.Upload.{Upload}
-use Rattle.port_device.specs.declared.upload.Upload.TheVariants.{Symbols, SymbolSizes, Types, AllSizes}
+use Rattle.index_groups.specs.declared.groups.UploadGroup.{UploadGroup}
+use Rattle.index_groups.specs.declared.groups.UploadGroup.TheVariants.{Symbols, Info, Types, InfoWithTypes}
+use Rattle.index_groups.specs.Groups.{upload_meant}
 
--- a group that gives no upload
-pub read_of_range : (d : Setup) (c : client.Client) (p : PlantPort) (g : Option Group) (offset len : ℕ) → uploads_alone g ≡ None
-    → read_group d c p (without_handles g) offset len ≡ read_group d c p (read_by_port g) offset len
-unfolding read_group reach_of
-read_of_range d c p None offset len h = refl
-read_of_range d c p (Some (AreaBytes area)) offset len h = refl
-read_of_range d c p (Some (AreaBit area)) offset len h = refl
-read_of_range d c p (Some (AreaSize area)) offset len h = refl
-read_of_range d c p (Some SymbolVersion) offset len h = refl
-read_of_range d c p (Some SymbolUpload) offset len h = cc
-read_of_range d c p (Some UploadInfo) offset len h = cc
-read_of_range d c p (Some TypeUpload) offset len h = cc
-read_of_range d c p (Some UploadInfoWithTypes) offset len h = cc
-read_of_range d c p g offset len h = refl
-
--- where the act behind an upload's own group is known, so is the one behind a group that gives it
-upload_alone : (g : Option Group) (u : Group) → uploads_alone g ≡ Some u → without_handles g ≡ Some u
-upload_alone None u h = cc
-upload_alone (Some SymbolUpload) u h = h
-upload_alone (Some UploadInfo) u h = h
-upload_alone (Some TypeUpload) u h = h
-upload_alone (Some UploadInfoWithTypes) u h = h
-upload_alone g u h = cc
-
-upload_read : (d : Setup) (c : client.Client) (p : PlantPort) (u : Upload) (offset len : ℕ)
-    → read_group d c p (Some (upload_group u)) offset len ≡ upload_act d p u len
+pub read_of_upload : (d : Setup) (c : client.Client) (p : PlantPort) (u : UploadGroup) (offset len : ℕ)
+    → read_group d c p (without_handles (Some (upload_meant u))) offset len ≡ upload_act d p u len
 unfolding read_group
-upload_read d c p Symbols offset len = refl
-upload_read d c p SymbolSizes offset len = refl
-upload_read d c p Types offset len = refl
-upload_read d c p AllSizes offset len = refl
-
-pub read_of_upload : (d : Setup) (c : client.Client) (p : PlantPort) (g : Option Group) (u : Upload) (offset len : ℕ)
-    → uploads_alone g ≡ Some (upload_group u) → read_group d c p (without_handles g) offset len ≡ upload_act d p u len
-read_of_upload d c p g u offset len h =
-    ap (λ x. read_group d c p x offset len) (upload_alone g (upload_group u) h) ∙ upload_read d c p u offset len
-
--- a group that gives neither the version nor an upload, and by which no range is reached
-pub read_refused : (d : Setup) (c : client.Client) (p : PlantPort) (g : Option Group) (offset len : ℕ) (code : Code) → is_version_group g ≡ false
-    → uploads_alone g ≡ None → IsRefusedRange p g offset len code → read_group d c p (without_handles g) offset len ≡ Refusal (number_of code)
-read_refused d c p g offset len code version upload refused =
-    read_of_range d c p g offset len upload ∙ read_by_range d c p g offset len version ∙ ap (range_read_act p) refused
+read_of_upload d c p Symbols offset len = refl
+read_of_upload d c p Info offset len = refl
+read_of_upload d c p Types offset len = refl
+read_of_upload d c p InfoWithTypes offset len = refl
 
 -- what has more bytes than were asked for is refused, and else given
 

@@ -1,6 +1,6 @@
 -- How writes to a port end.
 use Rattle.std.proofs.Common.{◌≡◌, ℕ, ◌+◌, ◌<◌, ◌≤◌, List, [], ◌∷◌, map, length, true, false, refl, sym, ◌∙◌, ap, subst, arith}
-use Rattle.std.specs.Prelude.{Ok, Err, min, ◌||◌, ◌==◌, if◌then◌else◌}
+use Rattle.std.specs.Prelude.{Option, Result, Ok, Err, min, ◌||◌, ◌==◌, if◌then◌else◌}
 use Rattle.return_codes.specs.declared.code.Code.{Code}
 use Rattle.return_codes.specs.declared.code.Code.TheVariants.{C704}
 use Rattle.return_codes.specs.Code.{number_of}
@@ -8,6 +8,7 @@ use Rattle.spec_plant.specs.Description.{Area, size_in}
 use Rattle.spec_plant.specs.Description as plant
 use Rattle.spec_plant.specs.World.{PlantPort, with_nth_byte}
 use Rattle.spec_formats.specs.Codes.{not_permitted, invalid_value}
+use Rattle.spec_formats.specs.Groups.{Group}
 use Rattle.spec_machine.specs.World.{World, name_at, names_at, state_names, state_bytes, RUN, STOP}
 use Rattle.spec_machine.specs.Access.{Addressed, WholeByte, OneBit, with_bit, puts_of}
 use Rattle.spec_machine.specs.Acts.{Act, Refusal, writing, memory_after}
@@ -19,6 +20,7 @@ use Rattle.spec_machine.proofs.StatesSet.{sets_states}
 use Rattle.spec_machine.proofs.WritableBytes.{writes_by_symbols}
 use Rattle.port_device.specs.PortMemory.{PortMemory}
 use Rattle.port_device.specs.Holds.{HoldsPort}
+use Rattle.port_device.specs.Accesses.{EndsWrite}
 use Rattle.port_device.specs.Endings.{EndsAs, world_after_act}
 use Rattle.port_device.specs.Changed.{with_image, with_bytes_at, with_bit_at, with_states}
 use Rattle.port_device.proofs.GroupLemmas.{is_false}
@@ -30,6 +32,11 @@ pub refused : (w : World) (p : PlantPort) (m : PortMemory) (act : Act) (code : C
 refused w p m act code h e =
     let own : EndsAs w p (Refusal (number_of code)) (Err code) m = record { code = refl; holds = h } in
     let P : Act → Type 0 = λ a. EndsAs w p a (Err code) m in subst P (sym e) own
+
+-- a write of a group that is known
+pub ends_along : (old new : PortMemory) (g h : Option Group) (offset : ℕ) (bytes : List ℕ) (rights : plant.Rights) (net : List ℕ)
+    (answer : Result (Unit {0}) Code) → h ≡ g → EndsWrite old h offset bytes rights net answer new → EndsWrite old g offset bytes rights net answer new
+ends_along old new g h offset bytes rights net answer e ends = subst (λ x. EndsWrite old x offset bytes rights net answer new) e ends
 
 -- the port holds the world after an act that leaves these bytes, with the same version
 pub holds_after : (w : World) (p : PlantPort) (m : PortMemory) (act : Act) (b : PortBytes) → HoldsPort w p m → b.version ≡ m.bytes.version → Holds (memory_after w.memory act) p b

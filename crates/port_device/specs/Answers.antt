@@ -15,8 +15,7 @@ use Rattle.index_groups.specs.declared.access.Reach.{Reach}
 use Rattle.index_groups.specs.declared.access.Reach.TheVariants as reach
 use Rattle.index_groups.specs.Access.{range_meant}
 use Rattle.spec_formats.specs.Codes.{no_error}
-use Rattle.spec_formats.specs.Groups.{Group}
-use Rattle.spec_formats.specs.Ranges.{Range, Size, range_in}
+use Rattle.spec_formats.specs.Ranges.{Range, Size}
 use Rattle.spec_machine.specs.World.{World}
 use Rattle.spec_machine.specs.Access.{values_at}
 use Rattle.spec_machine.specs.Client as client
@@ -52,10 +51,6 @@ ReadsRange w p r bytes = IfOk (addressed_by_range p (Ok (range_meant r))) (λ pl
 abbrev pub range_read_act : PlantPort → Result Range ℕ → Act
 range_read_act p (Ok (Size area)) = fixed_data (to_le_bytes w32 (size_in p.sizes area))
 range_read_act p range = read_act (addressed_by_range p range)
-
--- what a group and an offset name is refused by this code
-abbrev pub IsRefusedRange : PlantPort → Option Group → ℕ → ℕ → Code → Type 0
-IsRefusedRange p group offset len code = range_in group p.sizes offset len ≡ Err (number_of code)
 
 -- bytes of a symbol of the table
 pub record IsPlaceOf (table : SymbolTable) (place : Place) : Type 0 where

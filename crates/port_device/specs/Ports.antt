@@ -9,7 +9,7 @@ use Rattle.type_layout.specs.Descriptions.{sizes_of, facts_of}
 use Rattle.type_layout.specs.NamedTypes.{types_of}
 use Rattle.symbol_table.specs.Tables.{IsTableOf}
 use Rattle.port_device.specs.declared.port.Port.TheInside.{Inside}
-use Rattle.port_device.specs.declared.upload.UploadSizes.{UploadSizes}
+use Rattle.port_device.specs.declared.uploads.UploadSizes.{UploadSizes}
 use Rattle.port_device.specs.Uploads.{AreUploadSizes, has_short_texts}
 use Rattle.port_device.specs.Manners.{manner_of}
 use Rattle.port_device.specs.PortMemory.{PortMemory}

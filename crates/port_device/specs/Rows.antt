@@ -7,7 +7,7 @@ use Rattle.spec_plant.specs.World.{plant_symbol}
 use Rattle.spec_formats.specs.SymbolEntry.{SymbolEntry, entry_bytes}
 use Rattle.spec_machine.specs.Manner.{Manner}
 use Rattle.spec_machine.specs.Entries.{type_id_in, entry_of_symbol, PERSISTENT, READ_ONLY}
-use Rattle.index_groups.specs.AreaGroups.{byte_number}
+use Rattle.index_groups.specs.Groups.{byte_number}
 use Rattle.type_layout.specs.Descriptions.{area_of}
 use Rattle.type_layout.specs.Shapes.{shape_of}
 use Rattle.symbol_table.specs.Rows.{symbol_of_row, IsSizedRow}

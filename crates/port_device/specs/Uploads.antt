@@ -5,7 +5,6 @@ use Rattle.spec_plant.specs.Description.{Symbol}
 use Rattle.spec_plant.specs.Trees.{trees_of}
 use Rattle.spec_plant.specs.Entries.{upload_size}
 use Rattle.spec_plant.specs.World.{plant_symbol, PlantPort}
-use Rattle.spec_formats.specs.Groups as groups
 use Rattle.spec_formats.specs.SymbolEntry.{upload_bytes}
 use Rattle.spec_formats.specs.TypeEntry.{type_upload_bytes}
 use Rattle.spec_formats.specs.TypeUpload.{entries_of_types}
@@ -15,23 +14,16 @@ use Rattle.spec_machine.specs.World.{Setup}
 use Rattle.spec_machine.specs.Entries.{entry_of_symbol, symbol_upload_of, type_upload_of, upload_info_of, upload_info_with_types_of}
 use Rattle.spec_machine.specs.Reads.{fixed_reply, type_upload_reply}
 use Rattle.symbol_table.specs.Tables.{TableSymbol, SymbolTable, declared}
-use Rattle.port_device.specs.declared.upload.Upload.{Upload}
-use Rattle.port_device.specs.declared.upload.Upload.TheVariants.{Symbols, SymbolSizes, Types, AllSizes}
-use Rattle.port_device.specs.declared.upload.UploadSizes.{UploadSizes}
+use Rattle.index_groups.specs.declared.groups.UploadGroup.{UploadGroup}
+use Rattle.index_groups.specs.declared.groups.UploadGroup.TheVariants.{Symbols, Info, Types, InfoWithTypes}
+use Rattle.port_device.specs.declared.uploads.UploadSizes.{UploadSizes}
 
--- the group of an upload, or of the sizes of uploads
-abbrev pub upload_group : Upload → groups.Group
-upload_group Symbols = groups.SymbolUpload
-upload_group SymbolSizes = groups.UploadInfo
-upload_group Types = groups.TypeUpload
-upload_group AllSizes = groups.UploadInfoWithTypes
-
--- a read of it
-abbrev pub upload_act : Setup → PlantPort → Upload → ℕ → Act
+-- a read of an upload, or of the sizes of uploads
+abbrev pub upload_act : Setup → PlantPort → UploadGroup → ℕ → Act
 upload_act d p Symbols len = fixed_reply len (symbol_upload_of d.profile.manner p)
-upload_act d p SymbolSizes len = fixed_reply len (upload_info_of d.profile.manner p)
+upload_act d p Info len = fixed_reply len (upload_info_of d.profile.manner p)
 upload_act d p Types len = type_upload_reply len (type_upload_of d.plant)
-upload_act d p AllSizes len = fixed_reply len (upload_info_with_types_of d.profile.manner d.plant p)
+upload_act d p InfoWithTypes len = fixed_reply len (upload_info_with_types_of d.profile.manner d.plant p)
 
 -- the symbols of the description, in its order
 abbrev pub described : SymbolTable → List Symbol

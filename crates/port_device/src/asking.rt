@@ -7,17 +7,16 @@ ghost use Rattle.spec_formats.specs.Groups.{group_of, ValueByName, InfoByName};
 ghost use Rattle.spec_machine.specs.World.{World, setup_of};
 ghost use Rattle.spec_machine.specs.ByName.{read_write_group};
 ghost use Rattle.spec_machine.specs.Client as client;
-ghost use Rattle.index_groups.specs.AreaGroups.{byte_number};
+ghost use Rattle.index_groups.specs.Groups.{byte_number};
 ghost use Rattle.type_layout.specs.Descriptions.{area_of};
 ghost use Rattle.type_layout.specs.Spelled.{Extends};
 ghost use Rattle.port_device.specs.Answers.{AnswersAct};
 ghost use Rattle.port_device.specs.Groups.{without_handles};
 ghost use Rattle.port_device.specs.Holds.{HoldsPort};
 
-use crate::group::{is_entry_by_name, is_info_by_name, is_value_by_name};
 use crate::port::Port;
 use ads_base::{NoMemory, Octets, put32};
-use index_groups::byte_group;
+use index_groups::{Group, NameGroup, byte_group};
 use return_codes::Code;
 use std::alloc::Global;
 use symbol_table::Place;
@@ -45,16 +44,12 @@ impl Port {
             → AnswersAct w (read_write_group (setup_of w) c p (without_handles (group_of group)) len name.now) answer out.old out.new) }
         ensures no_memory { OnErr result (out.new ≡ out.old) }
     {
-        if is_value_by_name(group) {
-            return self.value_by_name(alloc, len, name, out);
+        match Group::of(group) {
+            Some(Group::Name(NameGroup::Value)) => self.value_by_name(alloc, len, name, out),
+            Some(Group::Name(NameGroup::Info)) => self.info_by_name(alloc, len, name, out),
+            Some(Group::Name(NameGroup::Entry)) => self.entry_by_name(alloc, len, name, out),
+            _ => Ok(Err(Code::C702)),
         }
-        if is_info_by_name(group) {
-            return self.info_by_name(alloc, len, name, out);
-        }
-        if is_entry_by_name(group) {
-            return self.entry_by_name(alloc, len, name, out);
-        }
-        Ok(Err(Code::C702))
     }
 
     // The first bytes of a value.

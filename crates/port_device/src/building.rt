@@ -13,7 +13,7 @@ use crate::bound::bound_symbols;
 use crate::counting::symbols_size;
 use crate::first_image::first_image;
 use crate::marks::marks_of;
-use crate::upload::UploadSizes;
+use crate::uploads::UploadSizes;
 use crate::writing::RUN;
 use crate::{Manner, Port};
 use ads_base::NoMemory;

@@ -7,7 +7,7 @@ ghost use Rattle.port_device.specs.PortMemory.{PortMemory};
 ghost use Rattle.port_device.specs.Manners.{is_wide};
 
 use crate::Manner;
-use crate::upload::UploadSizes;
+use crate::uploads::UploadSizes;
 use ads_commands::DeviceFacts;
 use process_image::Image;
 use std::alloc::Global;
@@ -50,6 +50,14 @@ impl Model for Port {
 }
 
 impl Port {
+    /// The port's number in an address. Beckhoff Information System, "AMS Header".
+    #[inline(always)]
+    pub fn number(&self) -> u16
+        ensures { result ≡ self.now.number }
+    {
+        self.ams_port
+    }
+
     /// The ADS state and the device state. Beckhoff Information System, "ADS Read State".
     pub fn state(&self) -> (u16, u16)
         ensures ads { result.0 ≡ self.now.bytes.ads }

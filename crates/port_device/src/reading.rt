@@ -1,27 +1,27 @@
 //! Reads of an area's bytes, a bit, a size, and of a symbol's bytes.
 
-ghost use Rattle.std.specs.Prelude.{◌≡◌, ◌+◌, ◌≤◌, ℕ, [], ◌∷◌, ◌++◌, length, map, IfOk, OnOk, OnErr};
+ghost use Rattle.std.specs.Prelude.{◌≡◌, ◌+◌, ◌≤◌, [], ◌∷◌, ◌++◌, length, map, Some, IfOk, OnOk, OnErr};
 ghost use Rattle.spec_plant.specs.Description.{size_in};
 ghost use Rattle.spec_plant.specs.World.{PlantPort};
 ghost use Rattle.spec_formats.specs.Groups.{group_of};
+ghost use Rattle.spec_formats.specs.Ranges.{range_in};
 ghost use Rattle.spec_machine.specs.World.{World, names_at, setup_of};
 ghost use Rattle.spec_machine.specs.Access.{WholeByte, values_at};
 ghost use Rattle.spec_machine.specs.Client as client;
 ghost use Rattle.spec_machine.specs.Reads.{fixed_reply, read_group};
 ghost use Rattle.type_layout.specs.Descriptions.{area_of};
 ghost use Rattle.index_groups.specs.Access.{IsWithin, range_meant};
+ghost use Rattle.index_groups.specs.Groups.{group_meant};
 ghost use Rattle.port_device.specs.Accesses.{AnswersRead};
-ghost use Rattle.port_device.specs.Answers.{AnswersAct, HasRoom, ReadsRange, IsPlaceOf, IsNamed, IsRefusedRange, place_read_act, range_read_act};
+ghost use Rattle.port_device.specs.Answers.{AnswersAct, HasRoom, ReadsRange, IsPlaceOf, IsNamed, place_read_act, range_read_act};
 ghost use Rattle.port_device.specs.Groups.{without_handles};
 ghost use Rattle.port_device.specs.Holds.{HoldsPort};
 
 use crate::areas::{byte_of, bytes_of, size_of};
 use crate::bits::bit_of;
-use crate::group::is_version;
 use crate::port::Port;
-use crate::upload::upload_named;
 use ads_base::{NoMemory, Octets, put32};
-use index_groups::{PROCESS_BYTES, Reach, reach};
+use index_groups::{Group, PROCESS_BYTES, Reach};
 use return_codes::Code;
 use std::alloc::Global;
 use symbol_table::Place;
@@ -53,28 +53,9 @@ impl Port {
     {
         // Most reads are of data. Where the group is known, no table of groups is asked.
         if group == PROCESS_BYTES {
-            return self.read_by(alloc, group, offset, len, out);
+            return self.read_range(alloc, Group::Bytes(Area::Process), offset, len, out);
         }
         self.read_apart(alloc, group, offset, len, out)
-    }
-
-    // The same, whether the group is known or not.
-    #[inline(always)]
-    fn read_by(
-        &self,
-        alloc: Global,
-        group: u32,
-        offset: u32,
-        len: u32,
-        out: &mut Octets,
-    ) -> Result<Result<(), Code>, NoMemory>
-        ensures answer { IfOk result (λ answer. AnswersRead self.now group offset len answer out.old out.new) }
-        ensures no_memory { OnErr result (out.new ≡ out.old) }
-    {
-        match reach(&self.sizes, group, offset, len) {
-            Ok(range) => self.read_reach(alloc, range, out),
-            Err(code) => self.read_unreached(alloc, group, len, code, out),
-        }
     }
 
     // The same, apart from the code of the caller.
@@ -90,31 +71,31 @@ impl Port {
         ensures answer { IfOk result (λ answer. AnswersRead self.now group offset len answer out.old out.new) }
         ensures no_memory { OnErr result (out.new ≡ out.old) }
     {
-        self.read_by(alloc, group, offset, len, out)
+        match Group::of(group) {
+            Some(Group::Version) => self.read_version(alloc, len, out),
+            Some(Group::Upload(upload)) => self.read_upload(alloc, upload, len, out),
+            Some(group) => self.read_range(alloc, group, offset, len, out),
+            None => Ok(Err(Code::C702)),
+        }
     }
 
-    // What Read gives of a group by which no range of an area is reached: an upload, the symbol version, or the code that
-    // refuses the range.
-    #[inline(never)]
-    fn read_unreached(
+    // What stands at the range of an area that a group and an offset name.
+    #[inline(always)]
+    fn read_range(
         &self,
         alloc: Global,
-        group: u32,
+        group: Group,
+        offset: u32,
         len: u32,
-        code: Code,
         out: &mut Octets,
     ) -> Result<Result<(), Code>, NoMemory>
-        ensures answer { IfOk result (λ answer. (w : World) (c : client.Client) (p : PlantPort) (offset : ℕ) → HoldsPort w p self.now
-            → IsRefusedRange p (group_of group) offset len code
-            → AnswersAct w (read_group (setup_of w) c p (without_handles (group_of group)) offset len) answer out.old out.new) }
+        ensures answer { IfOk result (λ answer. (w : World) (p : PlantPort) → HoldsPort w p self.now
+            → AnswersAct w (range_read_act p (range_in (Some (group_meant group)) p.sizes offset len)) answer out.old out.new) }
         ensures no_memory { OnErr result (out.new ≡ out.old) }
     {
-        if is_version(group) {
-            return self.read_version(alloc, len, out);
-        }
-        match upload_named(group) {
-            Some(upload) => self.read_upload(alloc, upload, len, out),
-            None => Ok(Err(code)),
+        match group.reach(&self.sizes, offset, len) {
+            Ok(range) => self.read_reach(alloc, range, out),
+            Err(code) => Ok(Err(code)),
         }
     }
 

@@ -13,8 +13,8 @@ ghost use Rattle.port_device.specs.Uploads.{upload_act};
 
 use crate::entries::put_symbols;
 use crate::port::Port;
-use crate::upload::Upload;
 use ads_base::{NoMemory, Octets, put32};
+use index_groups::UploadGroup;
 use return_codes::Code;
 use std::alloc::Global;
 use type_upload::put_types;
@@ -22,13 +22,20 @@ use type_upload::put_types;
 // The most bytes that a reply holds.
 pub(crate) const MOST: u32 = 2_000_000;
 
+/// The bytes of both uploads.
+#[derive(Clone, Copy)]
+pub(crate) struct UploadSizes {
+    pub symbols: u32,
+    pub types: u32,
+}
+
 impl Port {
     /// Appends an upload, or the sizes of uploads. 0x705 where it has more bytes than were asked for.
     #[inline(never)]
     pub(crate) fn read_upload(
         &self,
         alloc: Global,
-        upload: Upload,
+        upload: UploadGroup,
         len: u32,
         out: &mut Octets,
     ) -> Result<Result<(), Code>, NoMemory>
@@ -37,10 +44,10 @@ impl Port {
         ensures no_memory { OnErr result (out.new ≡ out.old) }
     {
         match upload {
-            Upload::Symbols => self.read_symbols(alloc, len, out),
-            Upload::SymbolSizes => self.read_symbol_sizes(alloc, len, out),
-            Upload::Types => self.read_types(alloc, len, out),
-            Upload::AllSizes => self.read_all_sizes(alloc, len, out),
+            UploadGroup::Symbols => self.read_symbols(alloc, len, out),
+            UploadGroup::Info => self.read_symbol_sizes(alloc, len, out),
+            UploadGroup::Types => self.read_types(alloc, len, out),
+            UploadGroup::InfoWithTypes => self.read_all_sizes(alloc, len, out),
         }
     }
 

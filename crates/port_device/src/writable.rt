@@ -12,7 +12,7 @@ use symbol_table::SymbolRow;
 use type_layout::Rights;
 
 /// Whether the rights are more than those to read.
-pub(crate) fn may_write(rights: Rights) -> bool
+pub fn may_write(rights: Rights) -> bool
     ensures { result ≡ machine.may_write (rights_of rights) }
 {
     match rights {

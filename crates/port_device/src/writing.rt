@@ -1,6 +1,6 @@
 //! Writes of an area's bytes, of a bit, of a symbol's bytes, and of the state words.
 
-ghost use Rattle.std.specs.Prelude.{◌≡◌, ◌↔◌, ◌≤◌, ◌<◌, ◌+◌, [], ◌∷◌, ◌==◌, ◌||◌, length, map, min, IsTrue, OnErr};
+ghost use Rattle.std.specs.Prelude.{◌≡◌, ◌↔◌, ◌≤◌, ◌<◌, ◌+◌, [], ◌∷◌, ◌==◌, ◌||◌, length, map, min, Some, IsTrue, OnErr};
 ghost use Rattle.spec_plant.specs.Description.{size_in};
 ghost use Rattle.spec_plant.specs.World.{PlantPort};
 ghost use Rattle.spec_formats.specs.Groups.{group_of};
@@ -9,20 +9,20 @@ ghost use Rattle.spec_machine.specs.Access.{WholeByte, OneBit};
 ghost use Rattle.spec_machine.specs.Client as client;
 ghost use Rattle.spec_machine.specs.Writes.{Asker, write_act, write_group, control_act};
 ghost use Rattle.spec_machine.specs.WritableBytes.{MayWriteSymbolsAt};
+ghost use Rattle.index_groups.specs.Groups.{group_meant};
 ghost use Rattle.type_layout.specs.Descriptions.{area_of, rights_of};
 ghost use Rattle.port_device.specs.Accesses.{EndsWrite};
 ghost use Rattle.port_device.specs.Answers.{IsPlaceOf, IsNamed};
 ghost use Rattle.port_device.specs.Endings.{EndsAs, IsAsker, KeepsDescription, place_write_act};
-ghost use Rattle.port_device.specs.Groups.{written_by_port};
+ghost use Rattle.port_device.specs.Groups.{is_written_by_port, written_by_port};
 ghost use Rattle.port_device.specs.Holds.{HoldsPort};
 
 use crate::areas::{put_bit, put_bytes, span_of};
-use crate::group::is_written;
 use crate::marks::are_clear;
 use crate::port::Port;
 use crate::writable::{may_control, may_write, may_write_all};
 use ads_base::NetId;
-use index_groups::{PROCESS_BYTES, Reach, reach};
+use index_groups::{Group, PROCESS_BYTES, Reach};
 use return_codes::Code;
 use symbol_table::Place;
 use type_layout::{Area, Rights};
@@ -60,37 +60,9 @@ impl Port {
     {
         // Most writes are of data. Where the group is known, no table of groups is asked.
         if group == PROCESS_BYTES {
-            return self.write_by(group, offset, bytes, rights, source);
+            return self.write_range(Group::Bytes(Area::Process), offset, bytes, rights, source);
         }
         self.write_apart(group, offset, bytes, rights, source)
-    }
-
-    // The same, whether the group is known or not.
-    #[inline(always)]
-    fn write_by(
-        &mut self,
-        group: u32,
-        offset: u32,
-        bytes: &[u8],
-        rights: Rights,
-        source: NetId,
-    ) -> Result<(), Code>
-        ensures answer { EndsWrite self.old group offset bytes.now (rights_of rights) source.bytes result self.new }
-        ensures err { OnErr result (self.new ≡ self.old) }
-        ensures keeps { KeepsDescription self.old self.new }
-    {
-        if !is_written(group) {
-            return Err(Code::C702);
-        }
-        if !may_write(rights) {
-            return Err(Code::C704);
-        }
-        match reach(&self.sizes, group, offset, short_len(bytes)) {
-            Ok(Reach::Bytes { area, at, len: _ }) => self.write_bytes(area, at, bytes, source),
-            Ok(Reach::Bit { area, at, bit }) => self.write_bit(area, at, bit, bytes[0], source),
-            Ok(Reach::Size { area: _ }) => Err(Code::C702),
-            Err(code) => Err(code),
-        }
     }
 
     // The same, apart from the code of the caller.
@@ -103,11 +75,42 @@ impl Port {
         rights: Rights,
         source: NetId,
     ) -> Result<(), Code>
-        ensures answer { EndsWrite self.old group offset bytes.now (rights_of rights) source.bytes result self.new }
+        ensures answer { EndsWrite self.old (group_of group) offset bytes.now (rights_of rights) source.bytes result self.new }
         ensures err { OnErr result (self.new ≡ self.old) }
         ensures keeps { KeepsDescription self.old self.new }
     {
-        self.write_by(group, offset, bytes, rights, source)
+        match Group::of(group) {
+            Some(group) => self.write_range(group, offset, bytes, rights, source),
+            None => Err(Code::C702),
+        }
+    }
+
+    // The same of a group that is known.
+    #[inline(always)]
+    fn write_range(
+        &mut self,
+        group: Group,
+        offset: u32,
+        bytes: &[u8],
+        rights: Rights,
+        source: NetId,
+    ) -> Result<(), Code>
+        ensures answer { EndsWrite self.old (Some (group_meant group)) offset bytes.now (rights_of rights) source.bytes result self.new }
+        ensures err { OnErr result (self.new ≡ self.old) }
+        ensures keeps { KeepsDescription self.old self.new }
+    {
+        if !is_written(group) {
+            return Err(Code::C702);
+        }
+        if !may_write(rights) {
+            return Err(Code::C704);
+        }
+        match group.reach(&self.sizes, offset, short_len(bytes)) {
+            Ok(Reach::Bytes { area, at, len: _ }) => self.write_bytes(area, at, bytes, source),
+            Ok(Reach::Bit { area, at, bit }) => self.write_bit(area, at, bit, bytes[0], source),
+            Ok(Reach::Size { area: _ }) => Err(Code::C702),
+            Err(code) => Err(code),
+        }
     }
 
     /// Writes the first bytes of a symbol or a part of it. 0x704 comes first, by the rights, and last, by the symbol; between
@@ -209,6 +212,18 @@ impl Port {
         }
         let numbers = self.table.symbols_in(area, at, len);
         may_write_all(self.table.symbols(), numbers, source)
+    }
+}
+
+// Whether Write reaches bytes or a bit by the group.
+#[inline(always)]
+fn is_written(group: Group) -> bool
+    ensures { result ≡ is_written_by_port (Some (group_meant group)) }
+{
+    match group {
+        Group::Bytes(_) | Group::Bit(_) => true,
+        Group::Size(_) | Group::Handle(_) | Group::Name(_) => false,
+        Group::Version | Group::Upload(_) | Group::Sum(_) => false,
     }
 }
 

@@ -5,8 +5,8 @@ ghost use Rattle.spec_formats.specs.Groups.{group_of};
 ghost use Rattle.spec_machine.specs.MoreSums.{wide_sums, sums_in_manner};
 ghost use Rattle.session.specs.HandleGroups as groups;
 
-use index_groups::{HANDLE_BY_NAME, RELEASE_HANDLE, VALUE_BY_HANDLE, VALUE_BY_NAME};
-use port_device::{Group, Port, group_named};
+use index_groups::{Group, HandleGroup, NameGroup, RELEASE_HANDLE, VALUE_BY_HANDLE};
+use port_device::Port;
 use sum_commands::{SUM_ADD, SUM_DELETE, SUM_SHORT_READ, SUM_TOLD_READ};
 
 /// The group of a port's state words, which the wide server alone knows (ADSIGRP_DEVICE_DATA).
@@ -27,7 +27,10 @@ pub(crate) fn is_device_data(port: &Port, number: u32) -> bool
 pub(crate) fn is_handle_by_name(number: u32) -> bool
     ensures { result ≡ groups.is_handle_by_name (group_of number) }
 {
-    number == HANDLE_BY_NAME
+    match Group::of(number) {
+        Some(Group::Handle(HandleGroup::ByName)) => true,
+        _ => false,
+    }
 }
 
 /// Whether the group of a number is that of values by their handles.
@@ -41,16 +44,18 @@ pub(crate) fn is_value_by_handle(number: u32) -> bool
 pub(crate) fn is_value_by_name(number: u32) -> bool
     ensures { result ≡ groups.is_value_by_name (group_of number) }
 {
-    number == VALUE_BY_NAME
+    match Group::of(number) {
+        Some(Group::Name(NameGroup::Value)) => true,
+        _ => false,
+    }
 }
 
 /// Whether the data of a ReadWrite of a group is a name.
 pub(crate) fn takes_name(number: u32) -> bool
     ensures { result ≡ groups.takes_name (group_of number) }
 {
-    match group_named(number) {
-        Some(Group::HandleByName) | Some(Group::ValueByName) => true,
-        Some(Group::InfoByName) | Some(Group::ExtendedInfoByName) => true,
+    match Group::of(number) {
+        Some(Group::Handle(HandleGroup::ByName)) | Some(Group::Name(_)) => true,
         _ => false,
     }
 }
@@ -66,8 +71,8 @@ pub(crate) fn is_release(number: u32) -> bool
 pub(crate) fn is_sum(number: u32) -> bool
     ensures { result ≡ groups.is_sum (group_of number) }
 {
-    match group_named(number) {
-        Some(Group::SumRead) | Some(Group::SumWrite) | Some(Group::SumReadWrite) => true,
+    match Group::of(number) {
+        Some(Group::Sum(_)) => true,
         _ => false,
     }
 }

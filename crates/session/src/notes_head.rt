@@ -5,9 +5,9 @@ ghost use Rattle.spec_formats.specs.Header.{header_bytes};
 ghost use Rattle.notify_table.specs.Specs.{address_of};
 ghost use Rattle.session.specs.NoteGroups.{head_text, lead_text, stamp_head_text, notification_header};
 
-use crate::room::{AMS_HEADER, FRAME_HEADER, HEADERS};
+use crate::room::{FRAME_HEADER, HEADERS};
 use ads_base::{AmsAddr, Octets};
-use ams_header::{Header, put};
+use ams_header::{AMS_HEADER, Header, NOTIFICATION, REQUEST, put};
 
 /// How many bytes stand before the samples: AMS/TCP header 6, AMS header 32, length 4, number of stamps 4, time 8, number of
 /// samples 4.
@@ -18,12 +18,6 @@ const STAMP_HEAD: usize = 20;
 
 // The length of a notification does not count its own bytes.
 const LENGTH: u32 = 4;
-
-// The command DeviceNotification.
-const NOTIFICATION: u16 = 8;
-
-// The flags of a request.
-const REQUEST: u16 = 0x0004;
 
 /// Writes what stands before the samples into the room for it.
 pub(crate) fn put_head(bytes: &mut Octets, to: AmsAddr, from: AmsAddr, now: u64, count: u32)

@@ -6,7 +6,6 @@ ghost use Rattle.ads_base.specs.Octets.{Extends};
 ghost use Rattle.spec_formats.specs.Request.{Read, ReadWrite};
 ghost use Rattle.spec_machine.specs.Answers.{READ, READ_WRITE};
 ghost use Rattle.spec_machine.specs.Replies.{reply_payload};
-ghost use Rattle.sum_commands.specs.Parts.{code_in};
 ghost use Rattle.session.specs.Asking.{Asking, outcome_asked, asking_after};
 ghost use Rattle.session.specs.Asks.{Asks, SomeAsks};
 
@@ -15,22 +14,12 @@ use crate::room::{put_room, write_at};
 use crate::{granting, reading};
 use ads_base::{NoMemory, Octets};
 use port_device::Port;
-use return_codes::Code;
 use std::alloc::Global;
+pub(crate) use sum_commands::number_in;
 use sym_handles::Handles;
 
 /// Bytes in front of the data of a reply to Read or ReadWrite: result 4, length 4.
 pub(crate) const FRONT: usize = 8;
-
-/// 0, or the number of the code that refuses.
-pub(crate) fn number_in(answer: Result<(), Code>) -> u32
-    ensures { result ≡ code_in answer }
-{
-    match answer {
-        Ok(()) => 0,
-        Err(code) => code.number(),
-    }
-}
 
 /// Fills in the result and the length in front of the data that stands behind them.
 #[inline(always)]

@@ -1,12 +1,12 @@
 //! The session of one client.
 
-ghost use Rattle.std.specs.Prelude.{◌≡◌, IfOk};
+ghost use Rattle.std.specs.Prelude.{◌≡◌, ◌+◌, ◌<◌, length, IfOk, OnOk, OnErr};
 ghost use Rattle.spec_plant.specs.World.{Plant};
 ghost use Rattle.spec_machine.specs.Client.{new_client};
-ghost use Rattle.ams_tcp.specs.History.{Represents, nothing_fed};
+ghost use Rattle.ams_tcp.specs.History.{History, Represents, nothing_fed, after_feed, answer_of, after_next, IsFrameCut, HoldsPacket};
 
 use ads_base::NoMemory;
-use ams_tcp::Splitter;
+use ams_tcp::{Cut, Splitter};
 use notify_table::Watches;
 use std::alloc::Global;
 use std::marker::Model;
@@ -43,6 +43,33 @@ impl Session {
             handles: Handles::new(alloc)?,
             watches: Watches::new(alloc)?,
         })
+    }
+
+    /// Appends a piece to the stream of the client.
+    pub fn feed(&mut self, alloc: Global, piece: &[u8]) -> Result<(), NoMemory>
+        ensures ok { OnOk result ((h : History) → Represents self.old.stream h
+            → Represents self.new.stream (after_feed h piece.now)) }
+        ensures passed { self.new.stream.passed ≡ 0 }
+        ensures keeps { self.new ≡ record self.old { stream = self.new.stream } }
+        ensures no_memory { OnErr result (self.new.stream ≡ let held = self.old.stream in record held { passed = 0 }) }
+    {
+        self.splitter.feed(alloc, piece)
+    }
+
+    /// The next frame of the stream; NotYet where what is left is open, Broken where it is broken, from then on.
+    pub fn next(&mut self, alloc: Global) -> Result<Cut, NoMemory>
+        ensures answer { IfOk result (λ cut. (h : History) → Represents self.old.stream h → cut ≡ answer_of h) }
+        ensures stands { OnOk result ((h : History) → Represents self.old.stream h
+            → Represents self.new.stream (after_next h)) }
+        ensures packet { IfOk result HoldsPacket }
+        ensures shorter { IfOk result (λ cut. IsFrameCut cut
+            → length self.new.stream.rest < length self.old.stream.rest) }
+        ensures passed { self.new.stream.passed + length self.new.stream.rest
+            ≡ self.old.stream.passed + length self.old.stream.rest }
+        ensures keeps { self.new ≡ record self.old { stream = self.new.stream } }
+        ensures no_memory { OnErr result (self.new ≡ self.old) }
+    {
+        self.splitter.next(alloc)
     }
 
     /// Lends the stream of the client, so that a packet need not be copied out of it while it is answered.

@@ -27,9 +27,9 @@ use crate::looking::look;
 use crate::meaning::meant_mode;
 use crate::requests::NoteRequest;
 use ads_base::NoMemory;
-use index_groups::{Reach, SYMBOL_VERSION, reach};
+use index_groups::{Group, Reach, SYMBOL_VERSION, reach};
 use notify_table::{Mode, Spec, WatchFull, Watched, Watches};
-use port_device::{Group, Port, group_named, states_range};
+use port_device::{Port, states_range};
 use return_codes::Code;
 use std::alloc::Global;
 use sym_handles::Handles;
@@ -281,7 +281,7 @@ fn watched_by_handle(
 fn is_bytes_or_bit(group: u32) -> bool
     ensures { result ≡ is_byte_or_bit (group_of group) }
 {
-    match group_named(group) {
+    match Group::of(group) {
         Some(Group::Bytes(_)) | Some(Group::Bit(_)) => true,
         _ => false,
     }

@@ -15,10 +15,9 @@ use crate::groups::{is_release, is_value_by_handle};
 use crate::looking::look;
 use crate::requests::WriteRequest;
 use ads_base::get32;
-use port_device::Port;
+use port_device::{Port, may_write};
 use return_codes::Code;
 use sym_handles::Handles;
-use type_layout::Rights;
 
 /// Writes to a value by its handle, releases a handle, or writes what the port reaches by the group.
 /// Beckhoff Information System, "ADS Write".
@@ -75,16 +74,5 @@ fn write_value(
     match look(handles, asker.ams_port, handle) {
         Ok(place) => port.write_place(place, bytes, asker.rights, asker.source.net),
         Err(code) => Err(code),
-    }
-}
-
-// Whether the rights are more than those to read.
-fn may_write(rights: Rights) -> bool
-    ensures { result ≡ machine.may_write (rights_of rights) }
-{
-    match rights {
-        Rights::Read => false,
-        Rights::Write => true,
-        Rights::Control => true,
     }
 }

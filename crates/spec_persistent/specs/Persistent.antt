@@ -2,7 +2,7 @@
 -- This project's own choice.
 use Rattle.std.specs.Prelude.{ℕ, List, map, flat_map, filter}
 use Rattle.spec_plant.specs.World.{Plant, PlantPort, PlantSymbol, Block, symbol_size, lower_name}
-use Rattle.spec_machine.specs.World.{symbol_names}
+use Rattle.spec_machine.specs.World.{World, symbol_names}
 use Rattle.spec_machine.specs.Access.{WholeByte, values_at}
 use Rattle.spec_store.specs.BodyText.{StoredEntry, body_text}
 use Rattle.type_layout.specs.Forms.{form_of}
@@ -36,3 +36,7 @@ entries_of_ports memory ports = flat_map (entries_of_port memory) ports
 -- the body text of a plant that holds these bytes
 unfoldable pub body_of : Plant → List Block → List ℕ
 body_of plant memory = body_text (entries_of_ports memory plant.ports)
+
+-- the body text of what a world's persistent symbols hold
+abbrev pub body_of_world : World → List ℕ
+body_of_world w = body_of w.plant w.memory

@@ -5,8 +5,8 @@ ghost use Rattle.sum_commands.specs.Parts.{code_in, handle_in};
 
 use return_codes::Code;
 
-// 0, or the number of the code that refuses.
-pub(crate) fn number_in(answer: Result<(), Code>) -> u32
+/// 0, or the number of the code that refuses.
+pub fn number_in(answer: Result<(), Code>) -> u32
     ensures { result ≡ code_in answer }
 {
     match answer {

@@ -13,6 +13,7 @@ mod room;
 mod run;
 mod running;
 
+pub use answers::number_in;
 pub use groups::{SUM_ADD, SUM_DELETE, SUM_SHORT_READ, SUM_TOLD_READ};
 pub use part_service::PartService;
 pub use run::run_sum;

@@ -1,13 +1,15 @@
 //! Calls of index_groups.
 
 use case_sheets::{Answer, Args, Fault};
-use index_groups::{AreaGroup, Reach, area_group, byte_group, reach};
+use index_groups::{
+    Group, HandleGroup, NameGroup, Reach, SumGroup, UploadGroup, byte_group, reach,
+};
 use type_layout::{Area, Sizes};
 
 pub fn make(call: &str, args: &mut Args<'_>, answer: &mut Answer) -> Result<(), Fault> {
     match call {
         "reach" => reached(args, answer),
-        "area_group" => group_known(args, answer),
+        "group" => group_known(args, answer),
         "byte_group" => bytes_named(args, answer),
         _ => return Err(Fault::NoCall),
     }
@@ -31,13 +33,57 @@ fn reached(args: &mut Args<'_>, answer: &mut Answer) {
     }
 }
 
-// A group: what it names, and of which area.
+// A group: what it names.
 fn group_known(args: &mut Args<'_>, answer: &mut Answer) {
-    match area_group(args.u32()) {
-        Some(AreaGroup::Bytes(area)) => show_group(area, "bytes", answer),
-        Some(AreaGroup::Bit(area)) => show_group(area, "bit", answer),
-        Some(AreaGroup::Size(area)) => show_group(area, "size", answer),
+    match Group::of(args.u32()) {
+        Some(group) => show_known(group, answer),
         None => answer.say("none"),
+    }
+}
+
+fn show_known(group: Group, answer: &mut Answer) {
+    match group {
+        Group::Bytes(area) => show_group(area, "bytes", answer),
+        Group::Bit(area) => show_group(area, "bit", answer),
+        Group::Size(area) => show_group(area, "size", answer),
+        Group::Handle(which) => answer.say(handle_word(which)),
+        Group::Name(which) => answer.say(name_word(which)),
+        Group::Version => answer.say("version"),
+        Group::Upload(which) => answer.say(upload_word(which)),
+        Group::Sum(which) => answer.say(sum_word(which)),
+    }
+}
+
+fn handle_word(which: HandleGroup) -> &'static str {
+    match which {
+        HandleGroup::ByName => "handle_by_name",
+        HandleGroup::Value => "value_by_handle",
+        HandleGroup::Release => "release",
+    }
+}
+
+fn name_word(which: NameGroup) -> &'static str {
+    match which {
+        NameGroup::Value => "value_by_name",
+        NameGroup::Info => "info_by_name",
+        NameGroup::Entry => "entry_by_name",
+    }
+}
+
+fn upload_word(which: UploadGroup) -> &'static str {
+    match which {
+        UploadGroup::Symbols => "symbols",
+        UploadGroup::Info => "symbol_sizes",
+        UploadGroup::Types => "types",
+        UploadGroup::InfoWithTypes => "all_sizes",
+    }
+}
+
+fn sum_word(which: SumGroup) -> &'static str {
+    match which {
+        SumGroup::Read => "sum_read",
+        SumGroup::Write => "sum_write",
+        SumGroup::ReadWrite => "sum_read_write",
     }
 }
 

@@ -18,9 +18,9 @@ returns-then-h-eq1 c =
 pub returns-then-h-eq8 : goal.returns-then-h-eq8
 returns-then-h-eq8 c =
     if_notification c.args.packet.now (ams_header_of c.in-Some.h) c.in-Some.payload.now _ _ _
-    c.in-Some.ensures.payload c.in-Some.ensures.header c.if-h-packet.false c.if-h-eq1.false c.if-h-eq8.true
+    c.in-Some.ensures.payload c.in-Some.ensures.header c.if-h-packet.false c.if-h-eq1.false c.if-h-eq-NOTIFICATION.true
     c.on_notification.result c.on_notification.ensures
 
 pub returns : goal.returns
 returns c = λ client requests. by_nothing c.args.packet.now (ams_header_of c.in-Some.h)
-    client c.in-Some.ensures.header c.if-h-packet.false c.if-h-eq1.false c.if-h-eq8.false
+    client c.in-Some.ensures.header c.if-h-packet.false c.if-h-eq1.false c.if-h-eq-NOTIFICATION.false

@@ -1,6 +1,6 @@
 use Rattle.std.proofs.Common.{◌++◌, ◌∙◌, ap, append_assoc}
 use Rattle.std.specs.Int.{w32, to_le_bytes}
-use Rattle.index_groups.specs.AreaGroups.{byte_number}
+use Rattle.index_groups.specs.Groups.{byte_number}
 use Rattle.type_layout.specs.Descriptions.{area_of}
 use Rattle.port_device.proofs.asking.append_info.Goals as goal
 

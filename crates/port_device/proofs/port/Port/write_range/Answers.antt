@@ -1,10 +1,9 @@
 use Rattle.std.proofs.Common.{◌∷◌, [], map, ◌≡◌, ◌+◌, ◌≤◌, ◌<◌, length, sym, ◌∙◌, ap, subst, arith}
-use Rattle.std.specs.Prelude.{Ok, Err}
+use Rattle.std.specs.Prelude.{Some, Ok, Err}
 use Rattle.return_codes.specs.declared.code.Code.TheVariants.{C702, C704}
 use Rattle.return_codes.specs.Code.{number_of}
 use Rattle.spec_plant.specs.Description.{size_in}
 use Rattle.spec_plant.specs.Description as plant
-use Rattle.spec_formats.specs.Groups.{group_of}
 use Rattle.spec_formats.specs.Ranges.{Bytes, Bit, range_in}
 use Rattle.spec_machine.specs.Acts.{Act}
 use Rattle.spec_machine.specs.World.{name_at, names_at}
@@ -12,6 +11,7 @@ use Rattle.spec_machine.specs.Access.{WholeByte, OneBit}
 use Rattle.spec_machine.specs.Reach.{addressed_by_range}
 use Rattle.spec_machine.specs.Writes.{may_write, write_act}
 use Rattle.index_groups.specs.Access.{range_meant}
+use Rattle.index_groups.specs.Groups.{group_meant}
 use Rattle.type_layout.specs.Descriptions.{area_of, sizes_of}
 use Rattle.port_device.specs.Endings.{EndsAs}
 use Rattle.port_device.specs.Holds.{HoldsPort}
@@ -21,18 +21,18 @@ use Rattle.port_device.proofs.GroupLemmas.{not_written, reached, range_len, writ
 use Rattle.port_device.proofs.ImageLemmas.{one_element}
 use Rattle.port_device.proofs.PortLemmas.{same_sizes}
 use Rattle.port_device.proofs.WriteLemmas.{refused}
-use Rattle.port_device.proofs.port.Port.write_by.Goals as goal
+use Rattle.port_device.proofs.port.Port.write_range.Goals as goal
 
 pub returns-then-not-is_written-clause-answer : goal.returns-then-not-is_written-clause-answer
 returns-then-not-is_written-clause-answer c = λ w d k h asker.
     refused w k.port c.args.self.now _ C702 h
-    (not_written d k (group_of c.args.group) c.args.offset c.args.bytes.now (sym c.is_written.ensures ∙ c.if-not-is_written.true))
+    (not_written d k (Some (group_meant c.args.group)) c.args.offset c.args.bytes.now (sym c.is_written.ensures ∙ c.if-not-is_written.true))
 
 pub returns-then-not-may_write-clause-answer : goal.returns-then-not-may_write-clause-answer
 returns-then-not-may_write-clause-answer c = λ w d k h asker.
     let may = ap may_write asker.rights_are ∙ sym c.may_write.ensures ∙ c.if-not-may_write.true in
     refused w k.port c.args.self.now _ C704 h
-    (write_denied d k (group_of c.args.group) c.args.offset c.args.bytes.now (sym c.is_written.ensures ∙ c.if-not-is_written.false) may)
+    (write_denied d k (Some (group_meant c.args.group)) c.args.offset c.args.bytes.now (sym c.is_written.ensures ∙ c.if-not-is_written.false) may)
 
 pub write_bytes-requires : goal.write_bytes-requires
 write_bytes-requires c =
@@ -41,8 +41,8 @@ write_bytes-requires c =
     let area = area_of c.in-Ok-Bytes.area in
     let bytes = c.args.bytes.now in
     let rule = rw c.in-Ok-Bytes.field-0-is at c.in-Ok-Bytes.ensures.rule in
-    let e = reached sizes c.args.group c.args.offset c.short_len.result (length bytes) (Ok (Bytes area at_ c.in-Ok-Bytes.field-0-2)) c.short_len.ensures rule in
-    let len = range_len (group_of c.args.group) sizes c.args.offset (length bytes) (Bytes area at_ c.in-Ok-Bytes.field-0-2) e in
+    let e = reached sizes (Some (group_meant c.args.group)) c.args.offset c.short_len.result (length bytes) (Ok (Bytes area at_ c.in-Ok-Bytes.field-0-2)) c.short_len.ensures rule in
+    let len = range_len (Some (group_meant c.args.group)) sizes c.args.offset (length bytes) (Bytes area at_ c.in-Ok-Bytes.field-0-2) e in
     let within = rw c.in-Ok-Bytes.field-0-is at c.in-Ok-Bytes.ensures.within in
     let ends = within.ends in
     let P : plant.Sizes → Type 0 = λ s. at_ + length bytes ≤ size_in s area in
@@ -64,8 +64,8 @@ bounds-bytes-0 c =
     let bytes = c.args.bytes.now in
     let r = Bit (area_of c.in-Ok-Bit.area) c.in-Ok-Bit.«at» c.in-Ok-Bit.bit in
     let rule = rw c.in-Ok-Bit.field-0-is at c.in-Ok-Bit.ensures.rule in
-    let e = reached sizes c.args.group c.args.offset c.short_len.result (length bytes) (Ok r) c.short_len.ensures rule in
-    let len : length bytes ≡ 1 = range_len (group_of c.args.group) sizes c.args.offset (length bytes) r e in
+    let e = reached sizes (Some (group_meant c.args.group)) c.args.offset c.short_len.result (length bytes) (Ok r) c.short_len.ensures rule in
+    let len : length bytes ≡ 1 = range_len (Some (group_meant c.args.group)) sizes c.args.offset (length bytes) r e in
     omega (arith, len)
 
 pub returns-in-Ok-Bytes-clause-answer : goal.returns-in-Ok-Bytes-clause-answer
@@ -73,13 +73,13 @@ returns-in-Ok-Bytes-clause-answer c = λ w d k h asker.
     let m : PortMemory = memory_in c.self.inside in
     let held : HoldsPort w k.port m = subst (HoldsPort w k.port) (sym c.self.view_is) h in
     let sizes = sizes_of c.self.inside.sizes in
-    let g = group_of c.args.group in
+    let g = Some (group_meant c.args.group) in
     let at_ = c.in-Ok-Bytes.«at» in
     let area = area_of c.in-Ok-Bytes.area in
     let bytes = c.args.bytes.now in
     let rule = rw c.in-Ok-Bytes.field-0-is at c.in-Ok-Bytes.ensures.rule in
     let r = Bytes area at_ c.in-Ok-Bytes.field-0-2 in
-    let e = reached sizes c.args.group c.args.offset c.short_len.result (length bytes) (Ok r) c.short_len.ensures rule in
+    let e = reached sizes (Some (group_meant c.args.group)) c.args.offset c.short_len.result (length bytes) (Ok r) c.short_len.ensures rule in
     let len : c.in-Ok-Bytes.field-0-2 ≡ length bytes = range_len g sizes c.args.offset (length bytes) r e in
     let may = ap may_write asker.rights_are ∙ sym c.may_write.ensures ∙ c.if-not-may_write.false in
     let act = write_is d k g c.args.offset bytes (Ok r) (sym c.is_written.ensures ∙ c.if-not-is_written.false) may
@@ -92,11 +92,11 @@ returns-in-Ok-Bit-clause-answer c = λ w d k h asker.
     let m : PortMemory = memory_in c.self.inside in
     let held : HoldsPort w k.port m = subst (HoldsPort w k.port) (sym c.self.view_is) h in
     let sizes = sizes_of c.self.inside.sizes in
-    let g = group_of c.args.group in
+    let g = Some (group_meant c.args.group) in
     let bytes = c.args.bytes.now in
     let rule = rw c.in-Ok-Bit.field-0-is at c.in-Ok-Bit.ensures.rule in
     let r = Bit (area_of c.in-Ok-Bit.area) c.in-Ok-Bit.«at» c.in-Ok-Bit.bit in
-    let e = reached sizes c.args.group c.args.offset c.short_len.result (length bytes) (Ok r) c.short_len.ensures rule in
+    let e = reached sizes (Some (group_meant c.args.group)) c.args.offset c.short_len.result (length bytes) (Ok r) c.short_len.ensures rule in
     let len : length bytes ≡ 1 = range_len g sizes c.args.offset (length bytes) r e in
     let may = ap may_write asker.rights_are ∙ sym c.may_write.ensures ∙ c.if-not-may_write.false in
     let act = write_is d k g c.args.offset bytes (Ok r) (sym c.is_written.ensures ∙ c.if-not-is_written.false) may
@@ -110,10 +110,10 @@ returns-in-Ok-Size-clause-answer c = λ w d k h asker.
     let m : PortMemory = memory_in c.self.inside in
     let held : HoldsPort w k.port m = subst (HoldsPort w k.port) (sym c.self.view_is) h in
     let sizes = sizes_of c.self.inside.sizes in
-    let g = group_of c.args.group in
+    let g = Some (group_meant c.args.group) in
     let bytes = c.args.bytes.now in
     let q = Ok (range_meant c.in-Ok-Size.field-0) in
-    let e = reached sizes c.args.group c.args.offset c.short_len.result (length bytes) q c.short_len.ensures c.in-Ok-Size.ensures.rule in
+    let e = reached sizes (Some (group_meant c.args.group)) c.args.offset c.short_len.result (length bytes) q c.short_len.ensures c.in-Ok-Size.ensures.rule in
     let may = ap may_write asker.rights_are ∙ sym c.may_write.ensures ∙ c.if-not-may_write.false in
     let act = write_is d k g c.args.offset bytes q (sym c.is_written.ensures ∙ c.if-not-is_written.false) may
     (ap (λ s. range_in g s c.args.offset (length bytes)) (same_sizes w k.port m held ∙ c.self.invariant.sizes_are) ∙ e) in
@@ -125,10 +125,10 @@ returns-in-Err-clause-answer c = λ w d k h asker.
     let m : PortMemory = memory_in c.self.inside in
     let held : HoldsPort w k.port m = subst (HoldsPort w k.port) (sym c.self.view_is) h in
     let sizes = sizes_of c.self.inside.sizes in
-    let g = group_of c.args.group in
+    let g = Some (group_meant c.args.group) in
     let bytes = c.args.bytes.now in
     let q = Err (number_of c.in-Err.code) in
-    let e = reached sizes c.args.group c.args.offset c.short_len.result (length bytes) q c.short_len.ensures c.in-Err.ensures.rule in
+    let e = reached sizes (Some (group_meant c.args.group)) c.args.offset c.short_len.result (length bytes) q c.short_len.ensures c.in-Err.ensures.rule in
     let may = ap may_write asker.rights_are ∙ sym c.may_write.ensures ∙ c.if-not-may_write.false in
     let act = write_is d k g c.args.offset bytes q (sym c.is_written.ensures ∙ c.if-not-is_written.false) may
     (ap (λ s. range_in g s c.args.offset (length bytes)) (same_sizes w k.port m held ∙ c.self.invariant.sizes_are) ∙ e) in
