@@ -15,17 +15,11 @@ ghost use Rattle.type_layout.specs.Descriptions.{rights_of};
 use crate::examined::Examined;
 use ads_base::NetId;
 use ads_commands::{ReadFault, read_request};
-use ams_header::{Header, read};
+use ams_header::{Header, NOTIFICATION, REQUEST, read};
 use net_routes::Admission;
 use port_device::Ports;
 use return_codes::Code;
 use type_layout::Rights;
-
-/// The flags of a request.
-pub(crate) const REQUEST: u16 = 0x0004;
-
-// The command of a notification.
-const NOTIFICATION: u16 = 8;
 
 /// Examines a packet. Beckhoff Information System, "AMS Header", "ADS Commands".
 pub(crate) fn examined<'a>(

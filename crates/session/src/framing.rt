@@ -9,9 +9,9 @@ ghost use Rattle.ams_header.specs.Header.{ams_header_of};
 ghost use Rattle.session.specs.Plain.{answer_fields};
 ghost use Rattle.session.specs.Answered.{AppendsFrame};
 
-use crate::room::{AMS_HEADER, FRAME_HEADER, HEADERS, write_at};
+use crate::room::{FRAME_HEADER, HEADERS, write_at};
 use ads_base::{NoMemory, Octets, get16, get32};
-use ams_header::{Header, answer_of, put};
+use ams_header::{AMS_HEADER, Header, answer_of, put};
 
 /// Fills in the headers of an answer, whose room starts at a place, in front of its payload. A frame whose length does not
 /// fit 32 bits finds no memory and is cut off, and every other frame is given.

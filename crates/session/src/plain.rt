@@ -5,9 +5,8 @@ ghost use Rattle.spec_formats.specs.Header.{payload_of};
 ghost use Rattle.ams_header.specs.Header.{ams_header_of};
 ghost use Rattle.session.specs.Plain.{IsPlain, IsPlainPayload, PassesHeader};
 
-use crate::checks::REQUEST;
 use ads_base::{NetId, get32};
-use ams_header::{Header, header_in};
+use ams_header::{Header, REQUEST, header_in};
 use net_routes::Admission;
 use type_layout::Rights;
 

@@ -8,9 +8,6 @@ use std::alloc::Global;
 /// Bytes of the AMS/TCP header: two reserved, and the length of the AMS packet.
 pub(crate) const FRAME_HEADER: usize = 6;
 
-/// Bytes of the AMS header.
-pub(crate) const AMS_HEADER: usize = 32;
-
 /// Bytes of the AMS/TCP header and the AMS header.
 pub(crate) const HEADERS: usize = 38;
 
