@@ -71,23 +71,4 @@ impl Session {
     {
         self.splitter.next(alloc)
     }
-
-    /// Lends the stream of the client, so that a packet need not be copied out of it while it is answered.
-    #[inline(always)]
-    pub fn lend_stream(&mut self, alloc: Global) -> Splitter
-        ensures stream { result ≡ self.old.stream }
-        ensures keeps { self.new ≡ record self.old { stream = self.new.stream } }
-        ensures nothing { Represents self.new.stream nothing_fed }
-        ensures passed { self.new.stream.passed ≡ 0 }
-    {
-        self.splitter.take(alloc)
-    }
-
-    /// Takes the stream back.
-    #[inline(always)]
-    pub fn take_back(&mut self, stream: Splitter)
-        ensures { self.new ≡ record self.old { stream = stream } }
-    {
-        self.splitter = stream;
-    }
 }
