@@ -1,8 +1,10 @@
--- Reads of data, whose bytes are known before their frame is begun.
-use Rattle.std.proofs.Common.{◌≡◌, ◌+◌, ◌-◌, ◌≤◌, ℕ, List, [], ◌++◌, length, take, drop, map, refl, sym, ◌∙◌, ap, subst, arith, length-take-le}
-use Rattle.std.specs.Prelude.{Some, Ok, option_and_then}
-use Rattle.std.specs.Int.{w32, to_le_bytes}
-use Rattle.spec_plant.specs.Description.{Area, Process}
+-- Reads of data and of values by their handles, whose bytes are known before their frame is begun.
+use Rattle.std.proofs.Common.{◌≡◌, ◌+◌, ◌≤◌, ℕ, List, [], ◌++◌, map, true, false, refl, sym, ◌∙◌, ap, subst, inl, inr}
+use Rattle.std.specs.Prelude.{◌==◌, Option, Some, None, IfSome, Ok, option_and_then}
+use Rattle.std.specs.Borrow.{Bor}
+use Rattle.std.proofs.Math.Nat.{min-eq_left}
+use Rattle.std.proofs.lemmas.Bool.{cases_Bool, eqb-true, false≢true}
+use Rattle.spec_plant.specs.Description.{Area, Process, size_in}
 use Rattle.spec_plant.specs.World.{PlantPort}
 use Rattle.spec_formats.specs.Codes.{no_error}
 use Rattle.spec_formats.specs.Groups.{AreaBytes, group_of, group_in, process_bytes}
@@ -13,29 +15,37 @@ use Rattle.spec_frames.specs.Frame.{frame_bytes}
 use Rattle.spec_machine.specs.Access.{WholeByte, values_at}
 use Rattle.spec_machine.specs.Acts.{Act}
 use Rattle.spec_machine.specs.Answers.{answered_group, if_answered, READ}
+use Rattle.spec_machine.specs.Client as client
 use Rattle.spec_machine.specs.Client.{Client}
+use Rattle.spec_machine.specs.Handles.{HandleStatus, Never, Released, Outdated, Live, kept_status}
+use Rattle.spec_machine.specs.MoreActs.{device_data}
 use Rattle.spec_machine.specs.Manner.{Manner, Strict, Wide}
 use Rattle.spec_machine.specs.Meanings.{len_by_handle, read_len_in}
-use Rattle.spec_machine.specs.Reach.{addressed_by_range, reach_of}
+use Rattle.spec_machine.specs.Reach.{addressed_by_range, addressed_by_status, reach_of}
 use Rattle.spec_machine.specs.Reads.{read_act, read_group}
 use Rattle.spec_machine.specs.Replies.{response_packet, reply_payload}
 use Rattle.spec_machine.specs.World.{World, Setup, setup_of, names_at}
 use Rattle.sym_handles.specs.Kept.{Kept}
-use Rattle.port_device.specs.Answers.{AnswersAct}
+use Rattle.port_device.specs.Answers.{AnswersAct, IsNamed, place_read_act}
+use Rattle.port_device.proofs.PlaceLemmas.{place_bytes}
+use Rattle.symbol_table.specs.declared.place.Place.{Place}
+use Rattle.type_layout.specs.Descriptions.{area_of}
 use Rattle.port_device.specs.Groups.{without_handles}
 use Rattle.port_device.specs.Holds.{HoldsPort}
 use Rattle.port_device.specs.PortMemory.{PortMemory}
 use Rattle.session.specs.Asking.{Asking, act_asked, meant_in, outcome_asked, plain_asked}
-use Rattle.session.specs.Asks.{Asks}
-use Rattle.session.specs.HandleGroups.{is_value_by_handle}
-use Rattle.session.specs.Plain.{RunsWhole}
+use Rattle.session.specs.Asks.{Asks, LooksUp, SomeAsks}
+use Rattle.session.specs.HandleGroups.{is_value_by_handle, reads_states}
+use Rattle.session.specs.Plain.{RunsWhole, data_payload}
 use Rattle.session.specs.Runs.{AsksSession}
 use Rattle.session.specs.SessionState.{SessionState}
 use Rattle.session.proofs.OwnLemmas.{data-is-no-state, meant-asked}
-use Rattle.session.proofs.PlainLemmas.{IsBehindRoom, filled-at}
-use Rattle.session.proofs.ReadLemmas.{read-by-port}
-use Rattle.session.proofs.ReplyLemmas.{data-filled, data_payload, read-payload}
+use Rattle.session.proofs.MeaningLemmas.{len-held, read-is-meant}
+use Rattle.session.proofs.ReadLemmas.{read-by-handle, read-by-port}
+use Rattle.session.proofs.ReplyLemmas.{read-payload}
 use Rattle.session.proofs.RunLemmas.{read-runs}
+use Rattle.session.proofs.ValueLemmas.{LookedUp, looked-by, read-live}
+use Rattle.session.proofs.WatchedReach.{live_in_area}
 
 of-data : group_of process_bytes ≡ Some (AreaBytes Process)
 unfolding group_of group_in
@@ -82,18 +92,71 @@ data-answered a m kept group offset len at n area bytes asks is rule read =
     let A : Act → Type 0 = λ x. AnswersAct a.world x (Ok tt) [] bytes in
     subst G (sym is) (subst A (sym (data-act a m kept offset len at n area asks rule)) (refl, read))
 
--- data behind room, whose front is filled in
-pub data-room : (start front : ℕ) (old mid whole filled bytes : List ℕ) → start ≡ length old → length mid ≡ length old + 46 → take (length old) mid ≡ old
-    → front ≡ length mid → whole ≡ mid ++ bytes
-    → filled ≡ take (front - 8) whole ++ (to_le_bytes w32 0 ++ (to_le_bytes w32 (length whole - (front - 8 + 8)) ++ drop (front - 8 + 8) whole))
-    → IsBehindRoom start old (take (start + 38) mid) filled (data_payload no_error bytes)
-data-room start front old mid whole filled bytes is_start all begins is_front is_whole is_filled =
-    let p = front - 8 in
-    let within : p ≤ length mid = omega (arith, is_front) in
-    let count : length (take p mid) ≡ p = length-take-le p mid within in
-    filled-at start front old mid filled (data_payload no_error bytes) is_start all begins is_front
-    (data-filled (take p mid) mid whole filled bytes p 0 no_error is_whole refl (sym count) (omega (arith, all, is_front, count))
-    (ap (λ n. take n mid) count) is_filled)
+-- the group of values by their handles is none of the state words
+handle-is-no-state : (x : Manner) (group : ℕ) → is_value_by_handle (group_of group) ≡ true → reads_states x group ≡ false
+unfolding group_of group_in
+handle-is-no-state Strict group is = refl
+handle-is-no-state Wide group is = elim (cases_Bool (group == device_data)) [
+  | inl t ↦ absurd (false≢true (subst (λ (n : ℕ). is_value_by_handle (group_of n) ≡ true) (eqb-true group device_data t) is))
+  | inr f ↦ f
+]
+
+-- a Read of a value that has so many bytes is taken as it is written
+value-len : (manner : Manner) (a : Asking) (group handle len : ℕ) (place : Place) → is_value_by_handle (group_of group) ≡ true
+    → LooksUp a.world.plant.ports a.asker.port.number (kept_status a.client.handles handle a.asker.port.number) (Ok place) → len ≤ place.len
+    → len ≡ read_len_in manner a.client a.asker.port (answered_group READ group) handle len
+value-len Strict a group handle len place is looks few = refl
+value-len Wide a group handle len place is looks few = sym (min-eq_left few) ∙ len-held a group handle len place is looks
+
+value-act : (a : Asking) (m : PortMemory) (kept : Kept) (group handle len : ℕ) (place : Place) → Asks a m kept → is_value_by_handle (group_of group) ≡ true
+    → LooksUp a.world.plant.ports a.asker.port.number (kept_status a.client.handles handle a.asker.port.number) (Ok place) → len ≤ place.len
+    → act_asked a (Read group handle len)
+    ≡ read_act (addressed_by_status a.asker.port.number (kept_status a.client.handles handle a.asker.port.number) len)
+value-act a m kept group handle len place asks is looks few =
+    meant-asked a m kept group handle len asks (handle-is-no-state m.manner group is)
+    ∙ ap (plain_asked a) (sym (read-is-meant a group handle len len (value-len a.world.profile.manner a group handle len place is looks few)))
+    ∙ read-by-handle a group handle len is
+
+-- the bytes at a place answer a Read of it
+place-answered : (w : World) (p : PlantPort) (m : PortMemory) (place : Place) (named : client.Place) (len : ℕ) (bytes : List ℕ) → HoldsPort w p m
+    → IsNamed w p place named → len ≤ place.len → bytes ≡ values_at w.memory (map WholeByte (names_at p (area_of place.area) place.«at» len))
+    → AnswersAct w (place_read_act p named len) (Ok tt) [] bytes
+place-answered w p m place named len bytes held is few read =
+    subst (λ o. AnswersAct w (read_act o) (Ok tt) [] bytes) (sym (place_bytes w p m place named len held is few)) (refl, read)
+
+-- and so the Read by its handle
+pub value-answered : (a : Asking) (m : PortMemory) (kept : Kept) (number group handle len : ℕ) (place : Place) (bytes : List ℕ) → Asks a m kept
+    → number ≡ m.number → is_value_by_handle (group_of group) ≡ true → LookedUp number handle kept (Ok place) → len ≤ place.len
+    → ((w : World) (p : PlantPort) → HoldsPort w p m → bytes ≡ values_at w.memory (map WholeByte (names_at p (area_of place.area) place.«at» len)))
+    → AnswersAct a.world (act_asked a (Read group handle len)) (Ok tt) [] bytes
+value-answered a m kept number group handle len place bytes asks is_number is looked few read =
+    let looks = looked-by a m kept number handle (Ok place) asks is_number looked in
+    subst (λ (x : Act). AnswersAct a.world x (Ok tt) [] bytes) (sym (value-act a m kept group handle len place asks is looks few))
+    (read-live a.world a.asker.port m place len (kept_status a.client.handles handle a.asker.port.number) (Ok tt) [] bytes asks.held looks
+    (λ v q named held named_is. place-answered v q m place named len bytes held named_is few (read v q held)))
+
+-- the place of a live handle lies in its area
+live-fits : (w : World) (p : PlantPort) (m : PortMemory) (place : Place) (s : HandleStatus client.Place) → HoldsPort w p m
+    → LooksUp w.plant.ports p.number s (Ok place) → place.«at» + place.len ≤ size_in m.table.sizes (area_of place.area)
+live-fits w p m place (Live named) held looks =
+    subst (λ s. place.«at» + place.len ≤ size_in s (area_of place.area)) (same-sizes w p m held) (live_in_area w p m place named held looks).ends
+live-fits w p m place Never held looks = absurd looks
+live-fits w p m place Released held looks = absurd looks
+live-fits w p m place Outdated held looks = absurd looks
+
+pub place-fits : (m : PortMemory) (kept : Kept) (number handle : ℕ) (place : Place) → SomeAsks m kept → number ≡ m.number
+    → LookedUp number handle kept (Ok place) → place.«at» + place.len ≤ size_in m.table.sizes (area_of place.area)
+place-fits m kept number handle place some is looked =
+    let a = some.asking in
+    live-fits a.world a.asker.port m place (kept_status a.client.handles handle a.asker.port.number) some.asks.held
+    (looked-by a m kept number handle (Ok place) some.asks is looked)
+
+-- what is said of bytes that are lent, for every client who asks
+pub lent-to : (m : PortMemory) (kept : Kept) (r : Request) (lent : Option (Bor (List ℕ)))
+    → IfSome lent (λ bytes. (a : Asking) (k : Kept) → Asks a m k → AnswersAct a.world (act_asked a r) (Ok tt) [] bytes.now)
+    → IfSome lent (λ bytes. (a : Asking) → Asks a m kept → AnswersAct a.world (act_asked a r) (Ok tt) [] bytes.now)
+lent-to m kept r None said = tt
+lent-to m kept r (Some bytes) said = λ a asks. said a kept asks
 
 -- a Read of data is answered so
 pub data-whole : (a : Asking) (h : AmsHeader) (r : Request) (group offset len : ℕ) (m : PortMemory) (s : SessionState) (bytes old new : List ℕ) → AsksSession a m s

@@ -1,9 +1,8 @@
 -- Plain packets: no check stops them, and their frames are those of the replies.
-use Rattle.std.proofs.Common.{◌≡◌, ◌+◌, ◌-◌, ◌≤◌, ◌<◌, ◌^◌, ℕ, List, [], ◌∷◌, ◌++◌, length, take, drop, true, false, refl, sym, ◌∙◌, ap, subst, arith}
-use Rattle.std.proofs.Common.{append_assoc, length-append, length-take-le, take_at, take-take, eq-eqb}
+use Rattle.std.proofs.Common.{◌≡◌, ◌+◌, ◌≤◌, ◌<◌, ◌^◌, ℕ, List, [], ◌∷◌, ◌++◌, length, take, drop, true, false, refl, sym, ◌∙◌, ap, subst, arith}
+use Rattle.std.proofs.Common.{eq-eqb}
 use Rattle.std.specs.Prelude.{Bool, Option, Some, None, is_none, not, ◌==◌, ◌%◌, bytes_eq, Result}
 use Rattle.std.specs.Int.{w16, w32, to_le_bytes}
-use Rattle.ads_base.specs.Octets.{Extends}
 use Rattle.ads_base.proofs.OctetsLemmas.{Extends-same, Extends-append}
 use Rattle.return_codes.specs.declared.code.Code.{Code}
 use Rattle.sum_commands.specs.Parts.{code_in}
@@ -33,7 +32,7 @@ use Rattle.session.specs.Answered.{AnswersAsked}
 use Rattle.session.specs.Asking.{Asking, act_asked, outcome_asked}
 use Rattle.session.specs.Ends.{EndsAct}
 use Rattle.session.specs.PacketChecks.{IsAsked}
-use Rattle.session.specs.Plain.{IsPlain, plain_meant, headers_room, RunsWhole}
+use Rattle.session.specs.Plain.{IsPlain, plain_meant, RunsWhole}
 use Rattle.session.specs.Runs.{AsksSession, IsFrom, Runs, decision_of}
 use Rattle.session.specs.SessionState.{SessionState}
 use Rattle.session.specs.StandsFor.{StandsFor}
@@ -41,7 +40,7 @@ use Rattle.session.specs.Takes.{HasAddress, Takes, outcome_of_packet}
 use Rattle.session.specs.declared.taken.Taken.TheVariants as taken
 use Rattle.session.proofs.ActPuts.{request-at}
 use Rattle.session.proofs.CheckLemmas.{given-are}
-use Rattle.session.proofs.FrameLemmas.{behind-old, frame-behind}
+use Rattle.session.proofs.FrameLemmas.{behind-old, frame-behind, kept-front}
 use Rattle.session.proofs.OtherPorts.{ports-held}
 use Rattle.session.proofs.TakeLemmas.{found-port, takes-asked}
 use Rattle.session.proofs.RunLemmas.{read-runs, state-runs, state-written, write-runs, write-written}
@@ -122,12 +121,6 @@ plain-asked w c ams net admitted p port address is found =
     same : (n : ℕ) → (n == n) ≡ true
     same n = eq-eqb n n refl
 
--- what stood in front stands there
-pub kept-within : (old mid out : List ℕ) (start : ℕ) → start ≡ length old → length old ≤ length mid → take (length old) mid ≡ old → Extends mid out
-    → take start out ≡ old
-kept-within old mid out start is_start within begins more =
-    ap (λ n. take n out) is_start ∙ sym (take-take (length old) (length mid) out within) ∙ ap (take (length old)) more.begins ∙ begins
-
 -- a request is run behind room for headers, which are filled in
 pub whole-of : (a : Asking) (h : AmsHeader) (r : format.Request) (start : ℕ) (old room out new : List ℕ) (m : PortMemory) (s : SessionState)
     → Runs a r room out m s → start ≡ length old → length room ≡ length old + 38 → take start out ≡ old
@@ -148,81 +141,45 @@ answers-whole a h r ports number m' s' old new held found whole =
       stands = whole.after.stands;
     }
 
--- a payload that was appended with room for the headers
-pub record IsBehindRoom (start : ℕ) (old room out payload : List ℕ) : Type 0 where
-  pub long : length room ≡ length old + 38
-  pub is : out ≡ room ++ payload
-  pub kept : take start out ≡ old
-  pub inside : start + 38 ≤ length out
+-- the payload of a reply that is framed at once
+whole-by : (a : Asking) (h : AmsHeader) (r : format.Request) (payload old new : List ℕ) (m : PortMemory) (s : SessionState) → Runs a r [] payload m s
+    → new ≡ old ++ frame_bytes (response_packet h no_error payload) → RunsWhole a h r old new m s
+whole-by a h r payload old new m s runs is =
+    record { framed = is ∙ ap (λ x. old ++ frame_bytes (response_packet h no_error x)) runs.reply; after = runs.after }
 
-pub appended-room : (start : ℕ) (old out payload : List ℕ) → start ≡ length old → out ≡ old ++ (headers_room ++ payload)
-    → IsBehindRoom start old (old ++ headers_room) out payload
-appended-room start old out payload is_start put =
-    let long : length (old ++ headers_room) ≡ length old + 38 = length-append old headers_room in
-    let is : out ≡ (old ++ headers_room) ++ payload = put ∙ sym (append_assoc old headers_room payload) in
-    record {
-      long = long;
-      is = is;
-      kept = ap (take start) put ∙ take_at old (headers_room ++ payload) start (sym is_start);
-      inside = omega (arith, ap length is, length-append (old ++ headers_room) payload, long, is_start);
-    }
+pub state-whole : (a : Asking) (h : AmsHeader) (m : PortMemory) (s : SessionState) (ads device : ℕ) (payload old new : List ℕ) → AsksSession a m s
+    → ads ≡ m.bytes.ads → device ≡ m.bytes.device → ads < 2 ^ 16 → device < 2 ^ 16
+    → payload ≡ to_le_bytes w32 0 ++ (to_le_bytes w16 ads ++ to_le_bytes w16 device)
+    → new ≡ old ++ frame_bytes (response_packet h no_error payload) → RunsWhole a h format.ReadState old new m s
+state-whole a h m s ads device payload old new asks is is' fits fits' written is_new =
+    whole-by a h format.ReadState payload old new m s
+    (state-runs a m s ads device [] payload asks is is' fits fits' (written ∙ sym (state-written ads device))) is_new
 
-pub filled-room : (start : ℕ) (old mid out payload : List ℕ) → start ≡ length old → length mid ≡ length old + 46 → take (length old) mid ≡ old
-    → out ≡ take (start + 38) mid ++ payload → IsBehindRoom start old (take (start + 38) mid) out payload
-filled-room start old mid out payload is_start all begins is =
-    let room = take (start + 38) mid in
-    let count : length room ≡ start + 38 = length-take-le (start + 38) mid (omega (arith, all, is_start)) in
-    let within : length old ≤ start + 38 = omega (arith, is_start) in
-    let front : take (length old) room ≡ old = take-take (length old) (start + 38) mid within ∙ begins in
-    record {
-      long = omega (arith, count, is_start);
-      is = is;
-      kept = kept-within old room out start is_start (omega (arith, count, is_start)) front (Extends-append room room payload out (Extends-same room room refl) is);
-      inside = omega (arith, ap length is, length-append room payload, count);
-    }
-
-pub state-whole : (a : Asking) (h : AmsHeader) (m : PortMemory) (s : SessionState) (ads device start : ℕ) (old out new : List ℕ) → AsksSession a m s
-    → ads ≡ m.bytes.ads → device ≡ m.bytes.device → ads < 2 ^ 16 → device < 2 ^ 16 → start ≡ length old
-    → out ≡ old ++ (headers_room ++ (to_le_bytes w32 0 ++ (to_le_bytes w16 ads ++ to_le_bytes w16 device)))
-    → new ≡ take start out ++ frame_bytes (response_packet h no_error (drop (start + 38) out)) → RunsWhole a h format.ReadState old new m s
-state-whole a h m s ads device start old out new asks is is' fits fits' is_start put is_new =
-    let behind = appended-room start old out _ is_start put in
-    let room = old ++ headers_room in
-    whole-of a h format.ReadState start old room out new m s
-    (state-runs a m s ads device room out asks is is' fits fits' (behind.is ∙ ap (λ x. room ++ x) (sym (state-written ads device))))
-    is_start behind.long behind.kept is_new
-
-pub write-whole : (a : Asking) (h : AmsHeader) (r : format.Request) (group offset n start : ℕ) (bytes : List ℕ) (answer : Result (Unit {0}) Code)
-    (m m' : PortMemory) (s s' : SessionState) (old out new : List ℕ) → AsksSession a m s → format.Write group offset bytes ≡ r
-    → EndsAct a (act_asked a (format.Write group offset bytes)) answer m' s'.handles → s'.watches ≡ s.watches → n ≡ code_in answer → start ≡ length old
-    → out ≡ old ++ (headers_room ++ to_le_bytes w32 n)
-    → new ≡ take start out ++ frame_bytes (response_packet h no_error (drop (start + 38) out))
-    → RunsWhole a h r old new m' s'
-write-whole a h r group offset n start bytes answer m m' s s' old out new asks meant ends watches is is_start put is_new =
-    let behind = appended-room start old out _ is_start put in
-    let room = old ++ headers_room in
+pub write-whole : (a : Asking) (h : AmsHeader) (r : format.Request) (group offset n : ℕ) (bytes : List ℕ) (answer : Result (Unit {0}) Code)
+    (m m' : PortMemory) (s s' : SessionState) (payload old new : List ℕ) → AsksSession a m s → format.Write group offset bytes ≡ r
+    → EndsAct a (act_asked a (format.Write group offset bytes)) answer m' s'.handles → s'.watches ≡ s.watches → n ≡ code_in answer
+    → payload ≡ to_le_bytes w32 n → new ≡ old ++ frame_bytes (response_packet h no_error payload) → RunsWhole a h r old new m' s'
+write-whole a h r group offset n bytes answer m m' s s' payload old new asks meant ends watches is written is_new =
     let R : format.Request → Type 0 = λ x. RunsWhole a h x old new m' s' in
-    subst R meant (whole-of a h (format.Write group offset bytes) start old room out new m' s'
-    (write-runs a group offset n bytes answer m m' s s' room out asks ends watches is (behind.is ∙ ap (λ x. room ++ x) (sym (write-written n))))
-    is_start behind.long behind.kept is_new)
+    subst R meant (whole-by a h (format.Write group offset bytes) payload old new m' s'
+    (write-runs a group offset n bytes answer m m' s s' [] payload asks ends watches is (written ∙ sym (write-written n))) is_new)
 
--- a payload that was filled into room from a place on
-pub filled-at : (start front : ℕ) (old mid out payload : List ℕ) → start ≡ length old → length mid ≡ length old + 46 → take (length old) mid ≡ old
-    → front ≡ length mid → out ≡ take (front - 8) mid ++ payload → IsBehindRoom start old (take (start + 38) mid) out payload
-filled-at start front old mid out payload is_start all begins is_front is =
-    let place : front - 8 ≡ start + 38 = omega (arith, all, is_start, is_front) in
-    filled-room start old mid out payload is_start all begins (is ∙ ap (λ n. take n mid ++ payload) place)
+-- a Read whose payload stands behind room for headers
+pub read-behind : (a : Asking) (group offset len start : ℕ) (old room out : List ℕ) → start ≡ length old → length room ≡ length old + 38
+    → take (length old) room ≡ old → out ≡ room ++ reply_payload 2 (outcome_asked a (format.Read group offset len))
+    → (take start out ≡ old) × (start + 38 ≤ length out)
+read-behind a group offset len start old room out is_start long begins is =
+    let more = Extends-append room room (reply_payload 2 (outcome_asked a (format.Read group offset len))) out (Extends-same room room refl) is in
+    (kept-front old room out start is_start long begins more, omega (arith, is_start, long, more.longer))
 
-pub read-whole : (a : Asking) (h : AmsHeader) (r : format.Request) (group offset len start front : ℕ) (m : PortMemory) (s : SessionState) (old mid out new : List ℕ)
-    → AsksSession a m s → format.Read group offset len ≡ r → start ≡ length old → length mid ≡ length old + 46 → take (length old) mid ≡ old
-    → front ≡ length mid → out ≡ take (front - 8) mid ++ reply_payload 2 (outcome_asked a (format.Read group offset len))
+pub read-whole : (a : Asking) (h : AmsHeader) (r : format.Request) (group offset len start : ℕ) (m : PortMemory) (s : SessionState) (old room out new : List ℕ)
+    → AsksSession a m s → format.Read group offset len ≡ r → start ≡ length old → length room ≡ length old + 38 → take (length old) room ≡ old
+    → out ≡ room ++ reply_payload 2 (outcome_asked a (format.Read group offset len))
     → new ≡ take start out ++ frame_bytes (response_packet h no_error (drop (start + 38) out)) → RunsWhole a h r old new m s
-read-whole a h r group offset len start front m s old mid out new asks meant is_start all begins is_front is is_new =
-    let behind = filled-at start front old mid out _ is_start all begins is_front is in
+read-whole a h r group offset len start m s old room out new asks meant is_start long begins is is_new =
     let R : format.Request → Type 0 = λ x. RunsWhole a h x old new m s in
-    subst R meant (whole-of a h (format.Read group offset len) start old (take (start + 38) mid) out new m s
-    (read-runs a group offset len m s (take (start + 38) mid) out asks behind.is)
-    is_start behind.long behind.kept is_new)
+    subst R meant (whole-of a h (format.Read group offset len) start old room out new m s (read-runs a group offset len m s room out asks is)
+    is_start long (read-behind a group offset len start old room out is_start long begins is).0 is_new)
 
 -- what comes of a plain packet whose port is there
 pub plain-takes : (ams net : List ℕ) (admitted : Admitted) (p : PlainPacket) (ports : PortsMemory) (m m' : PortMemory) (s s' : SessionState) (old new : List ℕ)

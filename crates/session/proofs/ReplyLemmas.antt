@@ -16,11 +16,8 @@ use Rattle.spec_machine.specs.Answers.{READ, READ_WRITE}
 use Rattle.spec_machine.specs.Replies.{reply_payload, reply_in_forms}
 use Rattle.sum_commands.specs.Parts.{code_in}
 use Rattle.port_device.specs.Answers.{AnswersAct}
+use Rattle.session.specs.Plain.{data_payload}
 use Rattle.session.proofs.SingleLemmas.{gives-answer}
-
--- the payload of whole, of the length that it has
-abbrev pub data_payload : ℕ → List ℕ → List ℕ
-data_payload code bytes = to_le_bytes w32 code ++ (to_le_bytes w32 (length bytes) ++ bytes)
 
 pub filled-front : (out f1 f2 number le : List ℕ) (start len code : ℕ) → start + 8 ≤ length out → len ≡ length out - (start + 8)
     → number ≡ to_le_bytes w32 code → le ≡ to_le_bytes w32 len

@@ -35,7 +35,8 @@ use Rattle.session.specs.Single.{SumState, IsSingle, StillLent, MayLeave, part_o
 use Rattle.sum_commands.specs.Served.{StandsForSome}
 use Rattle.type_layout.specs.Descriptions.{rights_of}
 use Rattle.ads_base.specs.declared.no_memory.NoMemory.{NoMemory}
-use Rattle.session.proofs.ReplyLemmas.{data_payload, data-filled, read_write-payload}
+use Rattle.session.specs.Plain.{data_payload}
+use Rattle.session.proofs.ReplyLemmas.{data-filled, read_write-payload}
 
 -- the acts of parts, each on what those before it left
 abbrev pub acts_asked : Asking → List Request → List Act

@@ -34,7 +34,7 @@ looked-by a m kept number handle answer asks is looked =
     let P : ℕ → Type 0 = λ n. LooksUp a.world.plant.ports n (kept_status a.client.handles handle n) answer in
     subst P same (looked a.world.plant.ports a.client.handles asks.handles)
 
-read-live : (w : World) (p : PlantPort) (m : PortMemory) (place : Place) (len : ℕ)
+pub read-live : (w : World) (p : PlantPort) (m : PortMemory) (place : Place) (len : ℕ)
     (s : HandleStatus client.Place) (answer : Result (Unit {0}) Code) (old new : List ℕ)
     → HoldsPort w p m → LooksUp w.plant.ports p.number s (Ok place)
     → ((v : World) (q : PlantPort) (named : client.Place) → HoldsPort v q m

@@ -207,9 +207,9 @@ watched_by_value a group handle len answer value is =
     (sym (reach_of_value a.client a.asker.port (group_of group) handle len value)) is
 
 -- the place lies in its area
-record LiesInArea (p : PlantPort) (place : Place) (named : client.Place) : Type 0 where
-  ends : place.«at» + place.len ≤ size_in p.sizes (area_of place.area)
-  long : place.len ≡ named.len
+pub record LiesInArea (p : PlantPort) (place : Place) (named : client.Place) : Type 0 where
+  pub ends : place.«at» + place.len ≤ size_in p.sizes (area_of place.area)
+  pub long : place.len ≡ named.len
 
 place_in_area : (p : PlantPort) (ports : List PlantPort) (place : Place) (named : client.Place) → IsSoundPort ports p
     → is_place_at named (numbered place) p ≡ true → LiesInArea p place named
@@ -236,7 +236,7 @@ place_in_area p ports place named sound is = at_symbol (slice_get p.symbols plac
         subst (λ area. s.offset + symbol_size s ≤ size_in p.sizes area) (sym same) symbol.within in
         record { ends = omega (arith, begins, long, ends, within); long = long }
 
-live_in_area : (w : World) (p : PlantPort) (m : PortMemory) (place : Place) (named : client.Place) → HoldsPort w p m
+pub live_in_area : (w : World) (p : PlantPort) (m : PortMemory) (place : Place) (named : client.Place) → HoldsPort w p m
     → is_place_of w.plant.ports p.number named place ≡ true → LiesInArea p place named
 live_in_area w p m place named held is =
     let at_port : is_place_at named (numbered place) p ≡ true =

@@ -1,8 +1,8 @@
 -- Plain packets: a Read, a Write or a ReadState that passes the checks of its header. No public clause cites this file.
-use Rattle.std.specs.Prelude.{◌≡◌, ℕ, ◌≤◌, List, ◌++◌, length, drop, replicate, true, bytes_eq, Some, Option}
+use Rattle.std.specs.Prelude.{◌≡◌, ℕ, ◌+◌, ◌≤◌, List, ◌∷◌, ◌++◌, length, drop, true, bytes_eq, Some, Option}
 use Rattle.std.specs.Int.{w16, w32, to_le_bytes}
 use Rattle.spec_formats.specs.Codes.{no_error}
-use Rattle.spec_formats.specs.Header.{AmsHeader, header_of, payload_of, request_flags, response_flags}
+use Rattle.spec_formats.specs.Header.{AmsHeader, header_bytes, header_of, payload_of, request_flags, response_flags, response_header}
 use Rattle.spec_formats.specs.Numbers.{number32}
 use Rattle.spec_formats.specs.Request.{Request, Read, Write, ReadState, command_of, request_of}
 use Rattle.spec_frames.specs.Frame.{frame_bytes}
@@ -64,9 +64,17 @@ pub record IsPlain (ams net : List ℕ) (admitted : Admitted) (p : PlainPacket) 
 abbrev pub answer_fields : ℕ → ℕ → ℕ → List ℕ
 answer_fields command len id = to_le_bytes w16 command ++ to_le_bytes w16 response_flags ++ to_le_bytes w32 len ++ to_le_bytes w32 no_error ++ to_le_bytes w32 id
 
--- room for the headers of a frame
-abbrev pub headers_room : List ℕ
-headers_room = replicate 38 0
+-- what stands in front of an AMS packet of so many bytes: reserved 2, length 4
+abbrev pub frame_front : ℕ → List ℕ
+frame_front len = 0 ∷ 0 ∷ to_le_bytes w32 len
+
+-- both headers of an answer without an AMS error, whose payload has so many bytes
+abbrev pub answer_headers : AmsHeader → ℕ → List ℕ
+answer_headers h len = frame_front (len + 32) ++ header_bytes (response_header h no_error len)
+
+-- the payload of the reply to a Read or a ReadWrite: result 4, length 4, data
+abbrev pub data_payload : ℕ → List ℕ → List ℕ
+data_payload code bytes = to_le_bytes w32 code ++ (to_le_bytes w32 (length bytes) ++ bytes)
 
 -- the request of a packet with this header is run: the frame of its reply stands behind the old bytes, and what it leaves
 pub record RunsWhole (a : Asking) (h : AmsHeader) (r : Request) (old new : List ℕ) (port : PortMemory) (s : SessionState) : Type 0 where

@@ -1,20 +1,23 @@
 //! The frame of an answer to a Read that gives data.
 
-ghost use Rattle.std.specs.Prelude.{◌≡◌, ◌≤◌, ◌<◌, ◌^◌, ◌++◌, length, Some, OnOk, OnErr};
+ghost use Rattle.std.specs.Prelude.{◌≡◌, ◌≤◌, ◌<◌, ◌+◌, ◌^◌, ◌++◌, length, Some, OnOk, OnErr};
 ghost use Rattle.std.specs.Int.{w32, to_le_bytes};
+ghost use Rattle.ads_base.specs.Octets.{Extends};
 ghost use Rattle.spec_formats.specs.Codes.{no_error};
 ghost use Rattle.spec_formats.specs.Header.{AmsHeader, header_of};
 ghost use Rattle.spec_frames.specs.Frame.{frame_bytes};
 ghost use Rattle.spec_machine.specs.Replies.{response_packet};
 ghost use Rattle.session.specs.Answered.{AppendsFrame};
+ghost use Rattle.session.specs.Plain.{data_payload};
 
-use crate::framing::framed_for;
-use crate::replies::{FRONT, fill_front};
-use crate::room::put_front;
-use ads_base::{NoMemory, Octets};
+use crate::framing::{headers_for, put_answer};
+use crate::replies::FRONT;
+use crate::room::HEADERS;
+use ads_base::{NoMemory, Octets, get32, put32};
 use std::alloc::Global;
 
-/// Appends the frame of the answer to a packet whose Read gives these bytes: result 0, length 4, data.
+/// Appends the frame of the answer to a packet whose Read gives these bytes: result 0, length 4, data. Where its length does
+/// not fit 32 bits it finds no memory.
 #[inline(never)]
 pub(crate) fn put_data_frame(
     alloc: Global,
@@ -23,39 +26,56 @@ pub(crate) fn put_data_frame(
     out: &mut Octets,
 ) -> Result<(), NoMemory>
     requires long { 32 ≤ length ams.now }
-    requires short { length bytes.now < 2 ^ 32 }
-    ensures frame { OnOk result ((h : AmsHeader) → header_of ams.now ≡ Some h → out.new ≡ out.old ++ frame_bytes (response_packet h no_error
-        (to_le_bytes w32 no_error ++ (to_le_bytes w32 (length bytes.now) ++ bytes.now)))) }
+    ensures frame { OnOk result ((h : AmsHeader) → header_of ams.now ≡ Some h
+        → out.new ≡ out.old ++ frame_bytes (response_packet h no_error (data_payload no_error bytes.now))) }
     ensures appends { OnOk result (AppendsFrame out.old out.new) }
     ensures no_memory { OnErr result (out.new ≡ out.old) }
 {
-    let start = out.len();
-    put_front(alloc, out)?;
-    let front = out.len() - FRONT;
-    match put_field(alloc, out, bytes) {
-        Ok(()) => {
-            fill_front(out, front, 0);
-            framed_for(ams, start, out)
-        }
-        Err(no_memory) => {
-            out.cut(start);
-            Err(no_memory)
-        }
+    // Most fields have four bytes: such a frame is moved in a few steps and with no call.
+    if bytes.len() == 4 {
+        return put_answer(alloc, ams, &field_payload(get32(bytes, 0)), out);
     }
+    put_long_frame(alloc, ams, bytes, out)
 }
 
-// Appends bytes. Those of a field of four bytes, as most are, are moved in one step and with no call.
+// The payload that has a field of four bytes, which are a number.
 #[inline(always)]
-fn put_field(alloc: Global, out: &mut Octets, bytes: &[u8]) -> Result<(), NoMemory>
-    ensures ok { OnOk result (out.new ≡ out.old ++ bytes.now) }
+fn field_payload(field: u32) -> [u8; 12]
+    ensures { result ≡ data_payload no_error (to_le_bytes w32 field) }
+{
+    let [a, b, c, d] = field.to_le_bytes();
+    [0, 0, 0, 0, 4, 0, 0, 0, a, b, c, d]
+}
+
+// The same for bytes of any length.
+#[inline(never)]
+fn put_long_frame(alloc: Global, ams: &[u8], bytes: &[u8], out: &mut Octets) -> Result<(), NoMemory>
+    requires long { 32 ≤ length ams.now }
+    ensures frame { OnOk result ((h : AmsHeader) → header_of ams.now ≡ Some h
+        → out.new ≡ out.old ++ frame_bytes (response_packet h no_error (data_payload no_error bytes.now))) }
+    ensures appends { OnOk result (AppendsFrame out.old out.new) }
     ensures no_memory { OnErr result (out.new ≡ out.old) }
 {
-    match bytes.as_array::<4>() {
-        Some(four) => {
-            // Copied first, so that nothing tests whether they lie in the room.
-            let copied = *four;
-            out.put_array(alloc, &copied)
-        }
-        None => out.put(alloc, bytes),
+    if bytes.len() >= u32::MAX as usize - HEADERS - FRONT {
+        return Err(NoMemory);
     }
+    let before = out.len();
+    let put = append_parts(alloc, ams, bytes, out);
+    out.cut_back(before, put)
+}
+
+// After an error a part of the frame may stand there.
+fn append_parts(alloc: Global, ams: &[u8], bytes: &[u8], out: &mut Octets) -> Result<(), NoMemory>
+    requires long { 32 ≤ length ams.now }
+    requires short { length bytes.now + 46 < 2 ^ 32 }
+    ensures frame { OnOk result ((h : AmsHeader) → header_of ams.now ≡ Some h
+        → out.new ≡ out.old ++ frame_bytes (response_packet h no_error (data_payload no_error bytes.now))) }
+    ensures appends { OnOk result (AppendsFrame out.old out.new) }
+    ensures no_memory { OnErr result (Extends out.old out.new) }
+{
+    let len = bytes.len() as u32;
+    out.put_array(alloc, &headers_for(ams, len + FRONT as u32))?;
+    put32(alloc, out, 0)?;
+    put32(alloc, out, len)?;
+    out.put(alloc, bytes)
 }

@@ -6,12 +6,14 @@ ghost use Rattle.spec_formats.specs.Header.{AmsHeader, header_of};
 ghost use Rattle.spec_frames.specs.Frame.{frame_bytes};
 ghost use Rattle.spec_machine.specs.Replies.{response_packet};
 ghost use Rattle.ams_header.specs.Header.{ams_header_of};
-ghost use Rattle.session.specs.Plain.{answer_fields};
+ghost use Rattle.std.specs.Int.{w64, to_le_bytes};
+ghost use Rattle.session.specs.Plain.{answer_fields, answer_headers, frame_front};
 ghost use Rattle.session.specs.Answered.{AppendsFrame};
 
 use crate::room::{FRAME_HEADER, HEADERS, write_at};
-use ads_base::{NoMemory, Octets, get16, get32};
+use ads_base::{NoMemory, Octets, get16, get32, get64};
 use ams_header::{AMS_HEADER, Header, answer_of, put};
+use std::alloc::Global;
 
 /// Fills in the headers of an answer, whose room starts at a place, in front of its payload. A frame whose length does not
 /// fit 32 bits finds no memory and is cut off, and every other frame is given.
@@ -32,23 +34,64 @@ pub(crate) fn framed(h: &Header, error: u32, start: usize, out: &mut Octets) -> 
     Ok(())
 }
 
-/// The same for the answer to a packet without an AMS error, whose header is read where it is needed.
+/// Appends the frame of the answer to a packet, without an AMS error, whose payload is an array.
 #[inline(always)]
-pub(crate) fn framed_for(ams: &[u8], start: usize, out: &mut Octets) -> Result<(), NoMemory>
+pub(crate) fn put_answer<const N: usize>(
+    alloc: Global,
+    ams: &[u8],
+    payload: &[u8; N],
+    out: &mut Octets,
+) -> Result<(), NoMemory>
     requires long { 32 ≤ length ams.now }
-    requires room { start + 38 ≤ length out.old }
-    ensures frame { OnOk result ((h : AmsHeader) → header_of ams.now ≡ Some h → out.new
-        ≡ take start out.old ++ frame_bytes (response_packet h no_error (drop (start + 38) out.old))) }
-    ensures fits { OnOk result ((start + 38 ≤ length out.new) × (length out.new < start + 2 ^ 32)) }
-    ensures cut { OnErr result (out.new ≡ take start out.old) }
-    ensures appends { OnOk result (AppendsFrame (take start out.old) out.new) }
+    requires short { length payload.now ≤ 255 }
+    ensures frame { OnOk result ((h : AmsHeader) → header_of ams.now ≡ Some h
+        → out.new ≡ out.old ++ frame_bytes (response_packet h no_error payload.now)) }
+    ensures appends { OnOk result (AppendsFrame out.old out.new) }
+    ensures no_memory { OnErr result (out.new ≡ out.old) }
 {
-    if is_too_long(out, start) {
-        out.cut(start);
-        return Err(NoMemory);
+    let start = out.len();
+    out.put_array(alloc, &headers_for(ams, payload.len() as u32))?;
+    match out.put_array(alloc, payload) {
+        Ok(()) => Ok(()),
+        Err(no_memory) => {
+            out.cut(start);
+            Err(no_memory)
+        }
     }
-    fill_headers_for(ams, start, out);
-    Ok(())
+}
+
+/// The headers of the answer to a packet, without an AMS error, in front of so many bytes.
+#[inline(always)]
+pub(crate) fn headers_for(ams: &[u8], len: u32) -> [u8; HEADERS]
+    requires long { 32 ≤ length ams.now }
+    requires short { len + 38 < 2 ^ 32 }
+    ensures { (h : AmsHeader) → header_of ams.now ≡ Some h → result ≡ answer_headers h len }
+{
+    headers_of(
+        len,
+        get64(ams, 8),
+        get64(ams, 0),
+        get16(ams, 16),
+        get32(ams, 28),
+    )
+}
+
+// The same of the addresses as numbers, the command and the invoke id. Each number is moved in one step.
+#[inline(always)]
+fn headers_of(len: u32, source: u64, target: u64, command: u16, id: u32) -> [u8; HEADERS]
+    requires { len + 38 < 2 ^ 32 }
+    ensures { result ≡ frame_front (len + 32) ++ ((to_le_bytes w64 source ++ to_le_bytes w64 target) ++ answer_fields command len id) }
+{
+    let [f0, f1, f2, f3] = (len + 32).to_le_bytes();
+    let [s0, s1, s2, s3, s4, s5, s6, s7] = source.to_le_bytes();
+    let [t0, t1, t2, t3, t4, t5, t6, t7] = target.to_le_bytes();
+    let [c0, c1] = command.to_le_bytes();
+    let [l0, l1, l2, l3] = len.to_le_bytes();
+    let [i0, i1, i2, i3] = id.to_le_bytes();
+    [
+        0, 0, f0, f1, f2, f3, s0, s1, s2, s3, s4, s5, s6, s7, t0, t1, t2, t3, t4, t5, t6, t7, c0,
+        c1, 5, 0, l0, l1, l2, l3, 0, 0, 0, 0, i0, i1, i2, i3,
+    ]
 }
 
 // Whether the length of a frame does not fit 32 bits.
@@ -79,38 +122,4 @@ fn fill_headers(h: &Header, error: u32, start: usize, out: &mut Octets)
     let mut header = [0; AMS_HEADER];
     put(&answer_of(h, error, (total - HEADERS) as u32), &mut header);
     write_at(out, start + FRAME_HEADER, &header);
-}
-
-// The same for the answer to a packet, by the packet's own bytes: its addresses are exchanged.
-#[inline(always)]
-fn fill_headers_for(ams: &[u8], start: usize, out: &mut Octets)
-    requires long { 32 ≤ length ams.now }
-    requires room { start + 38 ≤ length out.old }
-    requires fits { length out.old < start + 2 ^ 32 }
-    ensures frame { (h : AmsHeader) → header_of ams.now ≡ Some h → out.new
-        ≡ take start out.old ++ frame_bytes (response_packet h no_error (drop (start + 38) out.old)) }
-    ensures len { length out.new ≡ length out.old }
-{
-    let total = out.len() - start;
-    let fields = fields_of(get16(ams, 16), (total - HEADERS) as u32, get32(ams, 28));
-    write_at(out, start, &[0, 0]);
-    write_at(
-        out,
-        start + 2,
-        &((total - FRAME_HEADER) as u32).to_le_bytes(),
-    );
-    write_at(out, start + FRAME_HEADER, &ams[8..16]);
-    write_at(out, start + FRAME_HEADER + 8, &ams[0..8]);
-    write_at(out, start + FRAME_HEADER + 16, &fields);
-}
-
-// What stands behind the addresses in the header of an answer without an AMS error.
-#[inline(always)]
-fn fields_of(command: u16, len: u32, id: u32) -> [u8; 16]
-    ensures { result ≡ answer_fields command len id }
-{
-    let [c0, c1] = command.to_le_bytes();
-    let [l0, l1, l2, l3] = len.to_le_bytes();
-    let [i0, i1, i2, i3] = id.to_le_bytes();
-    [c0, c1, 5, 0, l0, l1, l2, l3, 0, 0, 0, 0, i0, i1, i2, i3]
 }

@@ -1,6 +1,9 @@
 //! A single Read of a client at a port: one of a packet, or a part of a sum.
 
-ghost use Rattle.std.specs.Prelude.{◌≡◌, ◌+◌, ◌≤◌, ◌<◌, ◌^◌, [], length, Ok, IfOk, IfSome, OnOk, OnErr};
+ghost use Rattle.std.specs.Prelude.{◌≡◌, ◌+◌, ◌≤◌, [], length, true, Ok, IfOk, IfSome, OnOk, OnErr};
+ghost use Rattle.spec_formats.specs.GroupNumbers.{process_bytes};
+ghost use Rattle.spec_formats.specs.Groups.{group_of};
+ghost use Rattle.session.specs.HandleGroups as groups;
 ghost use Rattle.spec_formats.specs.Request.{Read};
 ghost use Rattle.port_device.specs.Answers.{AnswersAct};
 ghost use Rattle.session.specs.Asking.{Asking, act_asked, plain_asked, meant_in};
@@ -8,7 +11,7 @@ ghost use Rattle.sym_handles.specs.Kept.{Kept};
 ghost use Rattle.session.specs.Asks.{Asks, SomeAsks};
 
 use crate::groups::{is_device_data, is_value_by_handle};
-use crate::looking::read_value;
+use crate::looking::{look, read_value};
 use crate::meaning::read_len;
 use crate::requests::ReadRequest;
 use ads_base::{NoMemory, Octets};
@@ -47,20 +50,62 @@ pub(crate) fn read(
     read_meant(alloc, handles, port, ams_port, asked, out)
 }
 
-/// The bytes that a Read gives, where it is one of data that is not refused.
+/// The bytes that a Read gives, where it is one of data or of a value by its handle that is not refused or cut.
 #[inline(always)]
-pub(crate) fn data_asked<'a>(port: &'a Port, asked: &ReadRequest) -> Option<&'a [u8]>
-    ensures answer { IfSome result (λ bytes. (a : Asking) (kept : Kept) → Asks a port.now kept
+pub(crate) fn data_asked<'a>(
+    handles: &Handles,
+    port: &'a Port,
+    ams_port: u16,
+    asked: &ReadRequest,
+) -> Option<&'a [u8]>
+    requires some { SomeAsks port.now handles.now }
+    requires number { ams_port ≡ port.now.number }
+    ensures { IfSome result (λ bytes. (a : Asking) → Asks a port.now handles.now
         → AnswersAct a.world (act_asked a (Read asked.now.group asked.now.offset asked.now.len)) (Ok tt) [] bytes.now) }
-    ensures short { IfSome result (λ bytes. length bytes.now < 2 ^ 32) }
 {
-    if asked.group != PROCESS_BYTES {
-        return None;
+    if asked.group == PROCESS_BYTES {
+        return data_in(port, asked);
     }
+    if is_value_by_handle(asked.group) {
+        return value_in(handles, port, ams_port, asked);
+    }
+    None
+}
+
+// The same of data.
+#[inline(always)]
+fn data_in<'a>(port: &'a Port, asked: &ReadRequest) -> Option<&'a [u8]>
+    requires { asked.now.group ≡ process_bytes }
+    ensures { IfSome result (λ bytes. (a : Asking) (kept : Kept) → Asks a port.now kept
+        → AnswersAct a.world (act_asked a (Read asked.now.group asked.now.offset asked.now.len)) (Ok tt) [] bytes.now) }
+{
     match reach(port.sizes(), PROCESS_BYTES, asked.offset, asked.len) {
         Ok(Reach::Bytes { area, at, len }) => Some(port.lent(area, at, len)),
         _ => None,
     }
+}
+
+// The same of a value by its handle, which is the offset.
+#[inline(always)]
+fn value_in<'a>(
+    handles: &Handles,
+    port: &'a Port,
+    ams_port: u16,
+    asked: &ReadRequest,
+) -> Option<&'a [u8]>
+    requires some { SomeAsks port.now handles.now }
+    requires number { ams_port ≡ port.now.number }
+    requires group { groups.is_value_by_handle (group_of asked.now.group) ≡ true }
+    ensures { IfSome result (λ bytes. (a : Asking) → Asks a port.now handles.now
+        → AnswersAct a.world (act_asked a (Read asked.now.group asked.now.offset asked.now.len)) (Ok tt) [] bytes.now) }
+{
+    let Ok(place) = look(handles, ams_port, asked.offset) else {
+        return None;
+    };
+    if asked.len > place.len {
+        return None;
+    }
+    Some(port.lent(place.area, place.at, asked.len))
 }
 
 // The same of a group that every port has.

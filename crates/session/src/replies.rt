@@ -51,27 +51,6 @@ pub(crate) fn read_reply(
 {
     let start = out.len();
     put_room(alloc, out, FRONT)?;
-    read_filled(alloc, handles, port, ams_port, asked, start, out)
-}
-
-/// The same where there is room for result and length, from a place on.
-#[inline(always)]
-pub(crate) fn read_filled(
-    alloc: Global,
-    handles: &Handles,
-    port: &Port,
-    ams_port: u16,
-    asked: ReadRequest,
-    start: usize,
-    out: &mut Octets,
-) -> Result<(), NoMemory>
-    requires some { SomeAsks port.now handles.now }
-    requires number { ams_port ≡ port.now.number }
-    requires room { start + 8 ≡ length out.old }
-    ensures reply { OnOk result ((a : Asking) → Asks a port.now handles.now → out.new ≡ take start out.old
-        ++ reply_payload READ (outcome_asked a (Read asked.group asked.offset asked.len))) }
-    ensures no_memory { OnErr result (Extends out.old out.new) }
-{
     let answer = reading::read(alloc, handles, port, ams_port, &asked, out)?;
     fill_front(out, start, number_in(answer));
     Ok(())

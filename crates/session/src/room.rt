@@ -24,17 +24,6 @@ pub(crate) fn put_room(alloc: Global, out: &mut Octets, len: usize) -> Result<()
     Ok(())
 }
 
-/// Appends room for the headers of a frame, and for result and length behind them.
-#[inline(always)]
-pub(crate) fn put_front(alloc: Global, out: &mut Octets) -> Result<(), NoMemory>
-    ensures long { OnOk result (length out.new ≡ length out.old + 46) }
-    ensures begins { OnOk result (take (length out.old) out.new ≡ out.old) }
-    ensures no_memory { OnErr result (out.new ≡ out.old) }
-{
-    out.put_array(alloc, &[0; HEADERS + 8])?;
-    Ok(())
-}
-
 /// Writes the bytes over those that stand at a place.
 #[inline(always)]
 pub(crate) fn write_at(out: &mut Octets, at: usize, bytes: &[u8])

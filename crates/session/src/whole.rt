@@ -8,17 +8,17 @@ ghost use Rattle.port_device.specs.Endings.{KeepsDescription};
 ghost use Rattle.session.specs.Answered.{AppendsFrame};
 ghost use Rattle.session.specs.Asking.{Asking};
 ghost use Rattle.session.specs.Asks.{SomeAsks};
-ghost use Rattle.session.specs.Plain.{headers_room, plain_len, plain_meant, read_meant, write_meant};
+ghost use Rattle.session.specs.Plain.{plain_len, plain_meant, read_meant, write_meant};
 ghost use Rattle.type_layout.specs.Descriptions.{rights_of};
 
 use crate::asker::Asker;
 use crate::data_frame::put_data_frame;
-use crate::framing::framed_for;
+use crate::framing::{framed, put_answer};
 use crate::plain::{Plain, PlainPacket, payload_in};
 use crate::reading::data_asked;
-use crate::replies::{FRONT, number_in, read_filled};
+use crate::replies::{number_in, read_reply};
 use crate::requests::{ReadRequest, WriteRequest};
-use crate::room::put_front;
+use crate::room::{HEADERS, put_room};
 use crate::{Session, writing};
 use ads_base::{NoMemory, Octets, get32};
 use ams_header::header_in;
@@ -76,7 +76,8 @@ impl Session {
         ensures appends { OnOk result (AppendsFrame out.old out.new) }
         ensures no_memory { OnErr result (out.new ≡ out.old) }
     {
-        match data_asked(port, &read_in(payload_in(ams))) {
+        let ams_port = header_in(ams).target.port;
+        match data_asked(&self.handles, port, ams_port, &read_in(payload_in(ams))) {
             Some(bytes) => put_data_frame(alloc, ams, bytes, out),
             None => self.read_behind(alloc, port, ams, out),
         }
@@ -99,13 +100,12 @@ impl Session {
         ensures appends { OnOk result (AppendsFrame out.old out.new) }
         ensures no_memory { OnErr result (out.new ≡ out.old) }
     {
-        let ams_port = header_in(ams).target.port;
+        let h = header_in(ams);
         let asked = read_in(payload_in(ams));
         let start = out.len();
-        put_front(alloc, out)?;
-        let front = out.len() - FRONT;
-        match read_filled(alloc, &self.handles, port, ams_port, asked, front, out) {
-            Ok(()) => framed_for(ams, start, out),
+        put_room(alloc, out, HEADERS)?;
+        match read_reply(alloc, &self.handles, port, h.target.port, asked, out) {
+            Ok(()) => framed(&h, 0, start, out),
             Err(no_memory) => {
                 out.cut(start);
                 Err(no_memory)
@@ -141,9 +141,7 @@ impl Session {
         };
         let asked = write_in(payload_in(ams));
         let answer = writing::write(&mut self.handles, port, asker, &asked);
-        let start = out.len();
-        out.put_array(alloc, &room_before_code(number_in(answer)))?;
-        framed_for(ams, start, out)
+        put_answer(alloc, ams, &number_in(answer).to_le_bytes(), out)
     }
 
     #[inline(never)]
@@ -161,9 +159,7 @@ impl Session {
         ensures no_memory { OnErr result (out.new ≡ out.old) }
     {
         let (ads, device) = port.state();
-        let start = out.len();
-        out.put_array(alloc, &room_before_state(ads, device))?;
-        framed_for(ams, start, out)
+        put_answer(alloc, ams, &state_payload(ads, device), out)
     }
 }
 
@@ -189,27 +185,12 @@ fn write_in(payload: &[u8]) -> WriteRequest<'_>
     WriteRequest::new(get32(payload, 0), get32(payload, 4), &payload[12..])
 }
 
-// Room for the headers of a frame in front of a result.
+// The payload of the reply to a ReadState: result 4, ADS state 2, device state 2.
 #[inline(always)]
-fn room_before_code(number: u32) -> [u8; 42]
-    ensures { result ≡ headers_room ++ to_le_bytes w32 number }
-{
-    let [a, b, c, d] = number.to_le_bytes();
-    [
-        0, 0, 0, 0, 0, 0, 0, 0, 0, 0, 0, 0, 0, 0, 0, 0, 0, 0, 0, 0, 0, 0, 0, 0, 0, 0, 0, 0, 0, 0,
-        0, 0, 0, 0, 0, 0, 0, 0, a, b, c, d,
-    ]
-}
-
-// The same in front of a result of 0 and two state words.
-#[inline(always)]
-fn room_before_state(ads: u16, device: u16) -> [u8; 46]
-    ensures { result ≡ headers_room ++ (to_le_bytes w32 0 ++ (to_le_bytes w16 ads ++ to_le_bytes w16 device)) }
+fn state_payload(ads: u16, device: u16) -> [u8; 8]
+    ensures { result ≡ to_le_bytes w32 0 ++ (to_le_bytes w16 ads ++ to_le_bytes w16 device) }
 {
     let [a, b] = ads.to_le_bytes();
     let [c, d] = device.to_le_bytes();
-    [
-        0, 0, 0, 0, 0, 0, 0, 0, 0, 0, 0, 0, 0, 0, 0, 0, 0, 0, 0, 0, 0, 0, 0, 0, 0, 0, 0, 0, 0, 0,
-        0, 0, 0, 0, 0, 0, 0, 0, 0, 0, 0, 0, a, b, c, d,
-    ]
+    [0, 0, 0, 0, a, b, c, d]
 }
