@@ -34,13 +34,13 @@ PAGE, GUARANTEES = ROOT / "docs/BELIEVED.md", ROOT / "docs/GUARANTEES.md"
 PARTS = (
     ("The server", "What `serve` promises: first what a plant is, and the bytes on the wire (`spec_formats`, to be read beside the Beckhoff Information "
      "System); then which descriptions are accepted (`spec_rules`), the written server (`spec_machine`), its laws and promises, and how a run goes and ends.",
-     ("crates/file_run/src/serve_file.rt:serve",)),
-    ("The relay", "What `relay` promises over a wire.", ("crates/file_run/src/relay_serve.rt:serve_relay",)),
+     ("crates/plant_commands/src/serve_file.rt:serve",)),
+    ("The relay", "What `relay` promises over a wire.", ("crates/plant_commands/src/relay_serve.rt:serve_relay",)),
     ("Scripts", "How a script is read, and the text of its play.",
      ("crates/spec_server/specs/Server.antt:server_script", "crates/spec_server/specs/Server.antt:server_text")),
-    ("Stores", "What `keep` promises: a file of kept values, a disk, and what a stop of the machine may leave.", ("crates/file_run/src/keep_file.rt:keep",)),
+    ("Stores", "What `keep` promises: a file of kept values, a disk, and what a stop of the machine may leave.", ("crates/plant_commands/src/keep_file.rt:keep",)),
     ("Clients", "What `get`, `set`, `watch`, `record` and the others ask, print and end with; a link, and a table of samples.",
-     ("crates/call_run/src/asking.rt:ask", "crates/call_run/src/recording.rt:record")),
+     ("crates/client_commands/src/asking.rt:ask", "crates/client_commands/src/recording.rt:record")),
     ("The daemon", "What a run of `adsd` promises, with a store or without one.",
      ("crates/daemon_run/src/plant.rt:run_plant", "crates/daemon_run/src/plant_watched.rt:run_watched")),
     ("The command line", "What `run` promises: which words are a command, and what each comes to.", ("crates/ads_run/src/top_call.rt:run",)),

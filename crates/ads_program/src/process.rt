@@ -5,7 +5,7 @@ ghost use Rattle.std.specs.Process.{exit_status};
 ghost use Rattle.ads_outside.specs.Rose.{Rose};
 ghost use Rattle.ads_program.specs.declared.real_outside.RealOutside.{RealOutside as OutsideOf};
 ghost use Rattle.ads_program.specs.EndedSo.{EndedSo};
-ghost use Rattle.call_run.specs.CallUses.{keeper_used, link_used};
+ghost use Rattle.client_commands.specs.CallUses.{keeper_used, link_used};
 ghost use Rattle.run_tasks.specs.Ending.{line_alone};
 ghost use Rattle.run_tasks.specs.Prints.{PrintsEnding, PutsMemoryLine};
 ghost use Rattle.ads_run.specs.Program.{words_behind_name};

@@ -15,11 +15,11 @@ use Rattle.client_replies.specs.Stages.{end_meant}
 use Rattle.run_tasks.specs.declared.status.Status.{Status}
 use Rattle.run_tasks.specs.declared.status.Status.TheVariants as status
 use Rattle.run_tasks.specs.Asking.{LocalCalling}
-use Rattle.call_run.specs.Calling.{EndsCall, AfterLocal, EndsLocalCall, LocalTalks, PrintsAnswer, status_of_call, status_of_loop}
+use Rattle.client_commands.specs.Calling.{EndsCall, AfterLocal, EndsLocalCall, LocalTalks, PrintsAnswer, status_of_call, status_of_loop}
 use Rattle.ads_run.proofs.Causes.{CauseOfCall, IsEndOfCall, IsEndOfLocal, IsLocalEnd}
 use Rattle.run_tasks.specs.Ending.{Ending, line_alone}
 use Rattle.run_tasks.specs.Prints.{PrintsEnding}
-use Rattle.call_run.specs.CallUses.{LinkUse}
+use Rattle.client_commands.specs.CallUses.{LinkUse}
 use Rattle.run_tasks.proofs.ReadingLemmas.{rose_from}
 
 -- what the end of a call says, whose causes are these

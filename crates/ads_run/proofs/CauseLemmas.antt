@@ -37,14 +37,14 @@ use Rattle.ads_run.proofs.Causes.{CauseOfRecord, CauseOfAsking, CauseOfKeeping, 
 use Rattle.run_tasks.specs.Ending.{Ending, line_alone}
 use Rattle.ads_run.specs.Ends.{RunsSo, RunsBy}
 use Rattle.run_tasks.specs.KeepAsked.{Keeping, keeping}
-use Rattle.file_run.specs.Keeping.{EndsKeeping, PrintsKept, kept_ending}
+use Rattle.plant_commands.specs.Keeping.{EndsKeeping, PrintsKept, kept_ending}
 use Rattle.run_tasks.specs.Prints.{PrintsEnding}
 use Rattle.run_tasks.specs.Readings.{OverFiles}
 use Rattle.run_tasks.specs.Service.{Service, ServedMachine, OfRelay, server_with, ending_after}
-use Rattle.file_run.specs.Serving.{MakesMoves, PrintsAt, EndsService}
+use Rattle.plant_commands.specs.Serving.{MakesMoves, PrintsAt, EndsService}
 use Rattle.run_tasks.specs.RecordAsked.{recording_to, local_recording}
 use Rattle.ads_run.proofs.RecordCauses.{CauseOfLocalRecording}
-use Rattle.call_run.specs.CallUses.{KeeperUse}
+use Rattle.client_commands.specs.CallUses.{KeeperUse}
 use Rattle.ads_run.specs.Uses.{Uses}
 use Rattle.run_tasks.specs.Verdict.{verdict_of_recorded, verdict_of_recorded_text, verdict_of_record, Verdict, ended, prints, over_store}
 use Rattle.run_tasks.specs.Verdict.{verdict_of_file, verdict_of_served, verdict_of_service, verdict_of_task, verdict_of_called, verdict_of_local}

@@ -20,10 +20,10 @@ use Rattle.run_tasks.specs.declared.status.Status.TheVariants as status
 use Rattle.run_tasks.specs.declared.task.Task.{Task}
 use Rattle.run_tasks.specs.declared.task.Task.TheVariants as task
 use Rattle.run_tasks.specs.Asking.{LocalCalling, call_asked, own_address, asked_address}
-use Rattle.call_run.specs.Calling.{status_of_loop, local_conversation}
+use Rattle.client_commands.specs.Calling.{status_of_loop, local_conversation}
 use Rattle.run_tasks.specs.RecordAsked.{recording_to}
 use Rattle.ads_run.proofs.RecordCauses.{CauseOfRecording, CauseOfLocalRecording, IsEndOfRecording, IsEndOfLocalRecording, IsFull}
-use Rattle.call_run.specs.CallUses.{KeeperUse}
+use Rattle.client_commands.specs.CallUses.{KeeperUse}
 use Rattle.ads_run.specs.Uses.{Uses}
 use Rattle.run_tasks.specs.Verdict.{Verdict, Ends, Serves, Calls, CallsLocally, Keeps, Records, RecordsLocally}
 

@@ -17,11 +17,11 @@ use Rattle.ads_run.proofs.Causes.{IsOwnEnd, NothingFailed}
 use Rattle.run_tasks.specs.Ending.{Ending, line_alone}
 use Rattle.ads_run.specs.Ends.{RunsSo, RunsBy}
 use Rattle.run_tasks.specs.KeepAsked.{Keeping}
-use Rattle.file_run.specs.Keeping.{EndsKeeping, PrintsKept, kept_ending}
+use Rattle.plant_commands.specs.Keeping.{EndsKeeping, PrintsKept, kept_ending}
 use Rattle.run_tasks.specs.Prints.{PrintsEnding}
 use Rattle.run_tasks.specs.Readings.{OverFiles}
 use Rattle.run_tasks.specs.Service.{Service, ending_after}
-use Rattle.file_run.specs.Serving.{MakesMoves, PrintsAt, EndsService}
+use Rattle.plant_commands.specs.Serving.{MakesMoves, PrintsAt, EndsService}
 use Rattle.ads_run.specs.Uses.{DiskUse, Uses}
 use Rattle.run_tasks.specs.Verdict.{Verdict, Ends, Serves, Calls, CallsLocally, Keeps, Records, RecordsLocally}
 use Rattle.ads_run.proofs.CallCauseLemmas.{own_call, own_local}

@@ -23,12 +23,12 @@ use Rattle.sample_store.specs.declared.keeper_open.KeeperOpen.TheVariants as ope
 use Rattle.sample_store.specs.Keeper.{KeeperState, Counts}
 use Rattle.run_tasks.specs.declared.status.Status.{Status}
 use Rattle.run_tasks.specs.declared.status.Status.TheVariants as status
-use Rattle.call_run.specs.Calling.{status_of_call, status_of_loop}
+use Rattle.client_commands.specs.Calling.{status_of_call, status_of_loop}
 use Rattle.run_tasks.specs.Ending.{line_alone}
 use Rattle.run_tasks.specs.Prints.{PrintsEnding}
-use Rattle.call_run.specs.Recording.{MOST_ROWS, PrintsRecorded, EndsRecorded, EndsRecording, LeavesLink, BehindOpening}
+use Rattle.client_commands.specs.Recording.{MOST_ROWS, PrintsRecorded, EndsRecorded, EndsRecording, LeavesLink, BehindOpening}
 use Rattle.ads_run.proofs.RecordCauses.{CauseOfRecording, IsEndOfRecording, IsFull}
-use Rattle.call_run.specs.CallUses.{LinkUse, KeeperUse}
+use Rattle.client_commands.specs.CallUses.{LinkUse, KeeperUse}
 use Rattle.ads_run.proofs.CallCauseLemmas.{CallFacts, told_facts, wanting_facts, unwritten_facts, no_writing, no_usage, told_own, not_unwritten}
 use Rattle.run_tasks.proofs.ReadingLemmas.{rose_from}
 

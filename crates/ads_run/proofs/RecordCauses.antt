@@ -13,8 +13,8 @@ use Rattle.sample_store.specs.Keeper.{KeeperState, Counts}
 use Rattle.run_tasks.specs.declared.status.Status.{Status}
 use Rattle.run_tasks.specs.declared.status.Status.TheVariants as status
 use Rattle.run_tasks.specs.Asking.{LocalCalling}
-use Rattle.call_run.specs.Calling.{status_of_loop, local_conversation}
-use Rattle.call_run.specs.Recording.{MOST_ROWS}
+use Rattle.client_commands.specs.Calling.{status_of_loop, local_conversation}
+use Rattle.client_commands.specs.Recording.{MOST_ROWS}
 
 -- the table has so many rows that none is put
 pub record IsFull (rows : Option (List Row)) : Type 0 where

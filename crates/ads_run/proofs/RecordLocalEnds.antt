@@ -22,11 +22,11 @@ use Rattle.sample_store.specs.Keeper.{KeeperState, Counts}
 use Rattle.run_tasks.specs.declared.status.Status.{Status}
 use Rattle.run_tasks.specs.declared.status.Status.TheVariants as status
 use Rattle.run_tasks.specs.Asking.{LocalCalling}
-use Rattle.call_run.specs.Calling.{status_of_call, status_of_loop, local_conversation}
-use Rattle.call_run.specs.Recording.{MOST_ROWS, PrintsRecorded, BehindOpening}
-use Rattle.call_run.specs.Recording.{AfterLocalRecord, EndsLocalRecorded, EndsLocalRecording}
+use Rattle.client_commands.specs.Calling.{status_of_call, status_of_loop, local_conversation}
+use Rattle.client_commands.specs.Recording.{MOST_ROWS, PrintsRecorded, BehindOpening}
+use Rattle.client_commands.specs.Recording.{AfterLocalRecord, EndsLocalRecorded, EndsLocalRecording}
 use Rattle.ads_run.proofs.RecordCauses.{CauseOfLocalRecording, IsEndOfLocalRecording, IsFull}
-use Rattle.call_run.specs.CallUses.{KeeperUse}
+use Rattle.client_commands.specs.CallUses.{KeeperUse}
 use Rattle.ads_run.proofs.CallCauseLemmas.{CallFacts, told_facts, wanting_facts, unwritten_facts, no_writing, no_usage, told_own, not_unwritten}
 use Rattle.run_tasks.proofs.ReadingLemmas.{rose_from}
 use Rattle.ads_run.proofs.RecordCauseLemmas.{same_faults, failed_at_opening, OwnEnd, own_or_memory, full_own, own_full}

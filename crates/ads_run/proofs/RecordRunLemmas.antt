@@ -13,9 +13,9 @@ use Rattle.run_tasks.specs.declared.status.Status.{Status}
 use Rattle.ads_run.specs.Ends.{RunsBy}
 use Rattle.run_tasks.specs.Readings.{OverFiles}
 use Rattle.run_tasks.specs.RecordAsked.{recording_to}
-use Rattle.call_run.specs.Recording.{EndsRecording, EndsLocalRecording}
-use Rattle.call_run.specs.RecordedFrom.{RecordsFrom}
-use Rattle.call_run.specs.CallUses.{LinkUse, KeeperUse}
+use Rattle.client_commands.specs.Recording.{EndsRecording, EndsLocalRecording}
+use Rattle.client_commands.specs.RecordedFrom.{RecordsFrom}
+use Rattle.client_commands.specs.CallUses.{LinkUse, KeeperUse}
 use Rattle.ads_run.specs.Uses.{DiskUse, Uses, uses}
 use Rattle.run_tasks.specs.Verdict.{Records, RecordsLocally, verdict_of_file, verdict_of_recorded_text, verdict_of_record}
 use Rattle.ads_run.proofs.RunLemmas.{file_as_run}

@@ -17,21 +17,21 @@ use Rattle.run_tasks.specs.declared.status.Status.TheVariants as status
 use Rattle.run_tasks.specs.declared.task.Task.{Task}
 use Rattle.run_tasks.specs.declared.task.Task.TheVariants as task
 use Rattle.run_tasks.specs.Asking.{asked_address, call_asked, own_address}
-use Rattle.call_run.specs.AskedFrom.{AsksFrom}
-use Rattle.call_run.specs.Calling.{EndsCall, EndsLocalCall}
+use Rattle.client_commands.specs.AskedFrom.{AsksFrom}
+use Rattle.client_commands.specs.Calling.{EndsCall, EndsLocalCall}
 use Rattle.run_tasks.specs.Ending.{line_alone}
 use Rattle.ads_run.specs.Ends.{RunsSo, RunsBy}
 use Rattle.run_tasks.specs.Prints.{PutsMemoryLine, PrintsEnding}
 use Rattle.run_tasks.specs.Readings.{OverFile, OverFiles}
 use Rattle.run_tasks.specs.Tasks.{asked_task}
-use Rattle.call_run.specs.CallUses.{LinkUse, KeeperUse, link_used, used}
+use Rattle.client_commands.specs.CallUses.{LinkUse, KeeperUse, link_used, used}
 use Rattle.ads_run.specs.Uses.{DiskUse, Uses, uses}
 use Rattle.run_tasks.specs.Verdict.{Verdict, Ends, Serves, Calls, CallsLocally, Keeps, Records, RecordsLocally}
 use Rattle.run_tasks.specs.Verdict.{verdict_of, verdict_of_task, verdict_of_ask, verdict_of_file, verdict_of_local, ended}
-use Rattle.file_run.proofs.KeepLemmas.{IsUntouched, never_kept}
-use Rattle.call_run.proofs.RecordLemmas.{leaves_link}
+use Rattle.plant_commands.proofs.KeepLemmas.{IsUntouched, never_kept}
+use Rattle.client_commands.proofs.RecordLemmas.{leaves_link}
 use Rattle.run_tasks.proofs.ReadingLemmas.{map_files, map_file, over_first}
-use Rattle.call_run.proofs.AskLemmas.{never_asked, never_called}
+use Rattle.client_commands.proofs.AskLemmas.{never_asked, never_called}
 use Rattle.run_tasks.specs.EndsOr.{EndsOr, EndsOrBy}
 
 -- a run that calls its files alone, or one thing more, ends as a run with its verdict

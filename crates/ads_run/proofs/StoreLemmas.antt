@@ -12,10 +12,10 @@ use Rattle.run_tasks.specs.declared.status.Status.{Status}
 use Rattle.run_tasks.specs.declared.status.Status.TheVariants as status
 use Rattle.run_tasks.specs.declared.task.Task.{Task}
 use Rattle.run_tasks.specs.declared.task.Task.TheVariants as task
-use Rattle.call_run.specs.Calling.{status_of_loop}
+use Rattle.client_commands.specs.Calling.{status_of_loop}
 use Rattle.run_tasks.specs.declared.record_task.RecordTask.{RecordTask}
 use Rattle.ads_run.proofs.Causes.{CauseOfAsking, CauseOfRecord, HasCause, IsNoStoreEnd}
-use Rattle.call_run.specs.CallUses.{KeeperUse}
+use Rattle.client_commands.specs.CallUses.{KeeperUse}
 use Rattle.ads_run.specs.Uses.{Uses}
 
 -- no call of a client ends by a disk or a keeper

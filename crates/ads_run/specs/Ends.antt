@@ -2,11 +2,11 @@
 use Rattle.std.specs.Prelude.{◌≡◌, ◌⊎◌}
 use Rattle.run_tasks.specs.declared.status.Status.{Status}
 use Rattle.run_tasks.specs.declared.status.Status.TheVariants as status
-use Rattle.call_run.specs.Calling.{EndsCall, EndsLocalCall}
-use Rattle.file_run.specs.Keeping.{EndsKeeping}
+use Rattle.client_commands.specs.Calling.{EndsCall, EndsLocalCall}
+use Rattle.plant_commands.specs.Keeping.{EndsKeeping}
 use Rattle.run_tasks.specs.Prints.{PrintsEnding}
-use Rattle.call_run.specs.Recording.{EndsRecording, EndsLocalRecording}
-use Rattle.file_run.specs.Serving.{EndsService}
+use Rattle.client_commands.specs.Recording.{EndsRecording, EndsLocalRecording}
+use Rattle.plant_commands.specs.Serving.{EndsService}
 use Rattle.ads_run.specs.Uses.{Uses}
 use Rattle.run_tasks.specs.Verdict.{Verdict, Ends, Serves, Calls, CallsLocally, Keeps, Records, RecordsLocally, ended}
 

@@ -8,8 +8,8 @@ use Rattle.spec_plant.specs.Description.{Description}
 use Rattle.spec_machine.specs.ScriptLine.{ScriptLine}
 use Rattle.run_tasks.specs.declared.status.Status.{Status}
 use Rattle.ads_run.specs.Ends.{RunsBy}
-use Rattle.file_run.specs.Migrated.{HasMigrated}
-use Rattle.file_run.specs.Promises.{PlayKeepsPromises}
+use Rattle.plant_commands.specs.Migrated.{HasMigrated}
+use Rattle.plant_commands.specs.Promises.{PlayKeepsPromises}
 use Rattle.run_tasks.specs.Readings.{OverFiles}
 use Rattle.run_tasks.specs.Tasks.{asked_task}
 use Rattle.ads_run.specs.Uses.{Uses}

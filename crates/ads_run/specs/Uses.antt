@@ -2,7 +2,7 @@
 use Rattle.ads_outside.specs.SinkState.{SinkState}
 use Rattle.ads_outside.specs.WireState.{WireHistory}
 pub use Rattle.keep_play.specs.KeptDisk.{DiskUse, disk_used}
-use Rattle.call_run.specs.CallUses.{KeeperUse, LinkUse}
+use Rattle.client_commands.specs.CallUses.{KeeperUse, LinkUse}
 
 -- all that a run is handed in beside its files
 pub record Uses (O : Type 0) : Type 1 where

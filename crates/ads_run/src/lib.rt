@@ -9,6 +9,6 @@ mod top_call;
 pub use crate::program::run_program;
 pub use crate::program_signals::ProgramSignals;
 pub use crate::top_call::run;
-pub use file_run::logs_in_turns_keep_promises;
+pub use plant_commands::logs_in_turns_keep_promises;
 pub use run_tasks::{Status, end_without_memory};
 pub use server_core::Sources;

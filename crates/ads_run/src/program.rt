@@ -8,17 +8,17 @@ ghost use Rattle.spec_relay.specs.RelayPromises.{RelayPlayKeepsPromises};
 ghost use Rattle.run_tasks.specs.BeforeRun.{IsBeforeRun};
 ghost use Rattle.run_tasks.specs.Ending.{line_alone};
 ghost use Rattle.ads_run.specs.Ends.{RunsBy};
-ghost use Rattle.file_run.specs.Migrated.{HasMigrated};
+ghost use Rattle.plant_commands.specs.Migrated.{HasMigrated};
 ghost use Rattle.run_tasks.specs.Prints.{PrintsEnding};
 ghost use Rattle.ads_run.specs.Program.{RunsWith, words_behind_name};
 ghost use Rattle.ads_run.specs.ProgramWaves.{program_waves};
-ghost use Rattle.file_run.specs.Promises.{PlayKeepsPromises};
+ghost use Rattle.plant_commands.specs.Promises.{PlayKeepsPromises};
 ghost use Rattle.run_tasks.specs.Openings.{OpensStore, OpensTable};
 ghost use Rattle.run_tasks.specs.Readings.{OverFiles, ReadsFiles, asks_disk, asks_keeper, asks_link, is_service, reads_no_file};
-ghost use Rattle.call_run.specs.RecordRows.{AddsRows};
+ghost use Rattle.client_commands.specs.RecordRows.{AddsRows};
 ghost use Rattle.run_tasks.specs.Tasks.{asked_task};
 ghost use Rattle.ads_run.specs.Uses.{disk_used, uses};
-ghost use Rattle.call_run.specs.CallUses.{keeper_used, link_used};
+ghost use Rattle.client_commands.specs.CallUses.{keeper_used, link_used};
 ghost use Rattle.run_tasks.specs.Verdict.{verdict_of};
 
 use crate::program_signals::ProgramSignals;
@@ -35,7 +35,7 @@ use std::thread::Threads;
 
 /// `run` over the words of a process behind the program's name, with the signals that the program has: a ramp, a square and
 /// a table. Words that could not be read are no command; where memory was wanting for them, that is told.
-#[tactic(auto, using(call_run::proofs::RecordedRows::adds_none))]
+#[tactic(auto, using(client_commands::proofs::RecordedRows::adds_none))]
 pub fn run_program<T: Threads + Sync, F: Files, W: Wire, L: Link, S: Sink, D: Disk, K: Keeper>(
     rt: &T,
     alloc: Global,
@@ -103,7 +103,7 @@ pub fn run_program<T: Threads + Sync, F: Files, W: Wire, L: Link, S: Sink, D: Di
 }
 
 // The same. Nothing is called where memory is wanting for the words or the signals.
-#[tactic(auto, using(call_run::proofs::RecordedRows::adds_none))]
+#[tactic(auto, using(client_commands::proofs::RecordedRows::adds_none))]
 fn run_signals<T: Threads + Sync, F: Files, W: Wire, L: Link, S: Sink, D: Disk, K: Keeper>(
     rt: &T,
     alloc: Global,

@@ -9,22 +9,22 @@ ghost use Rattle.run_tasks.specs.BeforeRun.{IsBeforeRun};
 ghost use Rattle.run_tasks.specs.Ending.{line_alone};
 ghost use Rattle.ads_run.specs.Ends.{RunsBy};
 ghost use Rattle.run_tasks.specs.Fits.{FitsTask};
-ghost use Rattle.file_run.specs.Migrated.{HasMigrated};
+ghost use Rattle.plant_commands.specs.Migrated.{HasMigrated};
 ghost use Rattle.run_tasks.specs.Prints.{PrintsEnding};
-ghost use Rattle.file_run.specs.Promises.{PlayKeepsPromises};
+ghost use Rattle.plant_commands.specs.Promises.{PlayKeepsPromises};
 ghost use Rattle.run_tasks.specs.Openings.{OpensStore, OpensTable};
 ghost use Rattle.run_tasks.specs.Readings.{OverFiles, ReadsFiles, asks_disk, asks_keeper, asks_link, is_service, reads_no_file};
-ghost use Rattle.call_run.specs.RecordRows.{AddsRows};
+ghost use Rattle.client_commands.specs.RecordRows.{AddsRows};
 ghost use Rattle.run_tasks.specs.Tasks.{asked_task};
 ghost use Rattle.ads_run.specs.Uses.{disk_used, uses};
-ghost use Rattle.call_run.specs.CallUses.{keeper_used, link_used};
+ghost use Rattle.client_commands.specs.CallUses.{keeper_used, link_used};
 ghost use Rattle.run_tasks.specs.Verdict.{verdict_of, verdict_of_task};
 
 use ads_base::NoMemory;
 use ads_outside::{Files, Link, Sink, Wire};
-use call_run::{ask, record};
-use file_run::{keep, print_file_task, serve, serve_relay};
+use client_commands::{ask, record};
 use persist_store::Disk;
+use plant_commands::{keep, print_file_task, serve, serve_relay};
 use run_tasks::{Status, Task, USAGE_LINE, end_without_memory, print_and_end, task_asked};
 use sample_store::Keeper;
 use server_core::Sources;
@@ -130,7 +130,7 @@ pub fn run<T: Threads + Sync, F: Files, W: Wire, L: Link, S: Sink, D: Disk, K: K
 }
 
 // The run of the task that the words ask for.
-#[tactic(auto, using(call_run::proofs::RecordedRows::adds_none))]
+#[tactic(auto, using(client_commands::proofs::RecordedRows::adds_none))]
 fn run_words<
     T: Threads + Sync,
     F: Files,
@@ -188,7 +188,7 @@ fn run_words<
 }
 
 // The run of a task.
-#[tactic(auto, using(call_run::proofs::RecordedRows::adds_none))]
+#[tactic(auto, using(client_commands::proofs::RecordedRows::adds_none))]
 fn run_task<T: Threads + Sync, F: Files, W: Wire, L: Link, S: Sink, D: Disk, K: Keeper, G: Sources>(
     rt: &T,
     alloc: Global,

@@ -13,7 +13,7 @@ use Rattle.run_tasks.specs.Ending.{Ending, line_alone}
 use Rattle.run_tasks.specs.Prints.{PrintsEnding}
 use Rattle.run_tasks.specs.Service.{Service, ending_after}
 use Rattle.run_tasks.specs.Verdict.{Verdict, Ends, Serves, ended}
-use Rattle.file_run.specs.Serving.{MakesMoves, PrintsAt, EndsService}
+use Rattle.plant_commands.specs.Serving.{MakesMoves, PrintsAt, EndsService}
 
 -- an ending with another status does not come to Done
 pub not_done : (e : Ending) (s : Status) (old new : SinkState) → (e.status ≡ status.Done → ⊥) → PrintsEnding e s old new → s ≡ status.Done → ⊥

@@ -24,10 +24,10 @@ use Rattle.run_tasks.specs.declared.status.Status.TheVariants as status
 use Rattle.run_tasks.specs.Ending.{line_alone}
 use Rattle.run_tasks.specs.EndsOr.{EndsOr, WantsMemory}
 use Rattle.run_tasks.specs.Prints.{PrintsEnding}
-use Rattle.file_run.specs.FileOutcomes.{at_start_in}
-use Rattle.file_run.specs.Serving.{CannotRun, EndsService}
-use Rattle.file_run.proofs.PromiseLemmas.{holds_accepted}
-use Rattle.file_run.proofs.ServiceLemmas.{server_promises}
+use Rattle.plant_commands.specs.FileOutcomes.{at_start_in}
+use Rattle.plant_commands.specs.Serving.{CannotRun, EndsService}
+use Rattle.plant_commands.proofs.PromiseLemmas.{holds_accepted}
+use Rattle.plant_commands.proofs.ServiceLemmas.{server_promises}
 use Rattle.daemon_run.specs.Kept.{EndsKept, HoldsBody, KeepsBodies, RunsKept, SavesEach}
 use Rattle.daemon_run.specs.Plant.{Plant, Serving, service_of, serves_plant, serving}
 use Rattle.daemon_run.specs.PlantEnds.{EndsBy, EndsPlant}

@@ -22,7 +22,7 @@ use Rattle.run_tasks.specs.Readings.{OverFile}
 use Rattle.run_tasks.specs.Service.{Service, counts_after}
 use Rattle.run_tasks.specs.Verdict.{Verdict, verdict_of_serve_in}
 use Rattle.run_tasks.proofs.VerdictLemmas.{of_file, of_accepted}
-use Rattle.file_run.specs.Serving.{MakesMoves, PrintsAt, CannotRun, TellsAndRuns}
+use Rattle.plant_commands.specs.Serving.{MakesMoves, PrintsAt, CannotRun, TellsAndRuns}
 use Rattle.daemon_run.specs.Kept.{EndsBefore, RunsKept, status_kept}
 use Rattle.daemon_run.specs.Plant.{Plant, Serving, events_with, plant_kept, plant_of, serves_plant, service_of, verdict_on}
 use Rattle.daemon_run.specs.PlantEnds.{EndsBy, PlantBy}

@@ -25,10 +25,10 @@ use Rattle.keep_play.specs.KeptSaves.{body_of_world, description_kept, saved_lin
 use Rattle.run_tasks.specs.declared.status.Status.{Status}
 use Rattle.run_tasks.specs.declared.status.Status.TheVariants as status
 use Rattle.run_tasks.specs.Service.{server_counts}
-use Rattle.file_run.specs.FileOutcomes.{at_start_in}
-use Rattle.file_run.specs.Machine.{RunsMachine, StandsAnew}
-use Rattle.file_run.specs.Serving.{IsStarted}
-use Rattle.file_run.proofs.MachineLemmas.{counted_after, moves_made, runs_machine}
+use Rattle.plant_commands.specs.FileOutcomes.{at_start_in}
+use Rattle.plant_commands.specs.Machine.{RunsMachine, StandsAnew}
+use Rattle.plant_commands.specs.Serving.{IsStarted}
+use Rattle.plant_commands.proofs.MachineLemmas.{counted_after, moves_made, runs_machine}
 use Rattle.daemon_run.specs.Endless.{endless_kept}
 use Rattle.daemon_run.specs.Kept.{status_by, status_kept}
 use Rattle.daemon_run.specs.Printed.{PrintsSo}

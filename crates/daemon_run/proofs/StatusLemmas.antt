@@ -12,7 +12,7 @@ use Rattle.run_tasks.specs.BeforeRun.{IsBeforeRun}
 use Rattle.run_tasks.specs.Ending.{Ending}
 use Rattle.run_tasks.specs.Outcomes.{IsOfDescription}
 use Rattle.run_tasks.specs.Prints.{PrintsEnding}
-use Rattle.file_run.specs.FileOutcomes.{IsOfService}
+use Rattle.plant_commands.specs.FileOutcomes.{IsOfService}
 use Rattle.daemon_run.specs.Kept.{status_by}
 use Rattle.daemon_run.specs.Printed.{IsOfPlant}
 

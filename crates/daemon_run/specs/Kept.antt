@@ -25,8 +25,8 @@ use Rattle.run_tasks.specs.declared.status.Status.TheVariants as status
 use Rattle.run_tasks.specs.Ending.{Ending, line_alone}
 use Rattle.run_tasks.specs.Prints.{PrintsEnding}
 use Rattle.run_tasks.specs.Service.{counts_after}
-use Rattle.file_run.specs.Promises.{HoldsAcceptedIn}
-use Rattle.file_run.specs.Serving.{MakesMoves, PrintsAt, CannotRun, TellsAndRuns}
+use Rattle.plant_commands.specs.Promises.{HoldsAcceptedIn}
+use Rattle.plant_commands.specs.Serving.{MakesMoves, PrintsAt, CannotRun, TellsAndRuns}
 use Rattle.daemon_run.specs.Plant.{Plant, Serving, service_of, plant_kept, start_kept}
 use Rattle.daemon_run.specs.Printed.{ending_so}
 

@@ -6,7 +6,7 @@ use Rattle.keep_play.specs.KeptDisk.{DiskUse}
 use Rattle.run_tasks.specs.declared.status.Status.{Status}
 use Rattle.run_tasks.specs.EndsOr.{EndsOrBy}
 use Rattle.run_tasks.specs.Verdict.{Verdict}
-use Rattle.file_run.specs.Serving.{EndsService}
+use Rattle.plant_commands.specs.Serving.{EndsService}
 use Rattle.daemon_run.specs.Kept.{EndsKept}
 use Rattle.daemon_run.specs.Plant.{Plant, Serving, service_of, serves_plant}
 

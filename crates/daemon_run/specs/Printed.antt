@@ -11,7 +11,7 @@ use Rattle.run_tasks.specs.declared.status.Status.TheVariants as status
 use Rattle.run_tasks.specs.Ending.{Ending, line_alone}
 use Rattle.run_tasks.specs.Prints.{PutsMemoryLine, PrintsEnding}
 use Rattle.run_tasks.specs.Service.{server_counts, counts_and_line}
-use Rattle.file_run.specs.FileOutcomes.{IsOfService}
+use Rattle.plant_commands.specs.FileOutcomes.{IsOfService}
 
 -- these counts, and with a store how many saves were done
 abbrev pub counts_saved : Option ℕ → List ℕ → List ℕ

@@ -18,8 +18,8 @@ use Rattle.keep_loop.specs.Saving.{StandsForSome}
 use Rattle.keep_play.specs.KeptSaves.{body_of_world}
 use Rattle.run_tasks.specs.declared.status.Status.{Status}
 use Rattle.run_tasks.specs.Service.{server_counts}
-use Rattle.file_run.specs.Machine.{Moves}
-use Rattle.file_run.specs.Serving.{PrintsAt, CannotRun, TellsAndRuns}
+use Rattle.plant_commands.specs.Machine.{Moves}
+use Rattle.plant_commands.specs.Serving.{PrintsAt, CannotRun, TellsAndRuns}
 use Rattle.daemon_run.specs.Endless.{endless_kept}
 use Rattle.daemon_run.specs.Kept.{ending_kept}
 

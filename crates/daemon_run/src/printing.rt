@@ -5,14 +5,14 @@ ghost use Rattle.ads_served.specs.Standing.{Standing};
 ghost use Rattle.server_core.specs.Served.{World, Client};
 ghost use Rattle.server_core.specs.Serves.{StandsAt};
 ghost use Rattle.keep_play.specs.KeptSaves.{saved_line};
-ghost use Rattle.file_run.specs.FileOutcomes.{IsOfService};
+ghost use Rattle.plant_commands.specs.FileOutcomes.{IsOfService};
 ghost use Rattle.run_tasks.specs.Prints.{PrintsEnding};
 ghost use Rattle.run_tasks.specs.Service.{server_counts, counts_and_line};
 ghost use Rattle.daemon_run.specs.Printed.{IsOfPlant, PrintsSo, counts_saved};
 
 use ads_base::{NoMemory, Octets};
 use ads_outside::{End, Sink};
-use file_run::{print_counts, summary_line};
+use plant_commands::{print_counts, summary_line};
 use replay_script::put_counted;
 use run_tasks::{LINK_FAULT_LINE, Status, end_without_memory, print_and_end};
 use server_core::{Core, Sources};

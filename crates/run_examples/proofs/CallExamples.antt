@@ -36,8 +36,8 @@ use Rattle.client_loop.specs.Called.{AfterCall, AreAwaited, BreaksOff, Calling, 
 use Rattle.client_loop.specs.Due.{AtPrint, AtSend, call_steps_last, call_text_up_to, steps_last, text_up_to}
 use Rattle.client_loop.specs.LinkAfter.{history_left, history_over}
 use Rattle.client_loop.specs.Said.{SendsSome}
-use Rattle.call_run.specs.CallUses.{LinkUse, link_used, used}
-use Rattle.call_run.specs.Calling.{EndsCall, status_of_call, status_of_loop}
+use Rattle.client_commands.specs.CallUses.{LinkUse, link_used, used}
+use Rattle.client_commands.specs.Calling.{EndsCall, status_of_call, status_of_loop}
 use Rattle.ads_run.proofs.Causes.{IsEndOfCall}
 use Rattle.run_tasks.specs.declared.status.Status.TheVariants as status
 

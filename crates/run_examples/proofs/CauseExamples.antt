@@ -16,7 +16,7 @@ use Rattle.run_tasks.specs.KeepAsked.{keeping}
 use Rattle.run_tasks.specs.Readings.{is_service}
 use Rattle.run_tasks.specs.StatusTable.{number_of}
 use Rattle.run_tasks.specs.Verdict.{Calls, Keeps, Records, RecordsLocally, Serves, ended}
-use Rattle.call_run.specs.Recording.{MOST_ROWS}
+use Rattle.client_commands.specs.Recording.{MOST_ROWS}
 use Rattle.ads_run.proofs.Causes.{CauseOfKeeping, CauseOfService, EndsOfWire, FailsOfWire, HasCause, IsEndOfCall, IsEndOfLocal, IsNoServiceEnd, IsOwnEnd}
 use Rattle.ads_run.proofs.Causes.{NothingFailed, TakesAll}
 use Rattle.ads_run.specs.Ends.{RunsBy, RunsSo}

@@ -75,7 +75,7 @@ use Rattle.run_tasks.specs.BuiltIn.{built_in}
 use Rattle.run_tasks.specs.KeepAsked.{Keeping, keeping}
 use Rattle.run_tasks.specs.StatusTable.{number_of}
 use Rattle.run_tasks.specs.Verdict.{Keeps}
-use Rattle.file_run.specs.Keeping.{EndsKeeping, KeepsBy, PrintsKept, kept_ending}
+use Rattle.plant_commands.specs.Keeping.{EndsKeeping, KeepsBy, PrintsKept, kept_ending}
 use Rattle.spec_plant.proofs.Plant.{count_symbol, description_with, symbols_with, title_symbol}
 use Rattle.spec_machine.proofs.Plant.{opened, piece, plant, q, step, start, tick, waves}
 

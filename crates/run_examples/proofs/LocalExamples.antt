@@ -87,10 +87,10 @@ use Rattle.run_tasks.specs.Asking.{LocalCalling, local_calling}
 use Rattle.run_tasks.specs.Ending.{line_alone}
 use Rattle.run_tasks.specs.StatusTable.{number_of}
 use Rattle.run_tasks.specs.RecordAsked.{local_recording}
-use Rattle.call_run.specs.AskedFrom.{AsksFrom}
-use Rattle.call_run.specs.Calling.{AfterLocal, LocalBreaksOff, LocalTalks, local_conversation, status_of_loop}
-use Rattle.call_run.specs.RecordedFrom.{RecordsFrom}
-use Rattle.call_run.specs.Recording.{AfterLocalRecord, EndsLocalRecording, LocalRecordsAll, LocalRecordsDone, LocalRecordsSome}
+use Rattle.client_commands.specs.AskedFrom.{AsksFrom}
+use Rattle.client_commands.specs.Calling.{AfterLocal, LocalBreaksOff, LocalTalks, local_conversation, status_of_loop}
+use Rattle.client_commands.specs.RecordedFrom.{RecordsFrom}
+use Rattle.client_commands.specs.Recording.{AfterLocalRecord, EndsLocalRecording, LocalRecordsAll, LocalRecordsDone, LocalRecordsSome}
 use Rattle.run_examples.proofs.CallExamples.{call_rows, the_link}
 use Rattle.run_examples.proofs.RecordExamples.{keeper}
 use Rattle.run_examples.proofs.TaskExamples.{what}

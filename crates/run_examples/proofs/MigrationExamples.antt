@@ -13,7 +13,7 @@ use Rattle.ads_outside.specs.declared.named_file.NamedFile.{NamedFile}
 use Rattle.ads_outside.specs.SinkState.{SinkState}
 use Rattle.table_text.specs.TableText.{document_text}
 use Rattle.description_migration.specs.Migration.{ChangesSchemaAlone, IsMigrated, SCHEMA, migrated_text, second_schema}
-use Rattle.file_run.specs.Migrated.{HasMigrated}
+use Rattle.plant_commands.specs.Migrated.{HasMigrated}
 use Rattle.run_tasks.specs.declared.file_task.FileTask.TheVariants as file_task
 use Rattle.run_tasks.specs.declared.status.Status.TheVariants as status
 use Rattle.run_tasks.specs.declared.task.Task.TheVariants as task

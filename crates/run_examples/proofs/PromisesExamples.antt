@@ -70,11 +70,11 @@ use Rattle.run_tasks.specs.declared.status.Status.TheVariants as status
 use Rattle.run_tasks.specs.BuiltIn.{built_in}
 use Rattle.run_tasks.specs.Service.{OfRelay, OfServer, Service, counts_after}
 use Rattle.run_tasks.specs.Verdict.{Serves as IsServed}
-use Rattle.file_run.specs.Promises.{ChangesByWritesIn, HoldsAcceptedIn, HoldsThroughoutIn, KeepsPromises, KeepsPromisesAtIn, KeepsPromisesIn}
-use Rattle.file_run.specs.Promises.{KeepsPromisesSoFarIn, PlayKeepsPromises}
-use Rattle.file_run.specs.ServiceEnds.{ServesBy}
-use Rattle.file_run.specs.Serving.{AddsToLog, AddsToStreams, CannotRun, CannotStart, CannotTell, EndsService, MovesKeepPromises}
-use Rattle.file_run.specs.Serving.{RunsService, StopsBehind}
+use Rattle.plant_commands.specs.Promises.{ChangesByWritesIn, HoldsAcceptedIn, HoldsThroughoutIn, KeepsPromises, KeepsPromisesAtIn, KeepsPromisesIn}
+use Rattle.plant_commands.specs.Promises.{KeepsPromisesSoFarIn, PlayKeepsPromises}
+use Rattle.plant_commands.specs.ServiceEnds.{ServesBy}
+use Rattle.plant_commands.specs.Serving.{AddsToLog, AddsToStreams, CannotRun, CannotStart, CannotTell, EndsService, MovesKeepPromises}
+use Rattle.plant_commands.specs.Serving.{RunsService, StopsBehind}
 use Rattle.run_examples.proofs.KeptExamples.{unused}
 use Rattle.spec_machine.proofs.Plant.{a, opened, piece, plant, q, start, tick, waves}
 

@@ -52,9 +52,9 @@ use Rattle.client_loop.specs.Recorded.{AfterRecord, NeverRecords, RecordsDone}
 use Rattle.sample_store.specs.declared.keeper_open.KeeperOpen.{KeeperOpen}
 use Rattle.sample_store.specs.declared.keeper_open.KeeperOpen.TheVariants as open_
 use Rattle.sample_store.specs.Keeper.{KeeperState}
-use Rattle.call_run.specs.CallUses.{LinkUse, keeper_used, used}
-use Rattle.call_run.specs.RecordRows.{AddsRows}
-use Rattle.call_run.specs.Recording.{BehindOpening, EndsRecording, MOST_ROWS, PrintsRecorded}
+use Rattle.client_commands.specs.CallUses.{LinkUse, keeper_used, used}
+use Rattle.client_commands.specs.RecordRows.{AddsRows}
+use Rattle.client_commands.specs.Recording.{BehindOpening, EndsRecording, MOST_ROWS, PrintsRecorded}
 use Rattle.run_tasks.specs.declared.status.Status.TheVariants as status
 use Rattle.ads_run.proofs.RecordCauses.{IsEndOfRecording}
 

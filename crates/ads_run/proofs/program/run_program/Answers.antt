@@ -6,12 +6,12 @@ use Rattle.ads_run.specs.Program.{words_behind_name}
 use Rattle.ads_run.specs.ProgramWaves.{program_waves}
 use Rattle.run_tasks.specs.Tasks.{asked_task}
 use Rattle.ads_run.specs.Uses.{disk_used}
-use Rattle.call_run.specs.CallUses.{keeper_used}
+use Rattle.client_commands.specs.CallUses.{keeper_used}
 use Rattle.run_tasks.specs.Verdict.{verdict_of}
-use Rattle.file_run.proofs.KeepLemmas.{untouched_same}
+use Rattle.plant_commands.proofs.KeepLemmas.{untouched_same}
 use Rattle.run_tasks.proofs.OpenLemmas.{store_wanting, table_wanting}
-use Rattle.file_run.proofs.MigrationLemmas.{any_without_memory}
-use Rattle.file_run.proofs.PromiseLemmas.{play_keeps_promises}
+use Rattle.plant_commands.proofs.MigrationLemmas.{any_without_memory}
+use Rattle.plant_commands.proofs.PromiseLemmas.{play_keeps_promises}
 use Rattle.ads_run.proofs.RunLemmas.{runs_untouched}
 use Rattle.ads_run.proofs.program.run_program.Goals as goal
 

@@ -10,7 +10,7 @@ use Rattle.ads_run.specs.Program.{RunsWith, words_behind_name}
 use Rattle.ads_run.specs.ProgramWaves.{program_waves}
 use Rattle.run_tasks.specs.Tasks.{asked_task}
 use Rattle.ads_run.specs.Uses.{disk_used, uses}
-use Rattle.call_run.specs.CallUses.{keeper_used, link_used}
+use Rattle.client_commands.specs.CallUses.{keeper_used, link_used}
 use Rattle.ads_run.proofs.SignalLemmas.{three_signals, runs_same}
 use Rattle.ads_run.proofs.program.run_signals.OwnLists.{own-1, at-1-1, at-1-2, at-1-3}
 use Rattle.ads_run.proofs.program.run_signals.Goals as goal

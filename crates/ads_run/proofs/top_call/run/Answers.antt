@@ -5,11 +5,11 @@ use Rattle.spec_relay.proofs.PromiseLemmas.{relay_play_keeps_promises}
 use Rattle.ads_outside.specs.Rose.{Rose}
 use Rattle.run_tasks.specs.Tasks.{asked_task}
 use Rattle.ads_run.specs.Uses.{disk_used, uses}
-use Rattle.call_run.specs.CallUses.{keeper_used, link_used}
+use Rattle.client_commands.specs.CallUses.{keeper_used, link_used}
 use Rattle.ads_run.proofs.CauseLemmas.{facts_of}
 use Rattle.ads_run.proofs.RunLaws.{run_has_cause}
 use Rattle.ads_run.proofs.StoreLemmas.{store_fault, keeper_fault}
-use Rattle.file_run.proofs.PromiseLemmas.{play_keeps_promises}
+use Rattle.plant_commands.proofs.PromiseLemmas.{play_keeps_promises}
 use Rattle.ads_run.proofs.top_call.run.Goals as goal
 
 pub returns-clause-usage : goal.returns-clause-usage

@@ -3,11 +3,11 @@ use Rattle.std.proofs.Common.{◌≡◌, length, refl}
 use Rattle.ads_outside.specs.Named.{bytes_of}
 use Rattle.ads_outside.specs.Rose.{Rose}
 use Rattle.run_tasks.specs.declared.task.Task.TheVariants as task
-use Rattle.file_run.specs.Keeping.{EndsKeeping}
-use Rattle.file_run.specs.Serving.{EndsService}
+use Rattle.plant_commands.specs.Keeping.{EndsKeeping}
+use Rattle.plant_commands.specs.Serving.{EndsService}
 use Rattle.run_tasks.specs.Service.{OfRelay}
 use Rattle.ads_run.specs.Uses.{disk_used, uses}
-use Rattle.call_run.specs.CallUses.{keeper_used, link_used}
+use Rattle.client_commands.specs.CallUses.{keeper_used, link_used}
 use Rattle.run_tasks.specs.Verdict.{Keeps, Serves, over_store, verdict_of_both, verdict_of_file, verdict_of_file_task}
 use Rattle.run_tasks.specs.Verdict.{verdict_of_serve, verdict_of_service}
 use Rattle.ads_run.proofs.RunLemmas.{asks_as_run, file_as_run, files_as_run, runs_of_task}

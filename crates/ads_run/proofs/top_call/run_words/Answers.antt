@@ -5,10 +5,10 @@ use Rattle.ads_outside.specs.Rose.{Rose}
 use Rattle.run_tasks.specs.Openings.{OpensStore, OpensTable}
 use Rattle.run_tasks.specs.Tasks.{asked_task}
 use Rattle.ads_run.specs.Uses.{disk_used, uses}
-use Rattle.call_run.specs.CallUses.{keeper_used, link_used}
+use Rattle.client_commands.specs.CallUses.{keeper_used, link_used}
 use Rattle.run_tasks.specs.Verdict.{verdict_of}
 use Rattle.run_tasks.proofs.OpenLemmas.{store_wanting, table_wanting}
-use Rattle.file_run.proofs.MigrationLemmas.{of_task, any_without_memory}
+use Rattle.plant_commands.proofs.MigrationLemmas.{of_task, any_without_memory}
 use Rattle.ads_run.proofs.RunLemmas.{runs_as_asked, runs_usage, runs_without_memory}
 use Rattle.ads_run.proofs.top_call.run_words.Goals as goal
 

@@ -5,9 +5,9 @@ use Rattle.type_layout.specs.Descriptions.{description_of}
 use Rattle.persist_store.proofs.NameLemmas.{only_none}
 use Rattle.stored_values.specs.StoredBodies.{bytes_lent}
 use Rattle.keep_play.proofs.CoreLemmas.{kept_is, kept_may_begin}
-use Rattle.file_run.specs.FileOutcomes.{at_start_in}
-use Rattle.file_run.proofs.PlayLemmas.{stands_at_start}
-use Rattle.file_run.proofs.ServiceLemmas.{core_anew, started_with}
+use Rattle.plant_commands.specs.FileOutcomes.{at_start_in}
+use Rattle.plant_commands.proofs.PlayLemmas.{stands_at_start}
+use Rattle.plant_commands.proofs.ServiceLemmas.{core_anew, started_with}
 use Rattle.daemon_run.proofs.RunningLemmas.{ends_on_as, some_anew}
 use Rattle.daemon_run.proofs.plant_kept.keep_opened.Goals as goal
 

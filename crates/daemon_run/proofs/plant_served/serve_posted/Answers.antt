@@ -3,8 +3,8 @@ use Rattle.ads_outside.specs.SinkState.{SinkState}
 use Rattle.ads_outside.specs.WireState.{WireHistory}
 use Rattle.server_core.specs.Served.{served_step}
 use Rattle.run_tasks.specs.Service.{server_counts}
-use Rattle.file_run.specs.Machine.{RunsMachine}
-use Rattle.file_run.proofs.MachineLemmas.{started_so, not_started_so}
+use Rattle.plant_commands.specs.Machine.{RunsMachine}
+use Rattle.plant_commands.proofs.MachineLemmas.{started_so, not_started_so}
 use Rattle.daemon_run.specs.Endless.{endless}
 use Rattle.daemon_run.proofs.plant_served.serve_posted.Goals as goal
 

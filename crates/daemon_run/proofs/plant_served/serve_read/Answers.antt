@@ -2,9 +2,9 @@
 use Rattle.std.proofs.Common.{refl, inl, inr}
 use Rattle.server_core.specs.Profiles.{profile_of}
 use Rattle.type_layout.specs.Descriptions.{description_of}
-use Rattle.file_run.specs.FileOutcomes.{at_start_in}
-use Rattle.file_run.proofs.PlayLemmas.{stands_at_start}
-use Rattle.file_run.proofs.ServiceLemmas.{core_anew, server_ends, started_with}
+use Rattle.plant_commands.specs.FileOutcomes.{at_start_in}
+use Rattle.plant_commands.proofs.PlayLemmas.{stands_at_start}
+use Rattle.plant_commands.proofs.ServiceLemmas.{core_anew, server_ends, started_with}
 use Rattle.daemon_run.specs.Endless.{endless}
 use Rattle.daemon_run.proofs.plant_served.serve_read.Goals as goal
 

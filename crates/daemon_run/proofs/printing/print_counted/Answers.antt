@@ -1,6 +1,6 @@
 -- What was printed is the ending, with its status or that of the sink.
 use Rattle.run_tasks.specs.Service.{counts_and_line}
-use Rattle.file_run.proofs.MachineLemmas.{counts_same}
+use Rattle.plant_commands.proofs.MachineLemmas.{counts_same}
 use Rattle.daemon_run.proofs.StatusLemmas.{printed_fault, printed_of_plant}
 use Rattle.daemon_run.proofs.printing.print_counted.Goals as goal
 

@@ -1,6 +1,0 @@
-use Rattle.std.proofs.Common.{refl}
-use Rattle.spec_server.specs.Server.{server_start}
-use Rattle.call_run.proofs.ask_locally.ask_by.Goals as goal
-
-pub returns-clause-ends : goal.returns-clause-ends
-returns-clause-ends g c = λ d waves serves net. c.ask_link.ensures.ends d waves (c.new-link.ensures.told (server_start d waves) serves refl) net

@@ -1,8 +1,0 @@
--- The counts are those of whatever is stood for.
-use Rattle.file_run.proofs.MachineLemmas.{counts_same}
-use Rattle.file_run.proofs.machine_run.print_machine.Goals as goal
-
-pub returns-in-Ok-clause-prints : goal.returns-in-Ok-clause-prints
-returns-in-Ok-clause-prints g c = λ x stands.
-    counts_same c.args.status c.in-Ok.line _ c.print_counts.result (g.S.Sink.state c.args.out.now) (g.S.Sink.state c.print_counts.new.out)
-    (c.in-Ok.ensures x stands) c.print_counts.ensures.prints

@@ -1,0 +1,69 @@
+//! `relay` with `--listen`: the relay of a file's description is served over a wire.
+
+ghost use Rattle.std.specs.Prelude.{◌<◌, ◌^◌, ◌≡◌, length};
+ghost use Rattle.ads_outside.specs.Named.{bytes_of};
+ghost use Rattle.ads_outside.specs.Rose.{Rose};
+ghost use Rattle.run_tasks.specs.BeforeRun.{IsBeforeRun};
+ghost use Rattle.plant_commands.specs.ServiceEnds.{ServesBy};
+ghost use Rattle.run_tasks.specs.Readings.{OverFile, ReadsOne};
+ghost use Rattle.run_tasks.specs.Service.{OfRelay};
+ghost use Rattle.run_tasks.specs.Verdict.{verdict_of_file, verdict_of_service};
+
+use crate::machine_run::start_machine;
+use ads_base::NoMemory;
+use ads_outside::{Files, Sink, Wire};
+use ams_relay::Relay;
+use cli_words::Text;
+use run_tasks::{Accepted, Status, end_without_memory, print_outcome, read_description};
+use server_core::Sources;
+use std::alloc::Global;
+use std::thread::Threads;
+
+/// Serves the relay of a file's description over a wire that listens there, until so many events were taken. The wire is
+/// started only where the description is accepted.
+pub fn serve_relay<T: Threads + Sync, F: Files, W: Wire, S: Sink, G: Sources>(
+    rt: &T,
+    alloc: Global,
+    description: &Text,
+    listen: &Text,
+    events: u64,
+    files: &mut F,
+    wire: &mut W,
+    out: &mut S,
+    signals: G,
+) -> Status
+    requires few { length (G.waves signals) < 2 ^ 32 }
+    ensures ends { OverFile (F.state files.old).held (λ held.
+        ServesBy (verdict_of_file (verdict_of_service (length (G.waves signals)) OfRelay description.now listen.now events) (bytes_of held description.now))
+        (Rose (F.state files.old).faults (F.state files.new).faults) result (S.state out.old) (S.state out.new)
+        (W.state wire.old).history (W.state wire.new).history) }
+    ensures reads { ReadsOne result (F.state files.old).names (F.state files.new).names description.now }
+    ensures held { (F.state files.new).held ≡ (F.state files.old).held }
+    ensures read_fault { result ≡ Status.ReadFault → Rose (F.state files.old).faults (F.state files.new).faults }
+    ensures before_run { IsBeforeRun result → wire.new ≡ wire.old }
+{
+    match read_description(alloc, description, signals.count() as u32, files) {
+        Err(NoMemory) => end_without_memory(out),
+        Ok(Err(told)) => print_outcome(out, told),
+        Ok(Ok(read)) => {
+            let Accepted {
+                bytes,
+                description: built,
+            } = read;
+            match Relay::build(alloc, built) {
+                Err(NoMemory) => end_without_memory(out),
+                Ok(mut router) => start_machine(
+                    rt,
+                    alloc,
+                    listen.as_str(),
+                    description.as_str(),
+                    bytes.as_slice(),
+                    &mut router,
+                    wire,
+                    events,
+                    out,
+                ),
+            }
+        }
+    }
+}
