@@ -3,20 +3,15 @@
 
 mod asked;
 mod counts;
-mod dues;
 mod ends;
 mod giving;
-mod moves;
 mod owners;
 mod peer;
-mod relaying;
 mod remembering;
 mod router;
 mod routing;
-mod serving;
+mod seat;
 mod taking;
-mod touched;
 
 pub use counts::RelaySummary;
-pub use relaying::relay;
 pub use router::Relay;
