@@ -22,6 +22,8 @@ use Rattle.connections.specs.Carries.{Carries}
 use Rattle.connections.specs.Entries.{IsEntry, IsNoEntry}
 use Rattle.connections.specs.Outlets.{beside, closing_at, fresh_outlet, without_number}
 use Rattle.connections.proofs.BesideLemmas.{beside_without, beside_at}
+use Rattle.connections.proofs.CarryLemmas.{AtNumber, at_number, opened}
+use Rattle.connections.proofs.MoveLemmas.{gone_is_ended}
 use Rattle.connections.proofs.StateLemmas.{was_none_append}
 use Rattle.ams_relay.specs.declared.asked.Asked.{Asked}
 use Rattle.ams_relay.specs.declared.peer.Peer.{Peer}
@@ -32,7 +34,7 @@ use Rattle.ams_relay.specs.Holds.{AreBeside, IsPeerOf, Owners, HoldsOwners, AreO
 use Rattle.ams_relay.specs.Peers.{Peers, Sets, peers_in, net_of, owned_by, owned_at}
 use Rattle.ams_relay.specs.Taking.{DisownsIn, Disowns}
 use Rattle.ams_relay.proofs.BesideLemmas.{beside_changed, beside_opened, beside_ended, sets_behind}
-use Rattle.ams_relay.proofs.CarryLemmas.{Seated, seated, unseated, closing_is, value_there, carry_opened, carry_ended}
+use Rattle.ams_relay.proofs.CarryLemmas.{unseated, closing_is, value_there}
 use Rattle.ams_relay.proofs.HoldLemmas.{SameBeside, column_same, peers_same, own_changed_list, named_changed, named_at, counts_changed, routed_changed}
 use Rattle.ams_relay.proofs.ListLemmas.{filter-yes, filter-no}
 use Rattle.ams_relay.proofs.OwnerLemmas.{IsUnheard, some_same, owners_unheard, owners_ended, owners_disowned, owners_opened, fresh_client}
@@ -85,8 +87,8 @@ requests_narrowed n old new s t same others unheard opened peers h m p k at foun
     narrower : (c : ℕ) → is_heard_among c t.connections ≡ true → is_heard_among c s.connections ≡ true
     narrower c e =
         let there = heard_there c t.connections e in
-        let other : n ≢ c = λ q. true≢false (sym there.heard ∙ unheard there.connection (ap (λ j. connection_of j t.connections) q ∙ there.found)) in
-        heard_found c there.connection s.connections (sym (others c other) ∙ there.found) ∙ there.heard
+        let other : n ≢ c = λ q. true≢false (sym there.heard ∙ unheard there.k (ap (λ j. connection_of j t.connections) q ∙ there.found)) in
+        heard_found c there.k s.connections (sym (others c other) ∙ there.found) ∙ there.heard
 
 requests_at : (n : ℕ) (f : RelayConnection → RelayConnection) (old new : Peers) (s : RelayState)
     → ((k : RelayConnection) → (f k).number ≡ k.number) → ((k : RelayConnection) → is_heard (f k) ≡ false)
@@ -144,11 +146,11 @@ closed_twice k closing = ap (λ (b : Bool). record k { closing = b }) (sym closi
 pub closed_already : (n i : ℕ) (b : List ℕ) (r : Router) (s : RelayState) → Holds r b s
     → IsEntry r.outlets n i → closing_at r.outlets i ≡ true → Holds r b (at_connection n with_closing s)
 closed_already n i b r s h at closing =
-    let there = seated r.outlets b s.connections n i h.outlets at in
+    let there = at_number r.outlets b s.connections n i h.outlets at in
     subst (Holds r b) (sym
     (changed-nothing n with_closing s
-    (λ k e. closed_twice k (ap (λ (x : RelayConnection). x.closing) (some_same k there.connection (sym e ∙ there.found))
-    ∙ closing_is r.outlets n i s.connections there ∙ closing)))) h
+    (λ k e. closed_twice k (ap (λ (x : RelayConnection). x.closing) (some_same k there.k (sym e ∙ there.found))
+    ∙ closing_is r.outlets n i b s.connections there ∙ closing)))) h
 
 -- a connection that is there goes
 pub ends : (n i : ℕ) (b : List ℕ) (owned : Option NetId) (old mid new : Router) (s : RelayState) → Holds old b s
@@ -159,13 +161,13 @@ pub ends : (n i : ℕ) (b : List ℕ) (owned : Option NetId) (old mid new : Rout
 ends n i b owned old mid new s h at owned_is d routes owners counts outlets peers =
     let known = h.known in
     let t = at_connection n as_gone s in
-    let there = seated old.outlets b s.connections n i h.outlets at in
+    let there = at_number old.outlets b s.connections n i h.outlets at in
     let number : (k : RelayConnection) → (as_gone k).number ≡ k.number = λ k. refl in
     let deaf : (k : RelayConnection) → is_heard (as_gone k) ≡ false = λ k. deaf_gone (as_gone k) refl in
     let column = beside_ended IsPeerOf n i old.outlets old.peers.items s at known.peers in
     let owners_are : new.owners.entries ≡ mid.owners.entries = ap (λ o. o.entries) owners in
     record {
-      outlets = subst (λ es. Carries es b t.connections) (sym outlets) (carry_ended n b old.outlets s h.outlets);
+      outlets = subst (λ es. Carries es b t.connections) (sym outlets) (gone_is_ended old.outlets b s n h.outlets);
       known = record {
         routes = λ net. ap (rights_of net) (routes ∙ ap (λ (r : Router). r.routes) d.same) ∙ routes_at n as_gone old s known net;
         peers = subst (λ es. AreBeside IsPeerOf es new.peers.items t.connections) (sym outlets)
@@ -179,27 +181,27 @@ ends n i b owned old mid new s h at owned_is d routes owners counts outlets peer
       };
     }
   where
-    owners_after : Seated old.outlets n i s.connections → ((k : RelayConnection) → (as_gone k).number ≡ k.number)
+    owners_after : AtNumber old.outlets b s.connections n i → ((k : RelayConnection) → (as_gone k).number ≡ k.number)
         → ((k : RelayConnection) → is_heard (as_gone k) ≡ false) → HoldsOwners mid.owners.entries (at_connection n as_gone s).connections
-    owners_after there number deaf = elim (cases_Bool there.outlet.closing) [
+    owners_after there number deaf = elim (cases_Bool there.o.closing) [
       | inl closing ↦
-          let none : owned ≡ None = owned_is ∙ ap (λ u. owned_by u (slice_get old.peers.items i)) there.value
-          ∙ none_closing there.outlet (slice_get old.peers.items i) closing in
+          let none : owned ≡ None = owned_is ∙ ap (λ u. owned_by u (slice_get old.peers.items i)) there.outlet
+          ∙ none_closing there.o (slice_get old.peers.items i) closing in
           let same : mid.owners.entries ≡ old.owners.entries = subst (λ o. DisownsIn o old.owners.entries mid.owners.entries) none d.disowned in
           subst (λ os. HoldsOwners os (at_connection n as_gone s).connections) (sym same)
           (owners_unheard old.owners.entries n s.connections (at_connection n as_gone s).connections (others_at n as_gone number s)
-          (λ k e. deaf_closing k (ap (λ (x : RelayConnection). x.closing) (some_same k there.connection (sym e ∙ there.found))
+          (λ k e. deaf_closing k (ap (λ (x : RelayConnection). x.closing) (some_same k there.k (sym e ∙ there.found))
           ∙ sym there.stands.closing ∙ closing))
           (unheard_at n as_gone number deaf s) h.known.owners)
       | inr opens ↦
           let p = value_there old.peers.items i (omega (arith, at.within, h.known.peers.count)) in
-          let client : net_of owned ≡ there.connection.client =
-          ap net_of (owned_is ∙ ap (λ u. owned_by u (slice_get old.peers.items i)) there.value ∙ ap (owned_by (Some there.outlet)) p.1
-          ∙ cond-false there.outlet.closing None p.0.owned opens)
-          ∙ h.known.peers.each n p.0 there.connection (beside_at old.outlets old.peers.items n i at h.known.peers.count ∙ p.1) there.found there.there in
-          owners_freed owned old.owners.entries mid.owners.entries n there.connection s.connections (at_connection n as_gone s).connections
+          let client : net_of owned ≡ there.k.client =
+          ap net_of (owned_is ∙ ap (λ u. owned_by u (slice_get old.peers.items i)) there.outlet ∙ ap (owned_by (Some there.o)) p.1
+          ∙ cond-false there.o.closing None p.0.owned opens)
+          ∙ h.known.peers.each n p.0 there.k (beside_at old.outlets old.peers.items n i at h.known.peers.count ∙ p.1) there.found there.there in
+          owners_freed owned old.owners.entries mid.owners.entries n there.k s.connections (at_connection n as_gone s).connections
           d.disowned client (others_at n as_gone number s) there.found
-          (heard_of_parts there.connection (sym there.stands.closing ∙ opens) there.there) (unheard_at n as_gone number deaf s) h.known.owners
+          (heard_of_parts there.k (sym there.stands.closing ∙ opens) there.there) (unheard_at n as_gone number deaf s) h.known.owners
     ]
 
     none_closing : (o : Outlet) (u : Option Peer) → o.closing ≡ true → owned_by (Some o) u ≡ None
@@ -211,7 +213,7 @@ pub ended_already : (n : ℕ) (b : List ℕ) (r : Router) (s : RelayState) → H
     → IsNoEntry r.outlets n → Holds r b (after_exchange (connection_of n s.connections) with_gone s)
 ended_already n b r s h none =
     subst (Holds r b) (sym (changed-nothing n as_gone s
-    (λ k e. ap (λ (g : Bool). record k { gone = g }) (sym (unseated r.outlets b s.connections n h.outlets none k e))))) h
+    (λ k e. ap (λ (g : Bool). record k { gone = g }) (sym (unat_number r.outlets b s.connections n h.outlets none k e))))) h
 
 -- among requests that name connections that were opened, none names the new one
 not_new : (n c : ℕ) (ks : List RelayConnection) → connection_of n ks ≡ None → (connection_of c ks ≡ None → ⊥) → n ≢ c
@@ -310,7 +312,7 @@ opens n b p old new s h is_new none owns asked routes owners outlets peers count
     let in_new : (λ m. beside m (old.outlets ++ (n, fresh_outlet) ∷ []) (old.peers.items ++ p ∷ [])) ≡ peers_in new =
     (λ j m. beside m (sym outlets j) (sym peers j)) in
     record {
-      outlets = subst (λ es. Carries es b t.connections) (sym outlets) (carry_opened n b old.outlets s is_new h.outlets);
+      outlets = subst (λ es. Carries es b t.connections) (sym outlets) (opened None old.outlets b s.connections n h.outlets is_new);
       known = record {
         routes = λ net. ap (rights_of net) routes ∙ known.routes net;
         peers = subst (λ es. AreBeside IsPeerOf es new.peers.items t.connections) (sym outlets)
@@ -349,5 +351,5 @@ opens n b p old new s h is_new none owns asked routes owners outlets peers count
 pub opened_again : (n i : ℕ) (b : List ℕ) (r : Router) (s : RelayState)
     → Holds r b s → IsEntry r.outlets n i → connection_of n s.connections ≡ None → ⊥
 opened_again n i b r s h at new =
-    let there = seated r.outlets b s.connections n i h.outlets at in
-    (let no : ◌≡◌ {A = Option RelayConnection} None (Some there.connection) = sym new ∙ there.found in cc)
+    let there = at_number r.outlets b s.connections n i h.outlets at in
+    (let no : ◌≡◌ {A = Option RelayConnection} None (Some there.k) = sym new ∙ there.found in cc)

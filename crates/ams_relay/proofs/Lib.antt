@@ -3,4 +3,16 @@ pub mod ListLemmas
 pub mod OwnerLemmas
 pub mod BesideLemmas
 pub mod RequestLemmas
+pub mod CarryLemmas
 pub mod HoldLemmas
+pub mod OwnLemmas
+pub mod EndLemmas
+pub mod GiveLemmas
+pub mod SpendLemmas
+pub mod RememberLemmas
+pub mod TakingLemmas
+pub mod MoveLemmas
+pub mod PromiseLemmas
+pub mod WayLemmas
+pub mod StartLemmas
+pub mod EventLemmas

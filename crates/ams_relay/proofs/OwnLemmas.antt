@@ -16,6 +16,7 @@ use Rattle.connections.specs.Carries.{Carries}
 use Rattle.connections.specs.Outlets.{outlet_at, beside}
 use Rattle.connections.specs.declared.outlet.Outlet.{Outlet}
 use Rattle.connections.proofs.BesideLemmas.{beside_at}
+use Rattle.connections.proofs.CarryLemmas.{at_number}
 use Rattle.ams_relay.specs.declared.asked.Asked.{Asked}
 use Rattle.ams_relay.specs.declared.peer.Peer.{Peer}
 use Rattle.ams_relay.specs.declared.router.Router.{Router}
@@ -26,7 +27,7 @@ use Rattle.ams_relay.specs.Holds.{AreBeside, IsPeerOf, AreOwn, HoldsAsked, Holds
 use Rattle.ams_relay.specs.Peers.{Peers, peers_in, IsSeat, Sets, net_of, owned_by, owned_at}
 use Rattle.ams_relay.specs.Taking.{IsHeardAt, IsOwnerSeat, number_of}
 use Rattle.ams_relay.proofs.BesideLemmas.{beside_set, sets_at}
-use Rattle.ams_relay.proofs.CarryLemmas.{Still, seated, carry_quiet}
+use Rattle.ams_relay.proofs.CarryLemmas.{has_seat, value_there, carry_quiet}
 use Rattle.ams_relay.proofs.HoldLemmas.{named_at, counts_changed, asked_kept, routed_owned}
 use Rattle.ams_relay.proofs.OwnerLemmas.{bytes_same, bytes_refl, some_same, none_of, owner_is, owners_own}
 use Rattle.ams_relay.proofs.RequestLemmas.{hearing, AreSame, same_heard, heard_changed, heard_parts, heard_of_parts}
@@ -39,6 +40,38 @@ client_stays net = record { number = λ k. refl; gone = λ k. refl }
 pub peer_at : (n i : ℕ) (b : List ℕ) (p : Peer) (r : Router) (s : RelayState) → Holds r b s → IsEntry r.outlets n i
     → slice_get r.peers.items i ≡ Some p → peers_in r n ≡ Some p
 peer_at n i b p r s h at value = beside_at r.outlets r.peers.items n i at h.known.peers.count ∙ value
+
+-- a connection that is there has a peer
+pub record Kept (n : ℕ) (r : Router) : Type 0 where
+  pub peer : Peer
+  pub found : peers_in r n ≡ Some peer
+
+pub peer_kept : (n : ℕ) (b : List ℕ) (k : RelayConnection) (r : Router) (s : RelayState) → Holds r b s
+    → connection_of n s.connections ≡ Some k → k.gone ≡ false → Kept n r
+peer_kept n b k r s h found there =
+    let at = has_seat r.outlets b s.connections n k h.outlets found there in
+    let p = value_there r.peers.items at.i (omega (arith, at.place.within, h.known.peers.count)) in
+    record { peer = p.0; found = peer_at n at.i b p.0 r s h at.place p.1 }
+
+-- one peer is another, which owns the same
+pub record PeersAfter (n : ℕ) (q : Peer) (old new : Router) (s : RelayState) : Type 0 where
+  pub sets : Sets n q (peers_in old) (peers_in new)
+  pub column : AreBeside IsPeerOf new.outlets new.peers.items s.connections
+
+pub peers_after : (n i : ℕ) (b : List ℕ) (p q : Peer) (old new : Router) (s : RelayState) → Holds old b s → IsEntry old.outlets n i
+    → slice_get old.peers.items i ≡ Some p → new.outlets ≡ old.outlets → new.peers.items ≡ set old.peers.items i q → q.owned ≡ p.owned
+    → PeersAfter n q old new s
+peers_after n i b p q old new s h at value outlets peers owned =
+    let sets = sets_at n i old.outlets old.peers.items q at h.known.peers.count in
+    let still : Stays (λ (k : RelayConnection). k) = record { number = λ k. refl; gone = λ k. refl } in
+    let column = beside_set IsPeerOf n (λ k. k) q old.outlets old.peers.items (set old.peers.items i q) s still sets (length-set old.peers.items i q)
+    (λ k found there. ap net_of owned ∙ h.known.peers.each n p k (peer_at n i b p old s h at value) found there) h.known.peers in
+    record {
+      sets = subst (λ qs. Sets n q (peers_in old) qs) (λ j m. beside m (sym outlets j) (sym peers j)) sets;
+      column = subst (λ es. AreBeside IsPeerOf es new.peers.items s.connections) (sym outlets)
+          (subst (λ (ps : List Peer). AreBeside IsPeerOf old.outlets ps s.connections) (sym peers)
+          (subst (λ t. AreBeside IsPeerOf old.outlets (set old.peers.items i q) t.connections) (changed-nothing n (λ k. k) s (λ k e. refl)) column));
+    }
 
 -- what a connection owns
 pub owned_is : (n i : ℕ) (b : List ℕ) (k : RelayConnection) (p : Peer) (r : Router) (s : RelayState) → Holds r b s → IsEntry r.outlets n i
@@ -59,15 +92,15 @@ pub owner_there : (seat : Seat) (net : List ℕ) (b : List ℕ) (r : Router) (s 
 owner_there seat net b r s h o =
     let i = seat.place in
     let n = seat.number in
-    let at = seated r.outlets b s.connections n i h.outlets o.seat.entry in
-    let own = owned_open at.outlet (slice_get r.peers.items i) net
-    (sym (ap (λ (u : Option Outlet). net_of (owned_by u (slice_get r.peers.items i))) at.value) ∙ o.owned) in
-    let is_open : at.connection.closing ≡ false = sym at.stands.closing ∙ own.1.1.0 in
-    let client = h.known.peers.each n own.0 at.connection (peer_at n i b own.0 r s h o.seat.entry own.1.0) at.found at.there in
+    let at = at_number r.outlets b s.connections n i h.outlets o.seat.entry in
+    let own = owned_open at.o (slice_get r.peers.items i) net
+    (sym (ap (λ (u : Option Outlet). net_of (owned_by u (slice_get r.peers.items i))) at.outlet) ∙ o.owned) in
+    let is_open : at.k.closing ≡ false = sym at.stands.closing ∙ own.1.1.0 in
+    let client = h.known.peers.each n own.0 at.k (peer_at n i b own.0 r s h o.seat.entry own.1.0) at.found at.there in
     h.known.owners.owners net n (record {
-      connection = at.connection;
+      connection = at.k;
       found = at.found;
-      heard = heard_of_parts at.connection is_open at.there;
+      heard = heard_of_parts at.k is_open at.there;
       client = sym client ∙ own.1.1.1;
     })
 
@@ -181,7 +214,7 @@ owns_now n i b net k p q old new s h at value heard own free has owns asked rout
     (λ j m. beside m (sym outlets j) (sym peers j)) in
     record {
       outlets = subst (λ es. Carries es b t.connections) (sym outlets)
-          (carry_quiet n f b old.outlets s (record { number = λ l. refl; gone = λ l. refl; produced = λ l. refl; taken = λ l. refl; closing = λ l. refl }) h.outlets);
+          (carry_quiet n f b old.outlets s (record { number = λ l. refl; gone = λ l. refl; produced = λ l. refl; bytes_taken = λ l. refl; closing = λ l. refl }) h.outlets);
       known = record {
         routes = λ m. ap (rights_of m) routes ∙ known.routes m ∙ ap (λ (w : RelayWorld). rights_of m w.routes) (sym (world-change n f s));
         peers = subst (λ es. AreBeside IsPeerOf es new.peers.items t.connections) (sym outlets)

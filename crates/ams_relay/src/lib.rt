@@ -7,11 +7,14 @@ mod ends;
 mod giving;
 mod owners;
 mod peer;
+mod relaying;
 mod remembering;
 mod router;
 mod routing;
 mod seat;
+mod serving;
 mod taking;
 
 pub use counts::RelaySummary;
+pub use relaying::relay;
 pub use router::Relay;
