@@ -30,10 +30,10 @@ use Rattle.server_core.specs.HoldsWorld.{HoldsState}
 use Rattle.server_core.specs.Served.{ServedConnection, ServedState}
 use Rattle.server_core.specs.ServerView.{ServerView}
 use Rattle.server_core.specs.Serves.{EachStands, EachMarked, ServesEach, conns_in}
-use Rattle.spec_connections.specs.Present.{present}
+use Rattle.connections.specs.Present.{present}
 use Rattle.server_core.proofs.DeliverLemmas.{all_done}
 use Rattle.server_core.proofs.ProduceLemmas.{produce-stream}
-use Rattle.spec_connections.proofs.StateLemmas.{present-gone, present-there}
+use Rattle.connections.proofs.StateLemmas.{present-gone, present-there}
 use Rattle.server_core.proofs.SumLemmas.{same_counts_of, produced_sum}
 
 -- what frames of samples leave of a connection

@@ -12,7 +12,7 @@ use Rattle.spec_machine.proofs.Find.{test_same, test_other}
 use Rattle.server_core.specs.declared.waiting.Waiting.{Waiting}
 use Rattle.server_core.specs.Entries.{IsEntry, IsNoEntry}
 use Rattle.server_core.specs.Places.{read_among}
-use Rattle.spec_connections.proofs.EntryLemmas.{keys_length, found_at, entry_behind}
+use Rattle.connections.proofs.EntryLemmas.{keys_length, found_at, entry_behind}
 
 -- what holds of each key behind the first, and of the first
 none_of_all : (j : ℕ) (js : List ℕ) (n : ℕ) → (n == j) ≡ false

@@ -13,8 +13,8 @@ use Rattle.server_core.specs.Served.{ServedConnection}
 use Rattle.server_core.specs.CoreState.{CoreState}
 use Rattle.server_core.specs.ServerView.{ServerView}
 use Rattle.server_core.specs.Serves.{CoreView, EachStands, EachMarked, StandsEach, ServesEach, Serves, conns_in, without_gone}
-use Rattle.spec_connections.specs.Present.{present}
-use Rattle.spec_connections.proofs.StateLemmas.{present-gone, present-there, connection_of-same, connection_of-other, none_behind, number_differs}
+use Rattle.connections.specs.Present.{present}
+use Rattle.connections.proofs.StateLemmas.{present-gone, present-there, connection_of-same, connection_of-other, none_behind, number_differs}
 
 present-twice : (ks : List ServedConnection) → present (present ks) ≡ present ks
 present-twice [] = refl

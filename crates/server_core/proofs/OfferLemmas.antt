@@ -22,7 +22,7 @@ use Rattle.server_core.specs.Entries.{IsEntry, IsNoEntry}
 use Rattle.server_core.specs.Places.{offer_of_waiting, offer_among}
 use Rattle.server_core.specs.ServerView.{ServerView}
 use Rattle.server_core.specs.Serves.{ServesEach, conns_in}
-use Rattle.spec_connections.specs.Present.{present}
+use Rattle.connections.specs.Present.{present}
 use Rattle.server_core.proofs.ConnLemmas.{conn_here, conns_numbers, conns_length, entry_is_place, first_conn, no_entry_is_absent, some_turned}
 use Rattle.server_core.proofs.EntryLemmas.{HasEntry, entry_or_not, read_at, read_absent}
 use Rattle.server_core.proofs.PlaceLemmas.{IsNotThere, not_there, numbers-same}

@@ -20,12 +20,12 @@ use Rattle.server_core.specs.Entries.{IsEntry, IsNoEntry, IsFreshSession, IsNoth
 use Rattle.server_core.specs.Places.{IsAbsent}
 use Rattle.server_core.specs.ServerView.{ServerView, view_of}
 use Rattle.server_core.specs.Serves.{EachStands, ServesEach, ServesSome, FollowsEach, conns_in, without_gone}
-use Rattle.spec_connections.specs.Present.{present}
+use Rattle.connections.specs.Present.{present}
 use Rattle.server_core.proofs.ConnLemmas.{no_entry_is_absent, first_conn, conns_length}
 use Rattle.server_core.proofs.Forgotten.{serves_present}
 use Rattle.server_core.proofs.ServeLemmas.{served_at, opened_follows}
-use Rattle.spec_connections.proofs.StateLemmas.{connection_of-other, none_of_nil}
-use Rattle.spec_connections.proofs.StreamLemmas.{own_mark}
+use Rattle.connections.proofs.StateLemmas.{connection_of-other, none_of_nil}
+use Rattle.connections.proofs.StreamLemmas.{own_mark}
 
 -- a number that is there is not new
 pub opened_again : (v : ServerView) (waves : List Wave) (x : CoreState) (n i : ℕ)

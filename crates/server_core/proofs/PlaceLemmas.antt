@@ -13,10 +13,10 @@ use Rattle.server_core.specs.ConnStands.{Stands}
 use Rattle.server_core.specs.Places.{IsAbsent}
 use Rattle.ads_served.specs.Opened.{AreApart}
 use Rattle.server_core.specs.Serves.{EachStands, EachMarked}
-use Rattle.spec_connections.specs.Present.{present}
-use Rattle.spec_connections.proofs.StateLemmas.{present-gone, present-there, connection_of-same}
-use Rattle.spec_connections.proofs.StateLemmas.{connection_of-other, put_back-same, put_back-other, none_of_nil}
-use Rattle.spec_connections.proofs.StateLemmas.{none_behind, number_differs}
+use Rattle.connections.specs.Present.{present}
+use Rattle.connections.proofs.StateLemmas.{present-gone, present-there, connection_of-same}
+use Rattle.connections.proofs.StateLemmas.{connection_of-other, put_back-same, put_back-other, none_of_nil}
+use Rattle.connections.proofs.StateLemmas.{none_behind, number_differs}
 
 -- a change of the blocked connections that concerns one number alone
 abbrev pub Concerns : ℕ → List ℕ → List ℕ → Type 0

@@ -21,7 +21,7 @@ use Rattle.server_core.specs.Served.{ServedConnection}
 use Rattle.server_core.specs.Counts.{Counts, replies_of, samples_of}
 use Rattle.server_core.specs.ConnStands.{history_of, Stands}
 use Rattle.server_core.specs.Taking.{Produces}
-use Rattle.spec_connections.proofs.QueueLemmas.{left_after-push, queued-left_after}
+use Rattle.connections.proofs.QueueLemmas.{left_after-push, queued-left_after}
 use Rattle.server_core.proofs.CountLemmas.{same_count, same_counts, more}
 
 -- the bytes that wait in the queue are those of the machine

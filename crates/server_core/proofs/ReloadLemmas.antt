@@ -51,7 +51,7 @@ use Rattle.spec_machine.specs.WatchedRanges.{numbers_of}
 use Rattle.session.specs.Reloading.{AreMoves, IsReloadable}
 use Rattle.server_core.specs.ServerView.{ServerView, view_of}
 use Rattle.server_core.specs.Serves.{EachStands, StandsEach, ServesEach, ServesSome, IsServing, FollowsEach}
-use Rattle.spec_connections.specs.Present.{present}
+use Rattle.connections.specs.Present.{present}
 use Rattle.server_core.proofs.AskedLemmas.{all_follow, counted_all}
 use Rattle.server_core.proofs.ServeLemmas.{held_on}
 use Rattle.server_core.proofs.TickLemmas.{all_cons}

@@ -14,12 +14,12 @@ use Rattle.ads_served.specs.Standing.{Standing, Noting, standing_after, standing
 use Rattle.spec_machine.specs.Moves.{state_after}
 use Rattle.spec_machine.specs.Offers.{blocked_after, is_among, waiting_of, waiting_at}
 use Rattle.out_queue.specs.Queue.{front_of, frames_after}
-use Rattle.spec_connections.proofs.EntryLemmas.{keys_set}
-use Rattle.spec_connections.proofs.LentLemmas.{IsLent, is_lent, whole_after, not_short}
+use Rattle.connections.proofs.EntryLemmas.{keys_set}
+use Rattle.connections.proofs.LentLemmas.{IsLent, is_lent, whole_after, not_short}
 use Rattle.server_core.specs.declared.waiting.Waiting.{Waiting}
 use Rattle.server_core.specs.Served.{World, Client, served_step}
 use Rattle.server_core.specs.Conns.{Conn, conn_of}
-use Rattle.spec_connections.specs.Offering.{first_left}
+use Rattle.connections.specs.Offering.{first_left}
 use Rattle.server_core.specs.CoreState.{CoreState, after_move, after_moves}
 use Rattle.server_core.specs.Entries.{IsEntry, IsNoEntry}
 use Rattle.server_core.specs.Places.{offer_of_waiting, offer_among, run_of_waiting, run_among}

@@ -17,8 +17,8 @@ use Rattle.server_core.specs.ConnStands.{Stands}
 use Rattle.server_core.specs.CoreState.{CoreState}
 use Rattle.server_core.specs.Places.{IsPlace, IsAbsent}
 use Rattle.server_core.specs.Serves.{EachStands, EachMarked, StandsEach}
-use Rattle.spec_connections.specs.Present.{present}
-use Rattle.spec_connections.proofs.StateLemmas.{AreApart-put_back, AreApart-append, was_none, was_none_append, put_back-itself, present-append, present-there}
+use Rattle.connections.specs.Present.{present}
+use Rattle.connections.proofs.StateLemmas.{AreApart-put_back, AreApart-append, was_none, was_none_append, put_back-itself, present-append, present-there}
 use Rattle.server_core.proofs.PlaceLemmas.{Concerns, AtPlace, at_place, IsNotThere, marked_removed, marked_append, stands_append}
 
 -- the connection at a place

@@ -35,7 +35,7 @@ use Rattle.server_core.specs.HoldsWorld.{HoldsWorld, IsConnected}
 use Rattle.server_core.specs.Taking.{answered, settled, Takes, TakesSome, Produces}
 use Rattle.server_core.proofs.AddressLemmas.{same_address}
 use Rattle.server_core.proofs.CountLemmas.{same_count, same_counts, then_counts, one_more}
-use Rattle.spec_connections.proofs.StreamLemmas.{packet_is_next, rest_is_open, rest_is_broken, after_frame, own_mark}
+use Rattle.connections.proofs.StreamLemmas.{packet_is_next, rest_is_open, rest_is_broken, after_frame, own_mark}
 use Rattle.server_core.proofs.ProduceLemmas.{SameStream, produce-stream, counts_closing, stands_with_closing}
 
 -- the device takes a packet as the session does

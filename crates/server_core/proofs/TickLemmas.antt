@@ -24,7 +24,7 @@ use Rattle.server_core.specs.HoldsWorld.{HoldsState}
 use Rattle.server_core.specs.Served.{served, World, ServedConnection, ServedState}
 use Rattle.server_core.specs.ServerView.{ServerView}
 use Rattle.server_core.specs.Serves.{EachStands, ServesEach, ServesSome, FollowsEach}
-use Rattle.spec_connections.specs.Present.{present}
+use Rattle.connections.specs.Present.{present}
 use Rattle.server_core.proofs.AddressLemmas.{same_address}
 use Rattle.server_core.proofs.AskedLemmas.{all_follow, counted_all}
 

@@ -18,7 +18,7 @@ use Rattle.server_core.specs.declared.waiting.Waiting.{Waiting}
 use Rattle.server_core.specs.Served.{ServedConnection, ServedState}
 use Rattle.server_core.specs.Conns.{Conn, conn_of}
 use Rattle.server_core.specs.ConnStands.{Stands}
-use Rattle.spec_connections.specs.Offering.{FitsFirst, first_left}
+use Rattle.connections.specs.Offering.{FitsFirst, first_left}
 use Rattle.server_core.specs.CoreState.{CoreState, after_event, after_move}
 use Rattle.server_core.specs.Entries.{IsEntry, IsNoEntry}
 use Rattle.server_core.specs.Places.{offer_of_waiting, offer_among}
@@ -27,12 +27,12 @@ use Rattle.server_core.specs.Serves.{ServesEach, FollowsEach, conns_in}
 use Rattle.server_core.proofs.ConnLemmas.{conn_here, some_turned, no_entry_is_absent, entry_is_place}
 use Rattle.server_core.proofs.CountLemmas.{same_counts}
 use Rattle.server_core.proofs.EntryLemmas.{read_at}
-use Rattle.spec_connections.proofs.OfferLemmas.{is_offer, fits_first}
-use Rattle.spec_connections.proofs.QueueLemmas.{left_after-took, took_fits, fits_front}
+use Rattle.connections.proofs.OfferLemmas.{is_offer, fits_first}
+use Rattle.connections.proofs.QueueLemmas.{left_after-took, took_fits, fits_front}
 use Rattle.server_core.proofs.ServeLemmas.{served_at, waiting_follows}
 use Rattle.server_core.proofs.StandLemmas.{stands_writable, writable_list, writable-other, writable-same}
 use Rattle.server_core.proofs.StandLemmas.{at_mark, blocked_list, took-other, took-same, took_exchange}
-use Rattle.spec_connections.proofs.StateLemmas.{put_back-itself}
+use Rattle.connections.proofs.StateLemmas.{put_back-itself}
 
 -- the same view with another that waits at a place
 abbrev pub with_waiting : ServerView → ℕ → Waiting → ServerView

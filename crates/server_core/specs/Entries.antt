@@ -5,7 +5,7 @@ use Rattle.spec_plant.specs.World.{Plant}
 use Rattle.spec_machine.specs.Client.{new_client}
 use Rattle.ams_tcp.specs.History.{Represents, nothing_fed}
 use Rattle.session.specs.StandsFor.{StandsFor}
-pub use Rattle.spec_connections.specs.Entries.{IsEntry}
+pub use Rattle.connections.specs.Entries.{IsEntry}
 use Rattle.server_core.specs.declared.turned.Turned.{Turned}
 use Rattle.server_core.specs.declared.waiting.Waiting.{Waiting}
 use Rattle.server_core.specs.declared.clients.Clients.{Clients}

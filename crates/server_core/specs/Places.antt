@@ -1,7 +1,7 @@
 -- The connections of the code as a list, found by their numbers.
 use Rattle.std.specs.Prelude.{◌≡◌, ◌≢◌, ℕ, ◌<◌, List, [], ◌∷◌, length, slice_index_or, All}
 use Rattle.std.specs.Prelude.{◌==◌, if◌then◌else◌, Option, None}
-use Rattle.spec_connections.specs.Offering.{offer_of, offers_of, run_of}
+use Rattle.connections.specs.Offering.{offer_of, offers_of, run_of}
 use Rattle.server_core.specs.declared.waiting.Waiting.{Waiting}
 use Rattle.server_core.specs.Conns.{Conn}
 

@@ -2,7 +2,7 @@
 use Rattle.std.specs.Prelude.{◌≡◌, ℕ, List, [], ◌∷◌, ◌≤◌, length, filter, is_some, true, false, Bool, Option, None, IsSomeAnd}
 use Rattle.signals.specs.Wave.{Wave}
 use Rattle.spec_plant.specs.World.{Plant}
-use Rattle.spec_connections.specs.Present.{present}
+use Rattle.connections.specs.Present.{present}
 use Rattle.spec_machine.specs.Connection.{connection_of}
 use Rattle.spec_machine.specs.Offers.{is_among}
 use Rattle.spec_machine.specs.Summary.{summary_of}

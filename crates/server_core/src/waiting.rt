@@ -3,7 +3,7 @@
 ghost use Rattle.std.specs.Prelude.{◌≡◌, ◌≤◌, [], length, nat_lt, false, IfSome, option_copied, option_map};
 ghost use Rattle.std.specs.List.{concat};
 ghost use Rattle.out_queue.specs.Queue.{QUEUE_LIMIT, frames_after};
-ghost use Rattle.spec_connections.specs.Offering.{FitsFirst, first_left};
+ghost use Rattle.connections.specs.Offering.{FitsFirst, first_left};
 ghost use Rattle.server_core.specs.Places.{run_of_waiting};
 ghost use Rattle.server_core.specs.Touched.{is_offered};
 

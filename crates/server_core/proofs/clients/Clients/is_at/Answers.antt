@@ -1,7 +1,7 @@
 use Rattle.std.proofs.Common.{sym, ◌∙◌, ap}
 use Rattle.std.specs.Prelude.{Some}
 use Rattle.std.proofs.lemmas.Bool.{eqb-true}
-use Rattle.spec_connections.proofs.EntryLemmas.{entry_of_key}
+use Rattle.connections.proofs.EntryLemmas.{entry_of_key}
 use Rattle.server_core.proofs.clients.Clients.is_at.Goals as goal
 
 pub returns-in-Some : goal.returns-in-Some

@@ -4,7 +4,7 @@ use Rattle.std.proofs.lemmas.Bool.{cond-true, cond-false}
 use Rattle.out_queue.specs.Queue.{front_of}
 use Rattle.server_core.specs.Places.{offer_of_waiting}
 use Rattle.server_core.proofs.EntryLemmas.{read_at, read_absent}
-use Rattle.spec_connections.proofs.OfferLemmas.{front_is}
+use Rattle.connections.proofs.OfferLemmas.{front_is}
 use Rattle.server_core.proofs.server.Server.offer_of.Goals as goal
 
 pub returns-in_err-i-clause-offer : goal.returns-in_err-i-clause-offer

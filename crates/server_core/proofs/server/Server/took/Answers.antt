@@ -4,7 +4,7 @@ use Rattle.std.specs.Prelude.{IsSomeAnd}
 use Rattle.server_core.specs.ServerView.{view_of}
 use Rattle.server_core.specs.Places.{offer_of_waiting, offers_of_waiting, offers_among}
 use Rattle.server_core.proofs.EntryLemmas.{read_at, read_absent, read_set}
-use Rattle.spec_connections.proofs.OfferLemmas.{fits_first, fewer_left}
+use Rattle.connections.proofs.OfferLemmas.{fits_first, fewer_left}
 use Rattle.server_core.proofs.WaitLemmas.{took_at}
 use Rattle.server_core.proofs.server.Server.took.Goals as goal
 

@@ -5,7 +5,7 @@ use Rattle.std.proofs.lemmas.Bool.{cases_Bool, cases_eq, cond-true, cond-false, 
 use Rattle.spec_machine.specs.Connection.{Connection, connection_of, put_back}
 use Rattle.spec_machine.proofs.Find.{test_same, test_other, or_else, connection_of-append, number_of_found}
 use Rattle.ads_served.specs.Opened.{AreApart}
-use Rattle.spec_connections.specs.Present.{present}
+use Rattle.connections.specs.Present.{present}
 
 pub present-gone : {C : Type 0} (k : Connection C) (ks : List (Connection C)) → k.gone ≡ true → present (k ∷ ks) ≡ present ks
 present-gone {C} k ks e = cond-false (not k.gone) (k ∷ present ks) (present ks) (not_from_true k.gone e)

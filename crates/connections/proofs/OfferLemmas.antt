@@ -4,7 +4,7 @@ use Rattle.std.specs.Prelude.{Bool, nat_lt, drop, ◌==◌, Option, Some, None, 
 use Rattle.std.proofs.lemmas.Bool.{cases_Bool, ltb-false, cond-true, cond-false}
 use Rattle.spec_machine.proofs.Find.{test_same}
 use Rattle.out_queue.specs.Queue.{front_of, frames_after}
-use Rattle.spec_connections.specs.Offering.{offer_of, offers_of, FitsFirst, first_left}
+use Rattle.connections.specs.Offering.{offer_of, offers_of, FitsFirst, first_left}
 
 -- the front of a queue, as a reference
 pub front_is : (r : Option (Bor (List ℕ))) (out : List (List ℕ)) → (IsNone r → out ≡ [])

@@ -5,7 +5,7 @@ use Rattle.std.specs.Prelude.{Bool, ◌==◌, ◌↔◌, nat_lt, Option, Some, N
 use Rattle.std.specs.List.{concat}
 use Rattle.std.proofs.lemmas.Bool.{cases_Bool, le-ltb, eq-eqb, cond-true, cond-false}
 use Rattle.out_queue.specs.Queue.{frames_after}
-use Rattle.spec_connections.specs.Offering.{some_frames, run_of}
+use Rattle.connections.specs.Offering.{some_frames, run_of}
 
 -- all of a queue, as a reference
 pub run_is : (r : Option (Bor (List ℕ))) (out : List (List ℕ)) → (IsNone r ↔ (out ≡ [])) → IfSome r (λ run. concat out ≡ run.now)

@@ -1,0 +1,12 @@
+pub mod StreamLemmas
+pub mod StateLemmas
+pub mod QueueLemmas
+pub mod OfferLemmas
+pub mod LentLemmas
+pub mod EntryLemmas
+pub mod OutletLemmas
+pub mod TouchedLemmas
+pub mod DueLemmas
+pub mod ColumnLemmas
+pub mod PlaceLemmas
+pub mod BesideLemmas
