@@ -1,0 +1,32 @@
+use Rattle.std.proofs.Common.{rules, ◌≡◌, ℕ, ◌==◌, ◌%◌, List, Some, option_map, OnOk, ◌+◌, ◌-◌, ◌*◌, ◌<◌, ◌≤◌, length, ◌/◌, Bool, true, false, nat_eq, nat_lt, [], ◌∷◌, ◌++◌, slice_index_or, slice_set, bit_and, bit_or, Fits, w8, w32, w64, Bor, MutBor}
+use Rattle.spec_frames.specs.Frame.{IsAmsPacket}
+use Rattle.spec_formats.specs.Header.{header_of}
+use Rattle.spec_relay.specs.RelayState.{RelayState, RelayConnection, owner_of}
+use Rattle.spec_relay.specs.Requests.{request_answered}
+use Rattle.spec_relay.specs.Ways.{is_closed_by, way_of_response, way_of_request}
+use Rattle.spec_relay.specs.Routing.{after_header, after_way, with_passed, with_request_of}
+use Rattle.ams_header.specs.Header.{ams_header_of}
+use Rattle.ams_relay.specs.Holds.{Holds}
+use Rattle.ams_relay.specs.Peers.{IsSeat, places_of}
+use Rattle.ams_relay.specs.Taking.{IsHeardAt, IsOpenedAt, IsSwept, is_refused, number_of}
+use Rattle.ams_relay.proofs.router.Router.pass.Goals as goal
+
+-- src/routing.rt:35:13
+pub returns-then-is_closed_by-clause-follows : goal.returns-then-is_closed_by-clause-follows
+returns-then-is_closed_by-clause-follows c = ?
+
+-- src/routing.rt:39:13
+pub pass_response-requires-clause-seat : goal.pass_response-requires-clause-seat
+pass_response-requires-clause-seat c = ?
+
+-- src/routing.rt:41:13
+pub pass_request-requires-clause-seat : goal.pass_request-requires-clause-seat
+pass_request-requires-clause-seat c = ?
+
+-- src/routing.rt:23:5
+pub returns-then-is_response-clause-follows : goal.returns-then-is_response-clause-follows
+returns-then-is_response-clause-follows c = ?
+
+-- src/routing.rt:23:5
+pub returns-else-is_response-clause-follows : goal.returns-else-is_response-clause-follows
+returns-else-is_response-clause-follows c = ?

@@ -1,0 +1,26 @@
+use Rattle.std.proofs.Common.{rules, ◌≡◌, ◌<◌, ◌↔◌, ℕ, List, false, length, IsTrue, IfOk, IfSome, IfNone, OnOk, ◌+◌, ◌-◌, ◌*◌, ◌≤◌, ◌/◌, ◌%◌, Bool, true, nat_eq, nat_lt, [], ◌∷◌, ◌++◌, slice_index_or, slice_set, bit_and, bit_or, Fits, w8, w32, w64, Bor, MutBor}
+use Rattle.ads_outside.specs.declared.event.Event.TheVariants as event
+use Rattle.spec_machine.specs.Piece.{with_received}
+use Rattle.spec_relay.specs.RelayState.{RelayState, is_heard_among}
+use Rattle.spec_relay.specs.RelayMoves.{relay_after_event}
+use Rattle.spec_relay.specs.Routing.{at_connection}
+use Rattle.ams_relay.specs.Peers.{IsSeat, places_of}
+use Rattle.ams_relay.specs.Relays.{StandsFor}
+use Rattle.ams_relay.specs.Taking.{HoldsWith, IsHeardSeat, Takes, end_of_piece}
+use Rattle.ams_relay.proofs.router.Router.take_next.Goals as goal
+
+-- src/taking.rt:88:13
+pub returns-then-is_closing-clause-takes : goal.returns-then-is_closing-clause-takes
+returns-then-is_closing-clause-takes c = ?
+
+-- src/taking.rt:75:5
+pub returns-in_ok-pass-in-Frame-clause-takes : goal.returns-in_ok-pass-in-Frame-clause-takes
+returns-in_ok-pass-in-Frame-clause-takes c = ?
+
+-- src/taking.rt:75:5
+pub returns-in-NotYet-clause-takes : goal.returns-in-NotYet-clause-takes
+returns-in-NotYet-clause-takes c = ?
+
+-- src/taking.rt:75:5
+pub returns-in-Broken-clause-takes : goal.returns-in-Broken-clause-takes
+returns-in-Broken-clause-takes c = ?
