@@ -1,5 +1,5 @@
 -- Columns beside the connections that are there: one changes, comes or goes.
-use Rattle.std.proofs.Common.{◌≡◌, ℕ, zero, suc, ◌<◌, List, [], ◌∷◌, ◌++◌, length, map, set, refl, sym, ap, ◌∙◌, subst, arith}
+use Rattle.std.proofs.Common.{◌≡◌, ℕ, zero, suc, ◌<◌, List, [], ◌∷◌, ◌++◌, length, set, refl, ap, subst, arith}
 use Rattle.std.specs.Prelude.{remove, slice_get, Option, Some, None}
 use Rattle.spec_machine.specs.Connection.{Connection}
 use Rattle.connections.specs.Carries.{EachBeside}

@@ -10,3 +10,10 @@ pub mod DueLemmas
 pub mod ColumnLemmas
 pub mod PlaceLemmas
 pub mod BesideLemmas
+pub mod CarryLemmas
+pub mod GivenLemmas
+pub mod OutputLemmas
+pub mod MoveLemmas
+pub mod ReadLemmas
+pub mod ForgottenLemmas
+mod Examples

@@ -1,7 +1,7 @@
 -- An outlet by its number and by its place: what is read of it, and its changes.
-use Rattle.std.proofs.Common.{◌≡◌, ℕ, zero, suc, ◌<◌, ◌≤◌, List, [], ◌∷◌, length, get_or, refl, sym, ap, ◌∙◌, arith}
-use Rattle.std.specs.Prelude.{◌==◌, remove, slice_get, Option, Some, None}
-use Rattle.std.specs.Map.{keys_of, values_of}
+use Rattle.std.proofs.Common.{◌≡◌, ℕ, zero, suc, ◌≤◌, List, [], ◌∷◌, length, get_or, refl, sym, ap, ◌∙◌, arith}
+use Rattle.std.specs.Prelude.{◌==◌, remove, Option, Some, None, Result, Ok, Err, OnOk, OnErr}
+use Rattle.std.specs.Map.{keys_of}
 use Rattle.std.proofs.lemmas.Bool.{cond-true, cond-false}
 use Rattle.indexmap.specs.IndexMap.{set_value_at}
 use Rattle.spec_machine.proofs.Find.{test_same, test_other}
@@ -43,7 +43,8 @@ read_changed read none change (e ∷ es) n (suc i) o at value =
     ∙ read_changed read none change es n i o (entry_behind e es n i at) value
 
 -- a value that is set at a place is a change there
-pub set_is : (change : Outlet → Outlet) (es : Outlets) (i : ℕ) (o p : Outlet) → outlet_at es i ≡ Some o → p ≡ change o → set_value_at es i p ≡ change_at change i es
+pub set_is : (change : Outlet → Outlet) (es : Outlets) (i : ℕ) (o p : Outlet) → outlet_at es i ≡ Some o → p ≡ change o
+    → set_value_at es i p ≡ change_at change i es
 set_is change [] i o p value same = refl
 set_is change (e ∷ es) zero o p value same = let at : e.1 ≡ o = cc in ap (λ q. (e.0, q) ∷ es) (same ∙ ap change (sym at))
 set_is change (e ∷ es) (suc i) o p value same = ap (λ fs. e ∷ fs) (set_is change es i o p value same)
@@ -56,9 +57,30 @@ changed_at change (e ∷ es) n (suc i) at =
     cond-false (e.0 == n) ((e.0, change e.1) ∷ es) (e ∷ change_of change n es) (test_other e.0 n (at.first 0 0 (omega arith)))
     ∙ ap (λ fs. e ∷ fs) (changed_at change es n i (entry_behind e es n i at))
 
-pub set_of : (change : Outlet → Outlet) (es : Outlets) (n i : ℕ) (o p : Outlet)
-    → IsEntry es n i → outlet_at es i ≡ Some o → p ≡ change o → set_value_at es i p ≡ change_of change n es
-set_of change es n i o p at value same = set_is change es i o p value same ∙ sym (changed_at change es n i at)
+-- the same, where these are the outlets that a contract sees
+pub set_of : (change : Outlet → Outlet) (es seen : Outlets) (n i : ℕ) (o p : Outlet) → es ≡ seen
+    → IsEntry seen n i → outlet_at es i ≡ Some o → p ≡ change o → set_value_at es i p ≡ change_of change n seen
+set_of change es seen n i o p view at value same =
+    set_is change es i o p value same ∙ ap (λ (fs : Outlets). change_at change i fs) view ∙ sym (changed_at change seen n i at)
+
+pub set_seen : (change : Outlet → Outlet) (es seen : Outlets) (i : ℕ) (o p : Outlet) → es ≡ seen
+    → outlet_at es i ≡ Some o → p ≡ change o → set_value_at es i p ≡ change_at change i seen
+set_seen change es seen i o p view value same = set_is change es i o p value same ∙ ap (λ (fs : Outlets). change_at change i fs) view
+
+set_itself : (es : Outlets) (i : ℕ) (o : Outlet) → outlet_at es i ≡ Some o → set_value_at es i o ≡ es
+set_itself [] i o value = refl
+set_itself (e ∷ es) zero o value = let at : e.1 ≡ o = cc in ap (λ q. (e.0, q) ∷ es) (sym at)
+set_itself (e ∷ es) (suc i) o value = ap (λ fs. e ∷ fs) (set_itself es i o value)
+
+pub set_ok : {A E : Type 0} (r : Result A E) (change : Outlet → Outlet) (es seen : Outlets) (i : ℕ) (o p : Outlet) → es ≡ seen
+    → outlet_at es i ≡ Some o → OnOk r (p ≡ change o) → OnOk r (set_value_at es i p ≡ change_at change i seen)
+set_ok (Ok a) change es seen i o p view value same = set_seen change es seen i o p view value same
+set_ok (Err e) change es seen i o p view value same = tt
+
+pub set_err : {A E : Type 0} (r : Result A E) (es seen : Outlets) (i : ℕ) (o p : Outlet) → es ≡ seen
+    → outlet_at es i ≡ Some o → OnErr r (p ≡ o) → OnErr r (set_value_at es i p ≡ seen)
+set_err (Ok a) es seen i o p view value same = tt
+set_err (Err e) es seen i o p view value same = ap (λ q. set_value_at es i q) same ∙ set_itself es i o value ∙ view
 
 pub unchanged_of : (change : Outlet → Outlet) (es : Outlets) (n : ℕ) → IsNoEntry es n → change_of change n es ≡ es
 unchanged_of change [] n none = refl
@@ -110,7 +132,8 @@ entry_changed change es n i j at = record {
 }
 
 -- what is there after a change
-pub outlet_changed : (change : Outlet → Outlet) (es : Outlets) (i : ℕ) (o : Outlet) → outlet_at es i ≡ Some o → outlet_at (change_at change i es) i ≡ Some (change o)
+pub outlet_changed : (change : Outlet → Outlet) (es : Outlets) (i : ℕ) (o : Outlet) → outlet_at es i ≡ Some o
+    → outlet_at (change_at change i es) i ≡ Some (change o)
 outlet_changed change [] i o here = absurd (let none : ◌≡◌ {A = Option Outlet} None (Some o) = here in cc)
 outlet_changed change (e ∷ es) zero o here = let same : e.1 ≡ o = cc in ap (λ p. Some (change p)) same
 outlet_changed change (e ∷ es) (suc i) o here = outlet_changed change es i o here

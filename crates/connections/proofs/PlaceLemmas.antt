@@ -1,11 +1,11 @@
 -- A connection of a machine that is there, by its number and by its place among those that are.
-use Rattle.std.proofs.Common.{◌≡◌, ◌≢◌, ℕ, zero, suc, List, [], ◌∷◌, set, true, false, refl, sym, ap, ◌∙◌, subst, inl, inr, arith}
+use Rattle.std.proofs.Common.{◌≡◌, ◌≢◌, ℕ, zero, suc, List, [], ◌∷◌, set, true, false, refl, sym, ap, ◌∙◌, subst, inl, inr}
 use Rattle.std.specs.Prelude.{remove, slice_get, Option, Some, None}
 use Rattle.std.proofs.lemmas.Bool.{cases_Bool}
 use Rattle.spec_machine.specs.Connection.{Connection, connection_of, put_back}
 use Rattle.ads_served.specs.Opened.{AreApart}
 use Rattle.connections.specs.Present.{present}
-use Rattle.connections.proofs.StateLemmas.{present-gone, present-there, connection_of-same, connection_of-other, put_back-same, put_back-other, none_of_nil}
+use Rattle.connections.proofs.StateLemmas.{present-gone, present-there, connection_of-same, connection_of-other, put_back-same, put_back-other}
 
 -- it is found by its number, and its place is where a change of it is seen
 pub record StandsAt {C : Type 0} (ks : List (Connection C)) (i : ℕ) (k : Connection C) : Type 0 where
@@ -15,10 +15,12 @@ pub record StandsAt {C : Type 0} (ks : List (Connection C)) (i : ℕ) (k : Conne
   pub ended : (l : Connection C) → l.number ≡ k.number → l.gone ≡ true → present (put_back l ks) ≡ remove (present ks) i
 
 -- another before it
-other_before : {C : Type 0} (n : ℕ) (j k : Connection C) (ks : List (Connection C)) → connection_of j.number ks ≡ None → connection_of n ks ≡ Some k → j.number ≢ n
+other_before : {C : Type 0} (n : ℕ) (j k : Connection C) (ks : List (Connection C))
+    → connection_of j.number ks ≡ None → connection_of n ks ≡ Some k → j.number ≢ n
 other_before {C} n j k ks none found same = let both = sym (ap (λ m. connection_of m ks) same) ∙ none in let no = sym both ∙ found in cc
 
-behind_gone : {C : Type 0} (j k : Connection C) (ks : List (Connection C)) (i : ℕ) → j.gone ≡ true → j.number ≢ k.number → StandsAt ks i k → StandsAt (j ∷ ks) i k
+behind_gone : {C : Type 0} (j k : Connection C) (ks : List (Connection C)) (i : ℕ)
+    → j.gone ≡ true → j.number ≢ k.number → StandsAt ks i k → StandsAt (j ∷ ks) i k
 behind_gone {C} j k ks i gone other at = record {
   found = connection_of-other k.number j ks other ∙ at.found;
   there = at.there;
@@ -53,14 +55,13 @@ stands_at {C} (j ∷ ks) i k apart there = elim (cases_Bool j.gone) [
   | inl gone ↦
       let rest = stands_at ks i k apart.1 (sym (ap (λ ps. slice_get ps i) (present-gone j ks gone)) ∙ there) in
       behind_gone j k ks i gone (other_before k.number j k ks apart.0 rest.found) rest
-  | inr here ↦ by i here (sym (ap (λ ps. slice_get ps i) (present-there j ks here)) ∙ there)
+  | inr here ↦ by (λ m. stands_at ks m k apart.1) i here (sym (ap (λ ps. slice_get ps i) (present-there j ks here)) ∙ there)
 ]
   where
-    by : (m : ℕ) → j.gone ≡ false → slice_get (j ∷ present ks) m ≡ Some k → StandsAt (j ∷ ks) m k
-    by zero here first = let same : j ≡ k = cc in subst (λ l. StandsAt (j ∷ ks) zero l) same (at_head j ks here)
-    by (suc m) here later =
-        let rest = stands_at ks m k apart.1 later in
-        behind_there j k ks m here (other_before k.number j k ks apart.0 rest.found) rest
+    by : ((m : ℕ) → slice_get (present ks) m ≡ Some k → StandsAt ks m k)
+        → (m : ℕ) → j.gone ≡ false → slice_get (j ∷ present ks) m ≡ Some k → StandsAt (j ∷ ks) m k
+    by rest zero here first = let same : j ≡ k = cc in subst (λ l. StandsAt (j ∷ ks) zero l) same (at_head j ks here)
+    by rest (suc m) here later = let at = rest m later in behind_there j k ks m here (other_before k.number j k ks apart.0 at.found) at
 
 -- those at other places have other numbers
 pub others_differ : {C : Type 0} (ks : List (Connection C)) (i m : ℕ) (k l : Connection C) → AreApart ks
@@ -69,15 +70,18 @@ others_differ {C} [] i m k l apart there also same = absurd (let none : ◌≡�
 others_differ {C} (j ∷ ks) i m k l apart there also same = elim (cases_Bool j.gone) [
   | inl gone ↦ others_differ ks i m k l apart.1 (sym (ap (λ ps. slice_get ps i) (present-gone j ks gone)) ∙ there)
       (sym (ap (λ ps. slice_get ps m) (present-gone j ks gone)) ∙ also) same
-  | inr here ↦ by i m (sym (ap (λ ps. slice_get ps i) (present-there j ks here)) ∙ there) (sym (ap (λ ps. slice_get ps m) (present-there j ks here)) ∙ also)
+  | inr here ↦ by (λ a b x y. others_differ ks a b k l apart.1 x y same) i m
+      (sym (ap (λ ps. slice_get ps i) (present-there j ks here)) ∙ there) (sym (ap (λ ps. slice_get ps m) (present-there j ks here)) ∙ also)
 ]
   where
     first_again : (x y : Connection C) (a : ℕ) → j ≡ x → slice_get (present ks) a ≡ Some y → x.number ≡ y.number → ⊥
     first_again x y a first later equal =
         let rest = stands_at ks a y apart.1 later in
         other_before y.number j y ks apart.0 rest.found (ap (λ (z : Connection C). z.number) first ∙ equal)
-    by : (a b : ℕ) → slice_get (j ∷ present ks) a ≡ Some k → slice_get (j ∷ present ks) b ≡ Some l → b ≡ a
-    by zero zero x y = refl
-    by zero (suc b) x y = absurd (first_again k l b cc y (sym same))
-    by (suc a) zero x y = absurd (first_again l k a cc x same)
-    by (suc a) (suc b) x y = ap suc (others_differ ks a b k l apart.1 x y same)
+
+    by : ((a b : ℕ) → slice_get (present ks) a ≡ Some k → slice_get (present ks) b ≡ Some l → b ≡ a)
+        → (a b : ℕ) → slice_get (j ∷ present ks) a ≡ Some k → slice_get (j ∷ present ks) b ≡ Some l → b ≡ a
+    by rest zero zero x y = refl
+    by rest zero (suc b) x y = let first : j ≡ k = cc in absurd (first_again k l b first y (sym same))
+    by rest (suc a) zero x y = let first : j ≡ l = cc in absurd (first_again l k a first x same)
+    by rest (suc a) (suc b) x y = ap suc (rest a b x y)

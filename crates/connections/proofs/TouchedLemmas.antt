@@ -1,8 +1,7 @@
 -- Which connections are idle while one is touched, opened or gone.
-use Rattle.std.proofs.Common.{◌≡◌, ◌≢◌, ℕ, zero, suc, ◌+◌, ◌<◌, ◌≤◌, List, [], ◌∷◌, ◌++◌, length, true, false, refl, sym, ap, ◌∙◌, subst, inl, inr}
+use Rattle.std.proofs.Common.{◌≡◌, ◌≢◌, ℕ, zero, suc, ◌+◌, ◌<◌, ◌≤◌, List, [], ◌∷◌, ◌++◌, length, false, refl, sym, ap, ◌∙◌, subst, inl, inr}
 use Rattle.std.proofs.Common.{nat_eq, add-one, arith}
-use Rattle.std.specs.Prelude.{remove, slice_get, Result, Ok, Err, OnOk, OnErr}
-use Rattle.std.specs.Map.{values_of}
+use Rattle.std.specs.Prelude.{remove, Result, Ok, Err, OnOk, OnErr}
 use Rattle.std.proofs.lemmas.Bool.{cases_lt}
 use Rattle.indexmap.specs.IndexMap.{set_value_at, insert_entry}
 use Rattle.connections.specs.declared.touched.Touched.{Touched}
@@ -40,12 +39,12 @@ due_pushed (d ∷ es) n zero e = e
 due_pushed (d ∷ es) n (suc k) e = due_pushed es n k e
 
 -- one that is put in where its number is not there, or is not, for want of memory
-pub idle_inserted : {A E : Type 0} (r : Result A E) (touched : Touched) (old new : Outlets) (n : ℕ)
-    → OnOk r (new ≡ insert_entry nat_eq old n fresh_outlet) → OnErr r (new ≡ old)
-    → IsNoEntry old n → OthersIdle touched old → OthersIdle touched new
-idle_inserted (Ok a) touched old new n put kept none idle =
-    subst (λ (es : Outlets). OthersIdle touched es) (sym (put ∙ entry_added old n fresh_outlet none)) (λ k untouched. due_pushed old n k (idle k untouched))
-idle_inserted (Err e) touched old new n put kept none idle = subst (λ (es : Outlets). OthersIdle touched es) (sym kept) idle
+pub idle_inserted : {A E : Type 0} (r : Result A E) (touched : Touched) (old new : Outlets) (n : ℕ) (o : Outlet) → o ≡ fresh_outlet
+    → OnOk r (new ≡ insert_entry nat_eq old n o) → OnErr r (new ≡ old) → IsNoEntry old n → OthersIdle touched old → OthersIdle touched new
+idle_inserted (Ok a) touched old new n o fresh put kept none idle =
+    subst (λ (es : Outlets). OthersIdle touched es) (sym (put ∙ entry_added old n o none ∙ ap (λ p. old ++ (n, p) ∷ []) fresh))
+    (λ k untouched. due_pushed old n k (idle k untouched))
+idle_inserted (Err e) touched old new n o fresh put kept none idle = subst (λ (es : Outlets). OthersIdle touched es) (sym kept) idle
 
 -- one is taken out, and those behind it move up
 due_before : (es : Outlets) (i k : ℕ) → k < i → due_at (remove es i) k ≡ due_at es k

@@ -1,6 +1,6 @@
 -- Which connections may have something to be offered, or are to be shut: those that were touched. All others are idle.
 -- No public clause cites this file.
-use Rattle.std.specs.Prelude.{◌≡◌, ◌≢◌, ℕ, ◌<◌, List, [], ◌∷◌, Bool, true, false, if◌then◌else◌, Option, Some, None, slice_get}
+use Rattle.std.specs.Prelude.{◌≡◌, ◌≢◌, ℕ, List, [], ◌∷◌, Bool, true, false, if◌then◌else◌, Option, Some, None}
 use Rattle.connections.specs.declared.touched.Touched.{Touched}
 use Rattle.connections.specs.declared.touched.Touched.TheVariants.{Nothing, One, Two, All}
 use Rattle.connections.specs.declared.outlet.Outlet.{Outlet}

@@ -2,11 +2,13 @@
 
 ghost use Rattle.std.specs.Prelude.{◌≡◌, ◌≤◌, ◌<◌, ◌≢◌, ◌++◌, ℕ, [], false, length, slice_get, OnOk};
 ghost use Rattle.connections.specs.Outlets.{numbers_due};
-ghost use Rattle.connections.specs.Touched.{AreDue, OthersIdle, due_at, number_if_due};
+ghost use Rattle.connections.specs.Touched.{AreDue, IsUntouched, OthersIdle, due_at, number_if_due};
 
+use crate::outlet::Outlet;
 use crate::outlets::Outlets;
 use crate::touched::Touched;
 use ads_base::NoMemory;
+use indexmap::IndexMap;
 use std::alloc::Global;
 
 impl Outlets {
@@ -28,7 +30,7 @@ impl Outlets {
     pub fn settle(&mut self)
         ensures { self.new ≡ self.old }
     {
-        self.touched = self.settled();
+        self.touched = settled(&self.entries, self.touched);
     }
 
     // Those at no place but one.
@@ -46,11 +48,23 @@ impl Outlets {
         requires none { numbers.old.items ≡ [] }
         ensures { OnOk result (numbers.new.items ≡ numbers_due self.now) }
     {
-        if a == b {
-            return self.put_one(a, numbers);
+        if a < b {
+            return self.put_ordered(a, b, numbers);
         }
-        self.put_due(a.min(b), numbers)?;
-        self.put_due(a.max(b), numbers)
+        if b < a {
+            return self.put_ordered(b, a, numbers);
+        }
+        self.put_one(a, numbers)
+    }
+
+    fn put_ordered(&self, a: usize, b: usize, numbers: &mut Vec<u32>) -> Result<(), NoMemory>
+        requires order { a < b }
+        requires idle { (k : ℕ) → k ≢ a → k ≢ b → due_at self.now k ≡ false }
+        requires none { numbers.old.items ≡ [] }
+        ensures { OnOk result (numbers.new.items ≡ numbers_due self.now) }
+    {
+        self.put_due(a, numbers)?;
+        self.put_due(b, numbers)
     }
 
     fn put_all(&self, numbers: &mut Vec<u32>) -> Result<(), NoMemory>
@@ -75,63 +89,69 @@ impl Outlets {
         }
         Ok(())
     }
+}
 
-    fn settled(&self) -> Touched
-        ensures idle { OthersIdle result self.now }
-        ensures due { AreDue result self.now }
-    {
-        match self.touched {
-            Touched::Nothing => Touched::Nothing,
-            Touched::One(a) => self.settled_one(a),
-            Touched::Two(a, b) => self.settled_two(a, b),
-            Touched::All => self.settled_all(),
-        }
+// The places that are due among those that are touched; all, where many are touched and one is due.
+fn settled(entries: &IndexMap<u32, Outlet>, touched: Touched) -> Touched
+    requires { OthersIdle touched entries.now.entries }
+    ensures idle { OthersIdle result entries.now.entries }
+    ensures due { AreDue result entries.now.entries }
+    ensures within { (k : ℕ) → IsUntouched touched k → IsUntouched result k }
+{
+    match touched {
+        Touched::Nothing => Touched::Nothing,
+        Touched::One(a) => settled_one(entries, a),
+        Touched::Two(a, b) => settled_two(entries, a, b),
+        Touched::All => settled_all(entries),
     }
+}
 
-    fn settled_one(&self, a: usize) -> Touched
-        requires { (k : ℕ) → k ≢ a → due_at self.now k ≡ false }
-        ensures idle { OthersIdle result self.now }
-        ensures due { AreDue result self.now }
-    {
-        if self.is_due(a) {
-            Touched::One(a)
-        } else {
-            Touched::Nothing
-        }
-    }
-
-    fn settled_two(&self, a: usize, b: usize) -> Touched
-        requires { (k : ℕ) → k ≢ a → k ≢ b → due_at self.now k ≡ false }
-        ensures idle { OthersIdle result self.now }
-        ensures due { AreDue result self.now }
-    {
-        if !self.is_due(a) {
-            return self.settled_one(b);
-        }
-        if !self.is_due(b) {
-            return self.settled_one(a);
-        }
-        Touched::Two(a, b)
-    }
-
-    fn settled_all(&self) -> Touched
-        ensures idle { OthersIdle result self.now }
-        ensures due { AreDue result self.now }
-    {
-        for i in 0..self.entries.len() {
-            if self.is_due(i) {
-                return Touched::All;
-            }
-        }
+fn settled_one(entries: &IndexMap<u32, Outlet>, a: usize) -> Touched
+    requires { (k : ℕ) → k ≢ a → due_at entries.now.entries k ≡ false }
+    ensures idle { OthersIdle result entries.now.entries }
+    ensures due { AreDue result entries.now.entries }
+    ensures within { (k : ℕ) → k ≢ a → IsUntouched result k }
+{
+    if is_due(entries, a) {
+        Touched::One(a)
+    } else {
         Touched::Nothing
     }
+}
 
-    fn is_due(&self, i: usize) -> bool
-        ensures { result ≡ due_at self.now i }
-    {
-        match self.entries.get_index(i) {
-            Some((_, outlet)) => outlet.is_due(),
-            None => false,
+fn settled_two(entries: &IndexMap<u32, Outlet>, a: usize, b: usize) -> Touched
+    requires { (k : ℕ) → k ≢ a → k ≢ b → due_at entries.now.entries k ≡ false }
+    ensures idle { OthersIdle result entries.now.entries }
+    ensures due { AreDue result entries.now.entries }
+    ensures within { (k : ℕ) → k ≢ a → k ≢ b → IsUntouched result k }
+{
+    if !is_due(entries, a) {
+        return settled_one(entries, b);
+    }
+    if !is_due(entries, b) {
+        return settled_one(entries, a);
+    }
+    Touched::Two(a, b)
+}
+
+fn settled_all(entries: &IndexMap<u32, Outlet>) -> Touched
+    ensures idle { OthersIdle result entries.now.entries }
+    ensures due { AreDue result entries.now.entries }
+{
+    for i in 0..entries.len() {
+        if is_due(entries, i) {
+            return Touched::All;
         }
+    }
+    Touched::Nothing
+}
+
+// Whether the connection at a place is to be served.
+fn is_due(entries: &IndexMap<u32, Outlet>, i: usize) -> bool
+    ensures { result ≡ due_at entries.now.entries i }
+{
+    match entries.get_index(i) {
+        Some((_, outlet)) => outlet.is_due(),
+        None => false,
     }
 }

@@ -9,7 +9,6 @@ use crate::outlets::Outlets;
 use ads_base::NoMemory;
 use out_queue::{OpenQueue, OutQueue};
 use std::alloc::Global;
-use std::mem;
 
 impl Outlets {
     /// Whether the connection at a place is to be shut.
@@ -84,7 +83,7 @@ impl Outlets {
         }
         self.touched = self.touched.with(i);
         let outlet = &mut self.entries[i];
-        Ok(mem::replace(&mut outlet.out, none).open())
+        Ok(outlet.lend(none).open())
     }
 
     /// It comes back, and the connection closes where that was told.
@@ -96,8 +95,7 @@ impl Outlets {
         if i < self.entries.len() {
             self.touched = self.touched.with(i);
             let outlet = &mut self.entries[i];
-            outlet.out = queue.close();
-            outlet.closing = outlet.closing || closes;
+            outlet.take_back(queue.close(), closes);
         }
     }
 }

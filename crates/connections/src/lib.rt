@@ -8,6 +8,8 @@ mod giving;
 mod offering;
 mod outlet;
 mod outlets;
+#[cfg(test)]
+mod tests;
 mod touched;
 
 pub use column::remove_at;

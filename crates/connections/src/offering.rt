@@ -14,7 +14,8 @@ impl Outlets {
         ensures bound { IfSome result (λ left. length left.now ≤ QUEUE_LIMIT) }
     {
         let i = self.place_of(number)?;
-        self.entries[i].offer()
+        let outlet = &self.entries[i];
+        outlet.offer()
     }
 
     /// The first n bytes of what was offered to a connection were taken.
@@ -36,7 +37,8 @@ impl Outlets {
         ensures bound { IfSome result (λ run. length run.now ≤ QUEUE_LIMIT) }
     {
         let i = self.place_of(number)?;
-        self.entries[i].run()
+        let outlet = &self.entries[i];
+        outlet.run()
     }
 
     /// All frames that waited for a connection were taken whole.
@@ -66,7 +68,10 @@ impl Outlets {
         ensures { result ≡ closing_among self.now number }
     {
         match self.place_of(number) {
-            Some(i) => self.entries[i].closing,
+            Some(i) => {
+                let outlet = &self.entries[i];
+                outlet.closing
+            }
             None => false,
         }
     }

@@ -1,6 +1,6 @@
 //! What waits for one connection.
 
-ghost use Rattle.std.specs.Prelude.{◌≡◌, ◌≤◌, ◌++◌, length, is_some, IfOk, IfSome, OnOk, OnErr, option_copied, option_map};
+ghost use Rattle.std.specs.Prelude.{◌≡◌, ◌≤◌, [], ◌++◌, length, is_some, IfOk, IfSome, OnOk, OnErr, option_copied, option_map};
 ghost use Rattle.std.specs.List.{concat};
 ghost use Rattle.out_queue.specs.Queue.{QUEUE_LIMIT};
 ghost use Rattle.connections.specs.Offering.{FitsFirst};
@@ -8,6 +8,7 @@ ghost use Rattle.connections.specs.Offering.{FitsFirst};
 use ads_base::NoMemory;
 use out_queue::{OutQueue, Pushed};
 use std::alloc::Global;
+use std::mem;
 
 /// The frames that wait for a connection, and whether it is to be shut or blocked.
 #[derive(Drop)]
@@ -20,7 +21,8 @@ pub struct Outlet {
 }
 
 impl Outlet {
-    ghost use Rattle.connections.specs.Outlets.{fresh_outlet, taken, emptied, freed, closed, given, is_fitting, offer_of_outlet, run_of_outlet, is_due_outlet};
+    ghost use Rattle.connections.specs.Outlets.{fresh_outlet, taken, emptied, freed, closed, with_nothing, holding};
+    ghost use Rattle.connections.specs.Outlets.{given, is_fitting, offer_of_outlet, run_of_outlet, is_due_outlet};
 
     /// Nothing waits.
     pub(crate) fn fresh(alloc: Global) -> Result<Outlet, NoMemory>
@@ -39,11 +41,7 @@ impl Outlet {
         ensures offer { option_copied result ≡ offer_of_outlet self.now }
         ensures bound { IfSome result (λ left. length left.now ≤ QUEUE_LIMIT) }
     {
-        if self.blocked {
-            None
-        } else {
-            self.out.front()
-        }
+        if self.blocked { None } else { self.out.front() }
     }
 
     /// Bytes of the first frame were taken.
@@ -86,6 +84,25 @@ impl Outlet {
         ensures { self.new ≡ freed self.old }
     {
         self.blocked = false;
+    }
+
+    /// Its queue goes out, and nothing waits meanwhile.
+    #[inline(always)]
+    pub(crate) fn lend(&mut self, none: OutQueue) -> OutQueue
+        requires { none ≡ [] }
+        ensures out { result ≡ self.old.out }
+        ensures rest { self.new ≡ with_nothing self.old }
+    {
+        mem::replace(&mut self.out, none)
+    }
+
+    /// Its queue comes back, and it closes where that was told.
+    #[inline(always)]
+    pub(crate) fn take_back(&mut self, out: OutQueue, closes: bool)
+        ensures { self.new ≡ holding out closes self.old }
+    {
+        self.out = out;
+        self.closing = self.closing || closes;
     }
 
     /// It is to be shut.

@@ -85,13 +85,7 @@ impl Outlets {
     fn near(&self, number: u32) -> usize {
         match self.touched {
             Touched::One(a) => a,
-            Touched::Two(a, b) => {
-                if self.is_at(b, number) {
-                    b
-                } else {
-                    a
-                }
-            }
+            Touched::Two(a, b) => { if self.is_at(b, number) { b } else { a } }
             Touched::Nothing | Touched::All => number.saturating_sub(1) as usize,
         }
     }
