@@ -1,7 +1,9 @@
 -- Outlets stand for the connections of a relay after a change of one.
 use Rattle.std.proofs.Common.{◌≡◌, ◌≢◌, ℕ, zero, suc, ◌<◌, ◌≤◌, List, [], ◌∷◌, ◌++◌, length, Bool, true, false, not, refl, sym, ap, ◌∙◌, subst, inl, inr, arith}
-use Rattle.std.specs.Prelude.{Option, Some, None, slice_get, ◌||◌}
+use Rattle.std.specs.Prelude.{Option, Some, None, slice_get, ◌||◌, ◌==◌}
 use Rattle.std.specs.Map.{keys_of}
+use Rattle.std.proofs.lemmas.Bool.{cond-true, cond-false}
+use Rattle.spec_machine.proofs.Find.{test_same, test_other}
 use Rattle.ads_outside.specs.declared.moves.Move.TheVariants as move
 use Rattle.spec_machine.specs.Connection.{connection_of, with_closing, put_back}
 use Rattle.spec_machine.specs.MachineState.{after_exchange}
@@ -14,7 +16,7 @@ use Rattle.connections.specs.Entries.{IsEntry, IsNoEntry}
 use Rattle.connections.specs.Outlets.{Outlets, closing_at, test_in, is_closing, change_at, change_of, closed, taken, offer_among}
 use Rattle.connections.specs.declared.outlet.Outlet.{Outlet}
 use Rattle.connections.proofs.CarryLemmas.{AtNumber, at_number, IsNotThere, absent_is, changed_by, KeepsOutput, quiet_of}
-use Rattle.connections.proofs.EntryLemmas.{HasEntry, entry_or_not}
+use Rattle.connections.proofs.EntryLemmas.{HasEntry, entry_or_not, entry_behind}
 use Rattle.connections.proofs.MoveLemmas.{took_one}
 use Rattle.connections.proofs.OutletLemmas.{read_at, read_absent, changed_at, unchanged_of, keys_changed}
 use Rattle.connections.proofs.OutputLemmas.{closed_stands}
@@ -97,3 +99,14 @@ numbers_of f n es = elim (entry_or_not es n) [
   | inl e ↦ ap keys_of (changed_at f es n e.i e.place) ∙ keys_changed f es e.i
   | inr none ↦ ap keys_of (unchanged_of f es n none)
 ]
+
+-- whether the connection of an entry is open, at its place
+pub open_at : (es : Outlets) (n i : ℕ) → IsEntry es n i → not (closing_at es i) ≡ is_open es n
+open_at [] n i at = absurd (omega (arith, at.within))
+open_at (e ∷ es) n zero at = sym (cond-true (e.0 == n) (not e.1.closing) (is_open es n) (test_same e.0 n (at.number 0)))
+open_at (e ∷ es) n (suc i) at =
+    open_at es n i (entry_behind e es n i at)
+    ∙ sym (cond-false (e.0 == n) (not e.1.closing) (is_open es n) (test_other e.0 n (at.first 0 0 (omega arith))))
+
+pub open_absent : (es : Outlets) (n : ℕ) → IsNoEntry es n → false ≡ is_open es n
+open_absent es n none = sym (read_absent (λ (o : Outlet). not o.closing) false es n none)

@@ -18,20 +18,24 @@ use Rattle.spec_relay.specs.RelaySummary.{RelaySummary as CountsOfState, relay_s
 use Rattle.spec_relay.specs.Requests.{requests_heard, is_asked_by}
 use Rattle.spec_relay.specs.Routing.{at_connection}
 use Rattle.spec_relay.proofs.ChangeLemmas.{changed-own, changed-other, world-change}
-use Rattle.connections.specs.Carries.{Carries}
+use Rattle.ams_tcp.specs.Held.{Held}
+use Rattle.ams_tcp.specs.History.{Represents, nothing_fed}
+use Rattle.connections.specs.Carries.{Carries, IsStreamOf}
 use Rattle.connections.specs.Entries.{IsEntry, IsNoEntry}
-use Rattle.connections.specs.Outlets.{beside, closing_at, fresh_outlet, without_number}
+use Rattle.connections.specs.Outlets.{Outlets, beside, closing_at, fresh_outlet, without_number}
 use Rattle.connections.proofs.BesideLemmas.{beside_without, beside_at}
-use Rattle.connections.proofs.CarryLemmas.{AtNumber, at_number, opened}
+use Rattle.connections.proofs.CarryLemmas.{AtNumber, at_number, opened as carry_opened}
 use Rattle.connections.proofs.MoveLemmas.{gone_is_ended}
+use Rattle.connections.proofs.OutletLemmas.{without_none}
 use Rattle.connections.proofs.StateLemmas.{was_none_append}
+use Rattle.connections.proofs.StreamLemmas.{own_mark}
 use Rattle.ams_relay.specs.declared.asked.Asked.{Asked}
 use Rattle.ams_relay.specs.declared.peer.Peer.{Peer}
 use Rattle.ams_relay.specs.declared.router.Router.{Router}
 use Rattle.ams_relay.specs.Asking.{request_of, requests_of}
 use Rattle.ams_relay.specs.Counts.{counts_in}
 use Rattle.ams_relay.specs.Holds.{AreBeside, IsPeerOf, Owners, HoldsOwners, AreOwn, HoldsAsked, AreNamed, HoldsRequests, AreRouted, Knows, Holds}
-use Rattle.ams_relay.specs.Peers.{Peers, Sets, peers_in, net_of, owned_by, owned_at}
+use Rattle.ams_relay.specs.Peers.{Peers, Sets, peers_in, net_of, owned_of, owned_at}
 use Rattle.ams_relay.specs.Taking.{DisownsIn, Disowns}
 use Rattle.ams_relay.proofs.BesideLemmas.{beside_changed, beside_opened, beside_ended, sets_behind}
 use Rattle.ams_relay.proofs.CarryLemmas.{unseated, closing_is, value_there}
@@ -87,8 +91,8 @@ requests_narrowed n old new s t same others unheard opened peers h m p k at foun
     narrower : (c : ℕ) → is_heard_among c t.connections ≡ true → is_heard_among c s.connections ≡ true
     narrower c e =
         let there = heard_there c t.connections e in
-        let other : n ≢ c = λ q. true≢false (sym there.heard ∙ unheard there.k (ap (λ j. connection_of j t.connections) q ∙ there.found)) in
-        heard_found c there.k s.connections (sym (others c other) ∙ there.found) ∙ there.heard
+        let other : n ≢ c = λ q. true≢false (sym there.heard ∙ unheard there.connection (ap (λ j. connection_of j t.connections) q ∙ there.found)) in
+        heard_found c there.connection s.connections (sym (others c other) ∙ there.found) ∙ there.heard
 
 requests_at : (n : ℕ) (f : RelayConnection → RelayConnection) (old new : Peers) (s : RelayState)
     → ((k : RelayConnection) → (f k).number ≡ k.number) → ((k : RelayConnection) → is_heard (f k) ≡ false)
@@ -152,6 +156,25 @@ closed_already n i b r s h at closing =
     (λ k e. closed_twice k (ap (λ (x : RelayConnection). x.closing) (some_same k there.k (sym e ∙ there.found))
     ∙ closing_is r.outlets n i b s.connections there ∙ closing)))) h
 
+-- one that was not closing is, at its place
+pub closes_at : (n i : ℕ) (b : List ℕ) (p : Peer) (old mid new : Router) (s : RelayState) → Holds old b s → IsEntry old.outlets n i
+    → slice_get old.peers.items i ≡ Some p → closing_at old.outlets i ≡ false
+    → mid ≡ record old { outlets = mid.outlets } → keys_of mid.outlets ≡ keys_of old.outlets → Carries mid.outlets b (at_connection n with_closing s).connections
+    → Disowns p.owned mid new → Holds new b (at_connection n with_closing s)
+closes_at n i b p old mid new s h at value is_open is numbers carried d =
+    let there = at_number old.outlets b s.connections n i h.outlets at in
+    let heard = heard_of_parts there.k (closing_is old.outlets n i b s.connections there ∙ is_open) there.there in
+    let client = h.known.peers.each n p there.k (beside_at old.outlets old.peers.items n i at h.known.peers.count ∙ value) there.found there.there in
+    record {
+      outlets = subst (λ (r : Router). Carries r.outlets b (at_connection n with_closing s).connections) (sym d.same) carried;
+      known = closes n p.owned there.k old mid new s h.known there.found heard client (record {
+        routes = ap (λ (r : Router). r.routes) is;
+        numbers = numbers;
+        peers = ap (λ (r : Router). r.peers.items) is;
+        owners = ap (λ (r : Router). r.owners.entries) is;
+      }) (ap (λ (r : Router). r.counts) is) d;
+    }
+
 -- a connection that is there goes
 pub ends : (n i : ℕ) (b : List ℕ) (owned : Option NetId) (old mid new : Router) (s : RelayState) → Holds old b s
     → IsEntry old.outlets n i → owned ≡ owned_at old i → Disowns owned old mid
@@ -183,37 +206,31 @@ ends n i b owned old mid new s h at owned_is d routes owners counts outlets peer
   where
     owners_after : AtNumber old.outlets b s.connections n i → ((k : RelayConnection) → (as_gone k).number ≡ k.number)
         → ((k : RelayConnection) → is_heard (as_gone k) ≡ false) → HoldsOwners mid.owners.entries (at_connection n as_gone s).connections
-    owners_after there number deaf = elim (cases_Bool there.o.closing) [
+    owners_after there number deaf = elim (cases_Bool (closing_at old.outlets i)) [
       | inl closing ↦
-          let none : owned ≡ None = owned_is ∙ ap (λ u. owned_by u (slice_get old.peers.items i)) there.outlet
-          ∙ none_closing there.o (slice_get old.peers.items i) closing in
+          let none : owned ≡ None = owned_is ∙ cond-true (closing_at old.outlets i) None (owned_of (slice_get old.peers.items i)) closing in
           let same : mid.owners.entries ≡ old.owners.entries = subst (λ o. DisownsIn o old.owners.entries mid.owners.entries) none d.disowned in
           subst (λ os. HoldsOwners os (at_connection n as_gone s).connections) (sym same)
           (owners_unheard old.owners.entries n s.connections (at_connection n as_gone s).connections (others_at n as_gone number s)
           (λ k e. deaf_closing k (ap (λ (x : RelayConnection). x.closing) (some_same k there.k (sym e ∙ there.found))
-          ∙ sym there.stands.closing ∙ closing))
+          ∙ closing_is old.outlets n i b s.connections there ∙ closing))
           (unheard_at n as_gone number deaf s) h.known.owners)
       | inr opens ↦
           let p = value_there old.peers.items i (omega (arith, at.within, h.known.peers.count)) in
           let client : net_of owned ≡ there.k.client =
-          ap net_of (owned_is ∙ ap (λ u. owned_by u (slice_get old.peers.items i)) there.outlet ∙ ap (owned_by (Some there.o)) p.1
-          ∙ cond-false there.o.closing None p.0.owned opens)
+          ap net_of (owned_is ∙ cond-false (closing_at old.outlets i) None (owned_of (slice_get old.peers.items i)) opens ∙ ap owned_of p.1)
           ∙ h.known.peers.each n p.0 there.k (beside_at old.outlets old.peers.items n i at h.known.peers.count ∙ p.1) there.found there.there in
           owners_freed owned old.owners.entries mid.owners.entries n there.k s.connections (at_connection n as_gone s).connections
           d.disowned client (others_at n as_gone number s) there.found
-          (heard_of_parts there.k (sym there.stands.closing ∙ opens) there.there) (unheard_at n as_gone number deaf s) h.known.owners
+          (heard_of_parts there.k (closing_is old.outlets n i b s.connections there ∙ opens) there.there) (unheard_at n as_gone number deaf s) h.known.owners
     ]
-
-    none_closing : (o : Outlet) (u : Option Peer) → o.closing ≡ true → owned_by (Some o) u ≡ None
-    none_closing o None e = refl
-    none_closing o (Some p) e = cond-true o.closing None p.owned e
 
 -- one that is not there
 pub ended_already : (n : ℕ) (b : List ℕ) (r : Router) (s : RelayState) → Holds r b s
     → IsNoEntry r.outlets n → Holds r b (after_exchange (connection_of n s.connections) with_gone s)
 ended_already n b r s h none =
     subst (Holds r b) (sym (changed-nothing n as_gone s
-    (λ k e. ap (λ (g : Bool). record k { gone = g }) (sym (unat_number r.outlets b s.connections n h.outlets none k e))))) h
+    (λ k e. ap (λ (g : Bool). record k { gone = g }) (sym (unseated r.outlets b s.connections n h.outlets none k e))))) h
 
 -- among requests that name connections that were opened, none names the new one
 not_new : (n c : ℕ) (ks : List RelayConnection) → connection_of n ks ≡ None → (connection_of c ks ≡ None → ⊥) → n ≢ c
@@ -312,7 +329,7 @@ opens n b p old new s h is_new none owns asked routes owners outlets peers count
     let in_new : (λ m. beside m (old.outlets ++ (n, fresh_outlet) ∷ []) (old.peers.items ++ p ∷ [])) ≡ peers_in new =
     (λ j m. beside m (sym outlets j) (sym peers j)) in
     record {
-      outlets = subst (λ es. Carries es b t.connections) (sym outlets) (opened None old.outlets b s.connections n h.outlets is_new);
+      outlets = subst (λ es. Carries es b t.connections) (sym outlets) (carry_opened None old.outlets b s.connections n h.outlets is_new);
       known = record {
         routes = λ net. ap (rights_of net) routes ∙ known.routes net;
         peers = subst (λ es. AreBeside IsPeerOf es new.peers.items t.connections) (sym outlets)
@@ -353,3 +370,29 @@ pub opened_again : (n i : ℕ) (b : List ℕ) (r : Router) (s : RelayState)
 opened_again n i b r s h at new =
     let there = at_number r.outlets b s.connections n i h.outlets at in
     (let no : ◌≡◌ {A = Option RelayConnection} None (Some there.k) = sym new ∙ there.found in cc)
+
+-- the streams, as a connection is opened
+pub streams_opened : (n : ℕ) (held : Held) (es fs : Outlets) (xs ys : List Held) (s : RelayState) → fs ≡ es ++ (n, fresh_outlet) ∷ []
+    → ys ≡ xs ++ held ∷ [] → connection_of n s.connections ≡ None → IsNoEntry es n → Represents held nothing_fed
+    → AreBeside IsStreamOf es xs s.connections → AreBeside IsStreamOf fs ys (relay_after_event s (event.Opened n)).connections
+unfolding relay_after_event
+streams_opened n held es fs xs ys s outlets streams is_new none fresh h =
+    subst (λ gs. AreBeside IsStreamOf gs ys (with_fresh n s).connections) (sym outlets)
+    (subst (λ (zs : List Held). AreBeside IsStreamOf (es ++ (n, fresh_outlet) ∷ []) zs (with_fresh n s).connections) (sym streams)
+    (beside_opened IsStreamOf n fresh_outlet held es xs s is_new none (own_mark held nothing_fed fresh) h))
+
+-- or goes
+pub streams_ended : (n i : ℕ) (es fs : Outlets) (xs ys : List Held) (s : RelayState) → fs ≡ without_number n es → ys ≡ remove xs i → IsEntry es n i
+    → AreBeside IsStreamOf es xs s.connections → AreBeside IsStreamOf fs ys (after_exchange (connection_of n s.connections) with_gone s).connections
+streams_ended n i es fs xs ys s outlets streams at h =
+    subst (λ gs. AreBeside IsStreamOf gs ys (at_connection n as_gone s).connections) (sym outlets)
+    (subst (λ (zs : List Held). AreBeside IsStreamOf (without_number n es) zs (at_connection n as_gone s).connections) (sym streams)
+    (beside_ended IsStreamOf n i es xs s at h))
+
+pub streams_absent : (n : ℕ) (b : List ℕ) (es fs : Outlets) (xs : List Held) (s : RelayState) → fs ≡ without_number n es → IsNoEntry es n
+    → Carries es b s.connections → AreBeside IsStreamOf es xs s.connections
+    → AreBeside IsStreamOf fs xs (after_exchange (connection_of n s.connections) with_gone s).connections
+streams_absent n b es fs xs s outlets none c h =
+    subst (λ gs. AreBeside IsStreamOf gs xs (at_connection n as_gone s).connections) (sym (outlets ∙ without_none es n none))
+    (subst (λ (t : RelayState). AreBeside IsStreamOf es xs t.connections) (sym (changed-nothing n as_gone s
+    (λ k e. ap (λ (g : Bool). record k { gone = g }) (sym (unseated es b s.connections n c none k e))))) h)

@@ -1,5 +1,5 @@
 -- What a relay keeps stands for the machine after an event.
-use Rattle.std.proofs.Common.{ℕ, List}
+use Rattle.std.proofs.Common.{◌≡◌, ℕ, List, sym, subst}
 use Rattle.ads_outside.specs.declared.event.Event.{Event}
 use Rattle.ads_outside.specs.declared.event.Event.TheVariants as event
 use Rattle.ads_outside.specs.declared.moves.Move.TheVariants as move
@@ -7,9 +7,16 @@ use Rattle.spec_machine.specs.Connection.{connection_of}
 use Rattle.spec_machine.specs.MachineState.{after_exchange}
 use Rattle.spec_machine.specs.Moves.{with_gone, state_after_move}
 use Rattle.spec_machine.specs.Offers.{blocked_after_move}
+use Rattle.spec_relay.specs.RelayState.{RelayState}
 use Rattle.spec_relay.specs.RelayMoves.{relay_after_event}
+use Rattle.connections.specs.Outlets.{Outlets}
 use Rattle.ams_relay.specs.declared.router.Relay.{Relay}
 use Rattle.ams_relay.specs.Relays.{RelayRunning, StandsFor}
+
+-- outlets that are settled are the same
+pub settled : (old : Relay) (es : Outlets) (b : List ℕ) (s : RelayState) → es ≡ old.router.outlets → StandsFor old b s
+    → StandsFor (record old { router = record old.router { outlets = es } }) b s
+settled old es b s same h = subst (λ fs. StandsFor (record old { router = record old.router { outlets = fs } }) b s) (sym same) h
 
 -- an event was taken
 abbrev pub Taken : Relay → RelayRunning → Event → Type 0

@@ -12,7 +12,7 @@ use Rattle.spec_relay.specs.Requests.{requests_heard, is_asked_by, with_requests
 use Rattle.spec_machine.specs.Piece.{with_client}
 use Rattle.spec_relay.specs.Routing.{at_connection, with_owner}
 use Rattle.spec_relay.proofs.ChangeLemmas.{changed-other, world-change}
-use Rattle.connections.specs.Carries.{Carries}
+use Rattle.connections.specs.Outlets.{beside}
 use Rattle.ams_relay.specs.declared.asked.Asked.{Asked}
 use Rattle.ams_relay.specs.declared.peer.Peer.{Peer}
 use Rattle.ams_relay.specs.declared.router.Router.{Router}

@@ -1,7 +1,9 @@
 -- A connection owns the source of its frame, or the source is another's.
 use Rattle.std.proofs.Common.{◌≡◌, ◌≢◌, ℕ, ◌<◌, List, [], ◌∷◌, length, Bool, true, false, cond, not, refl, sym, ap, ◌∙◌, subst, inl, inr, arith}
-use Rattle.std.specs.Prelude.{Option, Some, None, option_map, is_some, bytes_eq, slice_get, set}
+use Rattle.std.specs.Prelude.{Option, Some, None, option_map, is_some, bytes_eq, slice_get, slice_index_or, set}
+use Rattle.std.specs.Map.{keys_of}
 use Rattle.std.proofs.lemmas.List.{length-set}
+use Rattle.std.proofs.lemmas.Option.{slice_get-get_or}
 use Rattle.std.proofs.lemmas.Bool.{cases_Bool, cases_eq, true≢false, cond-true, cond-false}
 use Rattle.ads_base.specs.declared.net_id.NetId.{NetId}
 use Rattle.spec_plant.specs.Rights.{rights_of}
@@ -11,10 +13,9 @@ use Rattle.spec_relay.specs.RelayState.{RelayWorld, Owned, RelayConnection, Rela
 use Rattle.spec_relay.specs.Ways.{is_taken_net}
 use Rattle.spec_relay.specs.Routing.{with_owner}
 use Rattle.spec_relay.proofs.ChangeLemmas.{changed-own, changed-other, world-change}
-use Rattle.connections.specs.Entries.{IsEntry}
+use Rattle.connections.specs.Entries.{IsEntry, IsNoEntry}
 use Rattle.connections.specs.Carries.{Carries}
-use Rattle.connections.specs.Outlets.{outlet_at, beside}
-use Rattle.connections.specs.declared.outlet.Outlet.{Outlet}
+use Rattle.connections.specs.Outlets.{closing_at, beside}
 use Rattle.connections.proofs.BesideLemmas.{beside_at}
 use Rattle.connections.proofs.CarryLemmas.{at_number}
 use Rattle.ams_relay.specs.declared.asked.Asked.{Asked}
@@ -24,10 +25,10 @@ use Rattle.ams_relay.specs.declared.seat.Seat.{Seat}
 use Rattle.ams_relay.specs.Asking.{requests_of}
 use Rattle.ams_relay.specs.Counts.{counts_in}
 use Rattle.ams_relay.specs.Holds.{AreBeside, IsPeerOf, AreOwn, HoldsAsked, HoldsRequests, Knows, Holds, owner_in}
-use Rattle.ams_relay.specs.Peers.{Peers, peers_in, IsSeat, Sets, net_of, owned_by, owned_at}
+use Rattle.ams_relay.specs.Peers.{Peers, peers_in, IsSeat, Sets, net_of, owned_of, owned_at, places_of}
 use Rattle.ams_relay.specs.Taking.{IsHeardAt, IsOwnerSeat, number_of}
-use Rattle.ams_relay.proofs.BesideLemmas.{beside_set, sets_at}
-use Rattle.ams_relay.proofs.CarryLemmas.{has_seat, value_there, carry_quiet}
+use Rattle.ams_relay.proofs.BesideLemmas.{beside_set, count_same, sets_at}
+use Rattle.ams_relay.proofs.CarryLemmas.{closing_is, unseated, has_seat, value_there, carry_quiet}
 use Rattle.ams_relay.proofs.HoldLemmas.{named_at, counts_changed, asked_kept, routed_owned}
 use Rattle.ams_relay.proofs.OwnerLemmas.{bytes_same, bytes_refl, some_same, none_of, owner_is, owners_own}
 use Rattle.ams_relay.proofs.RequestLemmas.{hearing, AreSame, same_heard, heard_changed, heard_parts, heard_of_parts}
@@ -79,13 +80,16 @@ pub owned_is : (n i : ℕ) (b : List ℕ) (k : RelayConnection) (p : Peer) (r : 
 owned_is n i b k p r s h at value heard = h.known.peers.each n p k (peer_at n i b p r s h at value) heard.found (heard_parts k heard.heard).1
 
 -- whoever is not closing and owns a NetId is its owner
-owned_open : (o : Outlet) (u : Option Peer) (net : List ℕ) → net_of (owned_by (Some o) u) ≡ Some net
-    → (p : Peer) × ((u ≡ Some p) × ((o.closing ≡ false) × (net_of p.owned ≡ Some net)))
-owned_open o None net e = absurd (let no : ◌≡◌ {A = Option (List ℕ)} None (Some net) = e in cc)
-owned_open o (Some p) net e = elim (cases_Bool o.closing) [
-  | inl t ↦ absurd (let no : ◌≡◌ {A = Option (List ℕ)} None (Some net) = sym (ap net_of (cond-true o.closing None p.owned t)) ∙ e in cc)
-  | inr t ↦ (p, (refl, (t, sym (ap net_of (cond-false o.closing None p.owned t)) ∙ e)))
-]
+record OwnedOpen (closing : Bool) (u : Option Peer) (net : List ℕ) : Type 0 where
+  pub peer : Peer
+  pub there : u ≡ Some peer
+  pub open_ : closing ≡ false
+  pub owned : net_of peer.owned ≡ Some net
+
+owned_open : (closing : Bool) (u : Option Peer) (net : List ℕ) → net_of (cond closing None (owned_of u)) ≡ Some net → OwnedOpen closing u net
+owned_open true u net e = absurd (let no : ◌≡◌ {A = Option (List ℕ)} None (Some net) = e in cc)
+owned_open false None net e = absurd (let no : ◌≡◌ {A = Option (List ℕ)} None (Some net) = e in cc)
+owned_open false (Some p) net e = record { peer = p; there = refl; open_ = refl; owned = e }
 
 pub owner_there : (seat : Seat) (net : List ℕ) (b : List ℕ) (r : Router) (s : RelayState) → Holds r b s → IsOwnerSeat r net seat
     → owner_in net r.owners.entries ≡ Some seat.number
@@ -93,16 +97,46 @@ owner_there seat net b r s h o =
     let i = seat.place in
     let n = seat.number in
     let at = at_number r.outlets b s.connections n i h.outlets o.seat.entry in
-    let own = owned_open at.o (slice_get r.peers.items i) net
-    (sym (ap (λ (u : Option Outlet). net_of (owned_by u (slice_get r.peers.items i))) at.outlet) ∙ o.owned) in
-    let is_open : at.k.closing ≡ false = sym at.stands.closing ∙ own.1.1.0 in
-    let client = h.known.peers.each n own.0 at.k (peer_at n i b own.0 r s h o.seat.entry own.1.0) at.found at.there in
+    let own = owned_open (closing_at r.outlets i) (slice_get r.peers.items i) net o.owned in
+    let is_open : at.k.closing ≡ false = closing_is r.outlets n i b s.connections at ∙ own.open_ in
+    let client = h.known.peers.each n own.peer at.k (peer_at n i b own.peer r s h o.seat.entry own.there) at.found at.there in
     h.known.owners.owners net n (record {
       connection = at.k;
       found = at.found;
       heard = heard_of_parts at.k is_open at.there;
-      client = sym client ∙ own.1.1.1;
+      client = sym client ∙ own.owned;
     })
+
+-- what the code finds is what the machine finds
+pub owner_found : (net : List ℕ) (b : List ℕ) (r : Router) (s : RelayState) → Holds r b s
+    → owner_in net r.owners.entries ≡ option_map number_of (owner_of net s.connections)
+owner_found net b r s h = owner_is net r.owners.entries s.connections h.outlets.apart h.known.owners
+
+-- whoever owns a NetId has an entry
+pub owner_seated : (net : List ℕ) (n : ℕ) (b : List ℕ) (r : Router) (s : RelayState) → Holds r b s → owner_in net r.owners.entries ≡ Some n
+    → IsNoEntry r.outlets n → ⊥
+owner_seated net n b r s h owned none =
+    let o = h.known.owners.owned net n owned in
+    true≢false (sym (unseated r.outlets b s.connections n h.outlets none o.connection o.found) ∙ (heard_parts o.connection o.heard).1)
+
+-- what stands at a place, by the element that was read there
+pub value_at : {X : Type 0} (xs : List X) (i : ℕ) (x : X) → i < length xs → x ≡ slice_index_or xs i x → slice_get xs i ≡ Some x
+value_at xs i x within is = slice_get-get_or xs i x within ∙ ap (λ y. Some y) (sym is)
+
+-- a seat stays where numbers and peers do
+pub seat_kept : (old new : Router) (at : Seat) → places_of new ≡ places_of old → IsSeat old at → IsSeat new at
+seat_kept old new at same seat =
+    let numbers : keys_of new.outlets ≡ keys_of old.outlets = ap (λ (x : List ℕ × ℕ). x.0) same in
+    let count : length new.peers.items ≡ length old.peers.items = ap (λ (x : List ℕ × ℕ). x.1) same in
+    let longer = count_same old.outlets new.outlets numbers in
+    record {
+      entry = record {
+        within = omega (arith, seat.entry.within, longer);
+        number = λ d. ap (λ ks. slice_index_or ks at.place d) numbers ∙ seat.entry.number d;
+        first = λ k d below same. seat.entry.first k d below (sym (ap (λ ks. slice_index_or ks k d) numbers) ∙ same);
+      };
+      within = omega (arith, seat.within, count);
+    }
 
 -- the source is its own
 pub taken_own : (net : List ℕ) (k : RelayConnection) (ks : List RelayConnection) → k.client ≡ Some net → is_taken_net net k ks ≡ false

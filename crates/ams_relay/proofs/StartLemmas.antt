@@ -4,7 +4,7 @@ use Rattle.std.specs.Prelude.{Option, Some, None}
 use Rattle.spec_plant.specs.Description.{Description}
 use Rattle.spec_plant.specs.Rights.{rights_of}
 use Rattle.spec_machine.specs.Connection.{connection_of}
-use Rattle.spec_relay.specs.RelayState.{RelayConnection, relay_start}
+use Rattle.spec_relay.specs.RelayState.{Owned, RelayConnection, relay_start}
 use Rattle.connections.specs.Carries.{Carries}
 use Rattle.connections.specs.Outlets.{Outlets}
 use Rattle.ams_relay.specs.declared.router.Router.{Router}
@@ -21,7 +21,7 @@ pub starts : (r : Router) (d : Description) → ((net : List ℕ) → rights_of 
     → r.owners.entries ≡ [] → r.counts ≡ record { connections = 0; frames = 0; passed = 0; unknown = 0 } → Holds r [] (relay_start d)
 unfolding connection_of
 starts r d routes outlets peers owners counts = record {
-  outlets = subst (λ es. Carries es [] []) (sym outlets) (record { each = tt; apart = tt; marked = tt; known = λ n e. refl });
+  outlets = subst (λ es. Carries {C = Owned} es [] []) (sym outlets) (record { each = tt; apart = tt; marked = tt; known = λ n e. refl });
   known = record {
     routes = routes;
     peers = nothing_beside IsPeerOf r.outlets r.peers.items outlets peers;

@@ -1,6 +1,6 @@
 -- Frames are taken one after another, down to a rest that is open or broken, or until their connection is closing.
 use Rattle.std.proofs.Common.{◌≡◌, ◌≢◌, ℕ, ◌+◌, List, [], ◌∷◌, length, drop, Bool, true, false, cond, refl, sym, ap, ◌∙◌, subst, inl, inr, arith}
-use Rattle.std.specs.Prelude.{Option, Some, None, option_map, ◌||◌, not, set}
+use Rattle.std.specs.Prelude.{Option, Some, None, option_map, ◌||◌, not, set, slice_get}
 use Rattle.std.specs.Map.{keys_of}
 use Rattle.std.proofs.lemmas.Bool.{cond-true, cond-false, cases_eq, true≢false}
 use Rattle.std.proofs.lemmas.List.{length-set}
@@ -14,7 +14,7 @@ use Rattle.spec_machine.specs.Summary.{count_of}
 use Rattle.ams_tcp.specs.Held.{Held}
 use Rattle.ams_tcp.specs.History.{History, Represents, after_feed, answer_of, after_next}
 use Rattle.ams_tcp.specs.declared.cut.Cut.TheVariants as cut
-use Rattle.spec_relay.specs.RelayState.{RelayWorld, RelayConnection, RelayState, is_heard, is_heard_among}
+use Rattle.spec_relay.specs.RelayState.{RelayWorld, Owned, RelayConnection, RelayState, is_heard, is_heard_among}
 use Rattle.spec_relay.specs.RelayMoves.{after_frames, after_piece_of, relay_after_event}
 use Rattle.spec_relay.specs.RelaySummary.{RelaySummary as CountsOfState, relay_summary_of}
 use Rattle.spec_relay.specs.Requests.{with_requests_heard}
@@ -25,6 +25,7 @@ use Rattle.spec_relay.proofs.TakenLemmas.{progress, frame-own, piece-progress}
 use Rattle.connections.specs.Carries.{Carries, IsStreamOf}
 use Rattle.connections.specs.Entries.{IsEntry}
 use Rattle.connections.specs.Outlets.{Outlets, beside, closing_at}
+use Rattle.connections.proofs.BesideLemmas.{beside_at}
 use Rattle.connections.proofs.CarryLemmas.{KeepsOutput, at_number}
 use Rattle.connections.proofs.StreamLemmas.{packet_is_next, rest_is_open, rest_is_broken, own_mark, after_frame as one_given}
 use Rattle.ams_relay.specs.declared.router.Router.{Router}
@@ -155,7 +156,7 @@ swept_is s = filter-finer (is_heard_in (hearing s.connections)) (is_heard_in (he
 one_taken_quiet : Quiet with_one_taken
 one_taken_quiet = record { stays = record { number = λ k. refl; gone = λ k. refl }; client = λ k. refl; closing = λ k. refl }
 
-one_taken_still : KeepsOutput with_one_taken
+one_taken_still : KeepsOutput {C = Owned} with_one_taken
 one_taken_still = record { number = λ k. refl; gone = λ k. refl; produced = λ k. refl; bytes_taken = λ k. refl; closing = λ k. refl }
 
 -- a frame is taken and counted
@@ -251,7 +252,7 @@ ends_closing c i held b r s w at closing =
 received_quiet : (piece : List ℕ) → Quiet (with_received piece)
 received_quiet piece = record { stays = record { number = λ k. refl; gone = λ k. refl }; client = λ k. refl; closing = λ k. refl }
 
-received_still : (piece : List ℕ) → KeepsOutput (with_received piece)
+received_still : (piece : List ℕ) → KeepsOutput {C = Owned} (with_received piece)
 received_still piece = record { number = λ k. refl; gone = λ k. refl; produced = λ k. refl; bytes_taken = λ k. refl; closing = λ k. refl }
 
 pub fed : (c : ℕ) (piece : List ℕ) (b : List ℕ) (held given : Held) (r : Router) (s : RelayState) → (w : HoldsWith c held r b s)
@@ -269,7 +270,7 @@ fed c piece b held given r s w stream = record {
 }
 
 -- a piece of one that is heard: its frames are taken
-pub piece_is : (c : ℕ) (piece : List ℕ) (k : RelayConnection) (s : RelayState) → connection_of c s.connections ≡ Some k → is_deaf k ≡ false
+piece_is : (c : ℕ) (piece : List ℕ) (k : RelayConnection) (s : RelayState) → connection_of c s.connections ≡ Some k → is_deaf k ≡ false
     → relay_after_event s (event.Piece c piece) ≡ end_of_piece c (at_connection c (with_received piece) s)
 unfolding relay_after_event
 piece_is c piece k s found hearing_k =
@@ -319,7 +320,7 @@ stream_other n m piece held l s ne found there before = by (connection_of m s.co
         subst (λ (x : List ℕ × ℕ). Represents held (record { fed = x.0; given = x.1; told_broken = held.told_broken })) both is
 
 -- the streams after a piece: that of its connection is another
-pub streams_taken : (n i : ℕ) (piece : List ℕ) (held : Held) (b : List ℕ) (old new : Router) (helds : List Held) (s : RelayState)
+streams_taken : (n i : ℕ) (piece : List ℕ) (held : Held) (b : List ℕ) (old new : Router) (helds : List Held) (s : RelayState)
     → IsEntry old.outlets n i → keys_of new.outlets ≡ keys_of old.outlets
     → HoldsWith n held new b (relay_after_event s (event.Piece n piece)) → AreBeside IsStreamOf old.outlets helds s.connections
     → AreBeside IsStreamOf new.outlets (set helds i held) (relay_after_event s (event.Piece n piece)).connections
@@ -340,6 +341,21 @@ streams_taken n i piece held b old new helds s at numbers w h =
             stream_other n m piece x l s ne found there (λ k found_k there_k. h.each m x k value found_k there_k)
       ];
     }
+
+-- all frames of a piece were taken
+pub piece_taken : (n i : ℕ) (piece : List ℕ) (b : List ℕ) (held given : Held) (old new : Router) (helds : List Held) (s : RelayState)
+    → Holds old b s → AreBeside IsStreamOf old.outlets helds s.connections → IsEntry old.outlets n i → closing_at old.outlets i ≡ false
+    → slice_get helds i ≡ Some held → keys_of new.outlets ≡ keys_of old.outlets
+    → (HoldsWith n held old b s → HoldsWith n given new b (end_of_piece n (at_connection n (with_received piece) s)))
+    → Holds new b (relay_after_event s (event.Piece n piece))
+    × AreBeside IsStreamOf new.outlets (set helds i given) (relay_after_event s (event.Piece n piece)).connections
+piece_taken n i piece b held given old new helds s h streams place is_open value numbers takes =
+    let at = at_number old.outlets b s.connections n i h.outlets place in
+    let hears : is_deaf at.k ≡ false = ap (λ x. x || at.k.gone) (closing_is old.outlets n i b s.connections at ∙ is_open) ∙ at.there in
+    let stream = streams.each n held at.k (beside_at old.outlets helds n i place streams.count ∙ value) at.found at.there in
+    let after = subst (HoldsWith n given new b) (sym (piece_is n piece at.k s at.found hears))
+    (takes (record { holds = h; connection = at.k; found = at.found; there = at.there; stream = stream })) in
+    (after.holds, streams_taken n i piece given b old new helds s place numbers after streams)
 
 -- no frame was taken yet
 pub takes_none : (c : ℕ) (held : Held) (r : Router) (b : List ℕ) (s : RelayState) → HoldsWith c held r b s → TakesOne c held r b s

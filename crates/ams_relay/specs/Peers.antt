@@ -4,7 +4,7 @@ use Rattle.std.specs.Prelude.{Option, Some, None, option_map}
 use Rattle.std.specs.Map.{keys_of}
 use Rattle.ads_base.specs.declared.net_id.NetId.{NetId}
 use Rattle.connections.specs.Entries.{IsEntry}
-use Rattle.connections.specs.Outlets.{Outlets, beside, outlet_at, read_among}
+use Rattle.connections.specs.Outlets.{Outlets, beside, closing_at, read_among}
 use Rattle.connections.specs.declared.outlet.Outlet.{Outlet}
 use Rattle.ams_relay.specs.declared.peer.Peer.{Peer}
 use Rattle.ams_relay.specs.declared.router.Router.{Router}
@@ -38,12 +38,10 @@ is_open es n = read_among (λ (o : Outlet). not o.closing) false es n
 abbrev pub net_of : Option NetId → Option (List ℕ)
 net_of o = option_map (λ (net : NetId). net.bytes) o
 
--- what a peer owns, unless its outlet is closing
-abbrev pub owned_by : Option Outlet → Option Peer → Option NetId
-owned_by (Some o) (Some p) = if o.closing then None else p.owned
-owned_by (Some o) None = None
-owned_by None p = None
+abbrev pub owned_of : Option Peer → Option NetId
+owned_of None = None
+owned_of (Some p) = p.owned
 
 -- what the connection at a place owns, unless it is closing
 abbrev pub owned_at : Router → ℕ → Option NetId
-owned_at r i = owned_by (outlet_at r.outlets i) (slice_get r.peers.items i)
+owned_at r i = if closing_at r.outlets i then None else owned_of (slice_get r.peers.items i)

@@ -83,12 +83,15 @@ impl Router {
         ensures absent { IfNone result (IsNoEntry self.old.outlets number) }
         ensures gone { self.new.outlets ≡ without_number number self.old.outlets }
     {
-        let place = self.outlets.place_of(number)?;
+        let Some(place) = self.outlets.place_of(number) else {
+            return None;
+        };
         let owned = self.owned_at(place);
         self.disown(owned);
         remove_at(&mut self.peers, place);
         remove_at(&mut self.nears, place);
-        self.outlets.end(number)
+        let _ = self.outlets.end(number);
+        Some(place)
     }
 
     /// A connection is closing: nothing more is taken of it or given to it, and its NetId is free.

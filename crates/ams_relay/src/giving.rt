@@ -38,10 +38,9 @@ impl Router {
         if self.outlets.is_closing(to.place) {
             return Ok(false);
         }
-        if self
-            .outlets
-            .give_parts(alloc, to.place, &frame_header(packet), packet)?
-        {
+        let header = frame_header(packet);
+        let fitted = self.outlets.give_parts(alloc, to.place, &header, packet)?;
+        if fitted {
             self.note_near(to.place, from);
             return Ok(true);
         }

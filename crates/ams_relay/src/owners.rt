@@ -31,12 +31,22 @@ impl Router {
     fn owner_at(&self, place: usize, net: NetId) -> Option<Seat>
         ensures { IfSome result (IsOwnerSeat self.now net.bytes) }
     {
-        let owned = self.owned_at(place)?;
-        if !owned.is(net) {
-            return None;
-        }
         let number = self.outlets.number_at(place)?;
-        Some(Seat { number, place })
+        let place = self.outlets.place_near(place, number)?;
+        if place < self.peers.len() && self.has_at(place, net) {
+            return Some(Seat { number, place });
+        }
+        None
+    }
+
+    // Whether the connection at a place owns a NetId, and is not closing.
+    fn has_at(&self, place: usize, net: NetId) -> bool
+        ensures { IsTrue result → net_of (owned_at self.now place) ≡ Some net.bytes }
+    {
+        match self.owned_at(place) {
+            Some(owned) => owned.is(net),
+            None => false,
+        }
     }
 
     /// The NetId that the connection at a place owns; None of one that is closing, or is not there.
@@ -46,7 +56,10 @@ impl Router {
         if self.outlets.is_closing(place) {
             return None;
         }
-        self.peers.get(place)?.owned
+        match self.peers.get(place) {
+            Some(peer) => peer.owned,
+            None => None,
+        }
     }
 
     // The connection that is there, is not closing and owns a NetId.
@@ -54,8 +67,12 @@ impl Router {
         ensures seat { IfSome result (IsSeat self.now) }
         ensures entry { (b : List ℕ) (s : RelayState) → Holds self.now b s → number_in result ≡ owner_in net.bytes self.now.owners.entries }
     {
-        let number = self.owner_number(net)?;
-        let place = self.outlets.place_of(number)?;
+        let Some(number) = self.owner_number(net) else {
+            return None;
+        };
+        let Some(place) = self.outlets.place_of(number) else {
+            return None;
+        };
         if place >= self.peers.len() {
             return None;
         }

@@ -33,7 +33,9 @@ impl Router {
         ensures seat { IfSome result (IsSeat self.new) }
         ensures places { places_of self.new ≡ places_of self.old }
     {
-        let asker = self.owner_near(self.near_of(from.place), h.target.net)?;
+        let Some(asker) = self.owner_near(self.near_of(from.place), h.target.net) else {
+            return None;
+        };
         if self.spend_of(asker, from.number, h) {
             Some(asker)
         } else {
@@ -49,14 +51,11 @@ impl Router {
             → SpendsAt result asker.number conn (ams_header_of h.now) self.new b s }
         ensures places { places_of self.new ≡ places_of self.old }
     {
-        let peer = &mut self.peers[asker.place];
-        match answered_at(&peer.asked, conn, h) {
-            Some(at) => {
-                take_at(&mut peer.asked, at);
-                true
-            }
-            None => false,
-        }
+        let Some(at) = answered_at(&self.peers[asker.place].asked, conn, h) else {
+            return false;
+        };
+        take_at(&mut self.peers[asker.place].asked, at);
+        true
     }
 
     /// A request that was passed on waits for its response; a notification for none. Of one asker the last 4,096 wait.

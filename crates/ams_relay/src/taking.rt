@@ -37,8 +37,13 @@ impl Relay {
         ensures found { IfSome result (IsHeardSeat self.now number) }
         ensures absent { IfNone result ((b : List ℕ) (s : RelayState) → StandsFor self.now b s → is_heard_among number s.connections ≡ false) }
     {
-        let place = self.router.outlets.place_of(number)?;
-        if self.router.outlets.is_closing(place) || !self.has_all(place) {
+        let Some(place) = self.router.outlets.place_of(number) else {
+            return None;
+        };
+        if self.router.outlets.is_closing(place) {
+            return None;
+        }
+        if !self.has_all(place) {
             return None;
         }
         Some(Seat { number, place })

@@ -1,11 +1,16 @@
-use Rattle.std.proofs.Common.{rules, ◌≡◌, [], IfOk, ℕ, ◌+◌, ◌-◌, ◌*◌, ◌<◌, ◌≤◌, length, ◌/◌, ◌%◌, Bool, true, false, nat_eq, nat_lt, List, ◌∷◌, ◌++◌, slice_index_or, slice_set, bit_and, bit_or, Fits, w8, w32, w64, Bor, MutBor}
+use Rattle.std.proofs.Common.{[], refl, ap, ◌∙◌}
+use Rattle.spec_plant.specs.Rights.{rights_of}
 use Rattle.type_layout.specs.Descriptions.{description_of}
-use Rattle.spec_relay.specs.RelayState.{relay_start}
-use Rattle.spec_relay.specs.RelaySummary.{relay_summary_of}
-use Rattle.ams_relay.specs.Counts.{counts_in}
-use Rattle.ams_relay.specs.Relays.{RelayStanding, StandsAt, standing_at_start}
+use Rattle.connections.specs.Carries.{IsStreamOf}
+use Rattle.ams_relay.proofs.StartLemmas.{starts, nothing_beside}
 use Rattle.ams_relay.proofs.router.Relay.build.Goals as goal
 
--- src/router.rt:69:5
 pub returns : goal.returns
-returns c = ?
+returns c = record {
+  working = refl;
+  holds = starts c.empty.result (description_of c.args.d)
+      (λ net. ap (rights_of net) c.empty.ensures.routes ∙ c.in_ok-routes.ensures net) c.empty.ensures.outlets c.empty.ensures.peers c.empty.ensures.owners
+      c.empty.ensures.counts;
+  streams = nothing_beside IsStreamOf c.empty.result.outlets c.new.result.items c.empty.ensures.outlets c.new.ensures;
+  notes = refl;
+}

@@ -1,23 +1,20 @@
-use Rattle.std.proofs.Common.{rules, ◌≡◌, ◌++◌, ◌∷◌, [], ℕ, List, OnOk, IfSome, IfNone, ◌+◌, ◌-◌, ◌*◌, ◌<◌, ◌≤◌, length, ◌/◌, ◌%◌, Bool, true, false, nat_eq, nat_lt, slice_index_or, slice_set, bit_and, bit_or, Fits, w8, w32, w64, Bor, MutBor}
-use Rattle.ads_outside.specs.declared.event.Event.TheVariants as event
-use Rattle.spec_machine.specs.Connection.{connection_of, with_closing}
-use Rattle.spec_machine.specs.Moves.{with_gone}
-use Rattle.spec_machine.specs.MachineState.{after_exchange}
-use Rattle.spec_relay.specs.RelayState.{RelayState}
-use Rattle.spec_relay.specs.RelayMoves.{relay_after_event}
-use Rattle.spec_relay.specs.Routing.{at_connection}
-use Rattle.connections.specs.Entries.{IsEntry, IsNoEntry}
-use Rattle.connections.specs.Outlets.{fresh_outlet, without_number}
-use Rattle.ams_relay.specs.Holds.{Holds}
-use Rattle.ams_relay.specs.Peers.{IsSeat, places_of}
-use Rattle.ams_relay.specs.Relays.{StandsFor}
-use Rattle.ams_relay.specs.Taking.{Disowns}
+use Rattle.ams_relay.proofs.EndLemmas.{streams_ended, streams_absent}
 use Rattle.ams_relay.proofs.router.Relay.end.Goals as goal
 
--- src/ends.rt:52:5
 pub returns-in-Some-clause-follows : goal.returns-in-Some-clause-follows
-returns-in-Some-clause-follows c = ?
+returns-in-Some-clause-follows c = λ b s h.
+    let old = c.args.self.now in
+    record {
+      holds = c.end.ensures.follows b s h.holds;
+      streams = streams_ended c.args.number c.in-Some.place old.router.outlets c.end.new.self.outlets old.streams.items c.remove_at.new.column.items s
+          c.end.ensures.gone c.remove_at.ensures c.in-Some.ensures.found h.streams;
+    }
 
--- src/ends.rt:52:5
 pub returns-in_default-clause-follows : goal.returns-in_default-clause-follows
-returns-in_default-clause-follows c = ?
+returns-in_default-clause-follows c = λ b s h.
+    let old = c.args.self.now in
+    record {
+      holds = c.end.ensures.follows b s h.holds;
+      streams = streams_absent c.args.number b old.router.outlets c.end.new.self.outlets old.streams.items s c.end.ensures.gone c.in_default.ensures.absent
+          h.holds.outlets h.streams;
+    }

@@ -1,18 +1,14 @@
-use Rattle.std.proofs.Common.{rules, ◌≡◌, ◌<◌, ◌↔◌, ℕ, List, false, length, IsTrue, IfOk, IfSome, IfNone, OnOk, ◌+◌, ◌-◌, ◌*◌, ◌≤◌, ◌/◌, ◌%◌, Bool, true, nat_eq, nat_lt, [], ◌∷◌, ◌++◌, slice_index_or, slice_set, bit_and, bit_or, Fits, w8, w32, w64, Bor, MutBor}
-use Rattle.ads_outside.specs.declared.event.Event.TheVariants as event
-use Rattle.spec_machine.specs.Piece.{with_received}
-use Rattle.spec_relay.specs.RelayState.{RelayState, is_heard_among}
-use Rattle.spec_relay.specs.RelayMoves.{relay_after_event}
-use Rattle.spec_relay.specs.Routing.{at_connection}
-use Rattle.ams_relay.specs.Peers.{IsSeat, places_of}
-use Rattle.ams_relay.specs.Relays.{StandsFor}
-use Rattle.ams_relay.specs.Taking.{HoldsWith, IsHeardSeat, Takes, end_of_piece}
+use Rattle.std.proofs.Common.{not, sym, ap, ◌∙◌}
+use Rattle.ams_relay.proofs.CarryLemmas.{open_is, open_at, open_absent}
 use Rattle.ams_relay.proofs.router.Relay.heard.Goals as goal
 
--- src/taking.rt:40:21
-pub returns-in_err-place-clause-absent : goal.returns-in_err-place-clause-absent
-returns-in_err-place-clause-absent c = ?
+pub returns-in_default-clause-absent : goal.returns-in_default-clause-absent
+returns-in_default-clause-absent c = λ b s h.
+    let es = c.args.self.now.router.outlets in
+    sym (open_is es b s.connections c.args.number h.holds.outlets) ∙ sym (open_absent es c.args.number c.in_default.ensures.absent)
 
--- src/taking.rt:42:13
 pub returns-then-is_closing-clause-absent : goal.returns-then-is_closing-clause-absent
-returns-then-is_closing-clause-absent c = ?
+returns-then-is_closing-clause-absent c = λ b s h.
+    let es = c.args.self.now.router.outlets in
+    sym (open_is es b s.connections c.args.number h.holds.outlets) ∙ sym (open_at es c.args.number c.in-Some.place c.in-Some.ensures.found)
+    ∙ ap not (sym c.is_closing.ensures ∙ c.if-is_closing.true)

@@ -1,19 +1,12 @@
-use Rattle.std.proofs.Common.{rules, ◌≡◌, ◌++◌, ◌∷◌, [], ℕ, List, OnOk, IfSome, IfNone, ◌+◌, ◌-◌, ◌*◌, ◌<◌, ◌≤◌, length, ◌/◌, ◌%◌, Bool, true, false, nat_eq, nat_lt, slice_index_or, slice_set, bit_and, bit_or, Fits, w8, w32, w64, Bor, MutBor}
-use Rattle.ads_outside.specs.declared.event.Event.TheVariants as event
-use Rattle.spec_machine.specs.Connection.{connection_of, with_closing}
-use Rattle.spec_machine.specs.Moves.{with_gone}
-use Rattle.spec_machine.specs.MachineState.{after_exchange}
-use Rattle.spec_relay.specs.RelayState.{RelayState}
-use Rattle.spec_relay.specs.RelayMoves.{relay_after_event}
-use Rattle.spec_relay.specs.Routing.{at_connection}
-use Rattle.connections.specs.Entries.{IsEntry, IsNoEntry}
-use Rattle.connections.specs.Outlets.{fresh_outlet, without_number}
-use Rattle.ams_relay.specs.Holds.{Holds}
-use Rattle.ams_relay.specs.Peers.{IsSeat, places_of}
-use Rattle.ams_relay.specs.Relays.{StandsFor}
-use Rattle.ams_relay.specs.Taking.{Disowns}
+use Rattle.ams_relay.proofs.EndLemmas.{streams_opened}
+use Rattle.ams_relay.proofs.PromiseLemmas.{on_both}
 use Rattle.ams_relay.proofs.router.Relay.open_new.Goals as goal
 
--- src/ends.rt:40:5
 pub returns-clause-follows : goal.returns-clause-follows
-returns-clause-follows c = ?
+returns-clause-follows c = on_both c.open.result (λ follows outlets b s h is_new.
+    let old = c.args.self.now in
+    record {
+      holds = follows b s h.holds is_new;
+      streams = streams_opened c.args.number c.in_ok-stream.stream old.router.outlets c.open.new.self.outlets old.streams.items c.push.new.self.items s outlets
+          c.in_ok-push.ensures.items is_new c.requires c.in_ok-stream.ensures.nothing h.streams;
+    }) c.open.ensures.follows c.open.ensures.outlets

@@ -1,18 +1,25 @@
-use Rattle.std.proofs.Common.{rules, ◌≡◌, ◌<◌, ◌↔◌, ℕ, List, false, length, IsTrue, IfOk, IfSome, IfNone, OnOk, ◌+◌, ◌-◌, ◌*◌, ◌≤◌, ◌/◌, ◌%◌, Bool, true, nat_eq, nat_lt, [], ◌∷◌, ◌++◌, slice_index_or, slice_set, bit_and, bit_or, Fits, w8, w32, w64, Bor, MutBor}
+use Rattle.std.proofs.Common.{ℕ, sym, ap, subst, List}
 use Rattle.ads_outside.specs.declared.event.Event.TheVariants as event
-use Rattle.spec_machine.specs.Piece.{with_received}
-use Rattle.spec_relay.specs.RelayState.{RelayState, is_heard_among}
 use Rattle.spec_relay.specs.RelayMoves.{relay_after_event}
-use Rattle.spec_relay.specs.Routing.{at_connection}
-use Rattle.ams_relay.specs.Peers.{IsSeat, places_of}
 use Rattle.ams_relay.specs.Relays.{StandsFor}
-use Rattle.ams_relay.specs.Taking.{HoldsWith, IsHeardSeat, Takes, end_of_piece}
+use Rattle.ams_relay.proofs.OwnLemmas.{value_at}
+use Rattle.ams_relay.proofs.PromiseLemmas.{on_ok}
+use Rattle.ams_relay.proofs.TakingLemmas.{piece_unheard, piece_taken}
 use Rattle.ams_relay.proofs.router.Relay.piece.Goals as goal
 
--- src/taking.rt:29:13
 pub returns-in_default-clause-follows : goal.returns-in_default-clause-follows
-returns-in_default-clause-follows c = ?
+returns-in_default-clause-follows c = λ b s h.
+    subst (StandsFor c.args.self.now b) (sym (piece_unheard c.args.number c.args.bytes.now s (c.in_default.ensures.absent b s h))) h
 
--- src/taking.rt:23:5
 pub returns-clause-follows : goal.returns-clause-follows
-returns-clause-follows c = ?
+returns-clause-follows c = on_ok c.take_fed.result (λ takes b s h.
+    let old = c.args.self.now in
+    let found = c.in-Some.ensures.found in
+    let seat = c.in-Some.from in
+    let bytes = c.args.bytes.now in
+    let held = c.index_mut.result.now in
+    let value = value_at old.streams.items seat.place held found.stream c.index_mut.ensures.value in
+    let both = piece_taken seat.number seat.place bytes b held c.take_fed.new.stream old.router c.take_fed.new.self old.streams.items s h.holds h.streams
+    found.seat.entry found.open_ value (ap (λ (x : List ℕ × ℕ). x.0) c.take_fed.ensures.places) (takes b s) in
+    subst (λ m. StandsFor _ b (relay_after_event s (event.Piece m bytes))) found.number (record { holds = both.0; streams = both.1 }))
+    c.take_fed.ensures.takes

@@ -1,16 +1,12 @@
-use Rattle.std.proofs.Common.{rules, ◌≡◌, ℕ, ◌==◌, ◌%◌, List, Some, option_map, OnOk, ◌+◌, ◌-◌, ◌*◌, ◌<◌, ◌≤◌, length, ◌/◌, Bool, true, false, nat_eq, nat_lt, [], ◌∷◌, ◌++◌, slice_index_or, slice_set, bit_and, bit_or, Fits, w8, w32, w64, Bor, MutBor}
-use Rattle.spec_frames.specs.Frame.{IsAmsPacket}
-use Rattle.spec_formats.specs.Header.{header_of}
-use Rattle.spec_relay.specs.RelayState.{RelayState, RelayConnection, owner_of}
-use Rattle.spec_relay.specs.Requests.{request_answered}
-use Rattle.spec_relay.specs.Ways.{is_closed_by, way_of_response, way_of_request}
-use Rattle.spec_relay.specs.Routing.{after_header, after_way, with_passed, with_request_of}
+use Rattle.std.proofs.Common.{refl}
 use Rattle.ams_header.specs.Header.{ams_header_of}
-use Rattle.ams_relay.specs.Holds.{Holds}
-use Rattle.ams_relay.specs.Peers.{IsSeat, places_of}
-use Rattle.ams_relay.specs.Taking.{IsHeardAt, IsOpenedAt, IsSwept, is_refused, number_of}
+use Rattle.spec_relay.specs.Routing.{with_request_of}
+use Rattle.ams_relay.proofs.WayLemmas.{passed_counted}
 use Rattle.ams_relay.proofs.router.Router.ask.Goals as goal
 
--- src/routing.rt:141:5
 pub returns-clause-follows : goal.returns-clause-follows
-returns-clause-follows c = ?
+returns-clause-follows c = λ b s k h heard swept client opened.
+    let mid = c.remember.new.self in
+    passed_counted mid (record mid { counts = c.count_passed.new.self }) b
+    (with_request_of c.args.from.number c.args.target (ams_header_of c.args.h.now) s) refl c.count_passed.ensures
+    (c.in_ok-remember.ensures.follows b s k h heard swept client opened)

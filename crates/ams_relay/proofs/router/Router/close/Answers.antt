@@ -1,27 +1,34 @@
-use Rattle.std.proofs.Common.{rules, ◌≡◌, ◌++◌, ◌∷◌, [], ℕ, List, OnOk, IfSome, IfNone, ◌+◌, ◌-◌, ◌*◌, ◌<◌, ◌≤◌, length, ◌/◌, ◌%◌, Bool, true, false, nat_eq, nat_lt, slice_index_or, slice_set, bit_and, bit_or, Fits, w8, w32, w64, Bor, MutBor}
-use Rattle.ads_outside.specs.declared.event.Event.TheVariants as event
-use Rattle.spec_machine.specs.Connection.{connection_of, with_closing}
-use Rattle.spec_machine.specs.Moves.{with_gone}
-use Rattle.spec_machine.specs.MachineState.{after_exchange}
-use Rattle.spec_relay.specs.RelayState.{RelayState}
-use Rattle.spec_relay.specs.RelayMoves.{relay_after_event}
+use Rattle.std.proofs.Common.{◌≡◌, length, refl, sym, ap, ◌∙◌, subst}
+use Rattle.std.specs.Map.{keys_of}
+use Rattle.spec_machine.specs.Connection.{with_closing}
 use Rattle.spec_relay.specs.Routing.{at_connection}
-use Rattle.connections.specs.Entries.{IsEntry, IsNoEntry}
-use Rattle.connections.specs.Outlets.{fresh_outlet, without_number}
-use Rattle.ams_relay.specs.Holds.{Holds}
-use Rattle.ams_relay.specs.Peers.{IsSeat, places_of}
-use Rattle.ams_relay.specs.Relays.{StandsFor}
-use Rattle.ams_relay.specs.Taking.{Disowns}
+use Rattle.connections.specs.Carries.{Carries}
+use Rattle.connections.specs.Outlets.{closed}
+use Rattle.connections.proofs.OutletLemmas.{keys_changed}
+use Rattle.ams_relay.specs.Peers.{places_of}
+use Rattle.ams_relay.proofs.CarryLemmas.{carry_closed}
+use Rattle.ams_relay.proofs.EndLemmas.{closed_already, closes_at}
+use Rattle.ams_relay.proofs.OwnLemmas.{value_at}
 use Rattle.ams_relay.proofs.router.Router.close.Goals as goal
 
--- src/ends.rt:101:13
 pub returns-then-is_closing-clause-follows : goal.returns-then-is_closing-clause-follows
-returns-then-is_closing-clause-follows c = ?
+returns-then-is_closing-clause-follows c = λ b s h.
+    closed_already c.args.at.number c.args.at.place b c.args.self.now s h c.requires.entry (sym c.is_closing.ensures ∙ c.if-is_closing.true)
 
--- src/ends.rt:95:5
 pub returns-clause-follows : goal.returns-clause-follows
-returns-clause-follows c = ?
+returns-clause-follows c = λ b s h.
+    let old = c.args.self.now in
+    let seat = c.args.at in
+    let p = c.index.result.now in
+    let mid = record old { outlets = c.close.new.self } in
+    let value = value_at old.peers.items seat.place p c.requires.within c.index.ensures in
+    closes_at seat.number seat.place b p old mid c.disown.new.self s h c.requires.entry value (sym c.is_closing.ensures ∙ c.if-is_closing.false) refl
+    (ap keys_of c.close.ensures ∙ keys_changed closed old.outlets seat.place)
+    (subst (λ es. Carries es b (at_connection seat.number with_closing s).connections) (sym c.close.ensures)
+    (carry_closed seat.number seat.place b old.outlets s c.requires.entry h.outlets)) c.disown.ensures
 
--- src/ends.rt:95:5
 pub returns-clause-places : goal.returns-clause-places
-returns-clause-places c = ?
+returns-clause-places c =
+    let old = c.args.self.now in
+    ap places_of c.disown.ensures.same
+    ∙ (λ j. ((ap keys_of c.close.ensures ∙ keys_changed closed old.outlets c.args.at.place) j, length old.peers.items))

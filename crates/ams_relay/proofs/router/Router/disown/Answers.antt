@@ -1,19 +1,15 @@
-use Rattle.std.proofs.Common.{rules, ◌≡◌, ◌++◌, ◌∷◌, [], ℕ, List, OnOk, IfSome, IfNone, ◌+◌, ◌-◌, ◌*◌, ◌<◌, ◌≤◌, length, ◌/◌, ◌%◌, Bool, true, false, nat_eq, nat_lt, slice_index_or, slice_set, bit_and, bit_or, Fits, w8, w32, w64, Bor, MutBor}
-use Rattle.ads_outside.specs.declared.event.Event.TheVariants as event
-use Rattle.spec_machine.specs.Connection.{connection_of, with_closing}
-use Rattle.spec_machine.specs.Moves.{with_gone}
-use Rattle.spec_machine.specs.MachineState.{after_exchange}
-use Rattle.spec_relay.specs.RelayState.{RelayState}
-use Rattle.spec_relay.specs.RelayMoves.{relay_after_event}
-use Rattle.spec_relay.specs.Routing.{at_connection}
-use Rattle.connections.specs.Entries.{IsEntry, IsNoEntry}
-use Rattle.connections.specs.Outlets.{fresh_outlet, without_number}
-use Rattle.ams_relay.specs.Holds.{Holds}
-use Rattle.ams_relay.specs.Peers.{IsSeat, places_of}
-use Rattle.ams_relay.specs.Relays.{StandsFor}
-use Rattle.ams_relay.specs.Taking.{Disowns}
+use Rattle.std.proofs.Common.{refl, sym, subst}
+use Rattle.ams_relay.specs.Taking.{Frees, DisownsIn}
+use Rattle.ams_relay.proofs.OwnerLemmas.{frees_by}
 use Rattle.ams_relay.proofs.router.Router.disown.Goals as goal
 
--- src/ends.rt:109:5
 pub returns-in-Some : goal.returns-in-Some
-returns-in-Some c = ?
+returns-in-Some c =
+    let os = c.args.self.now.owners.entries in
+    let ps = c.swap_remove.new.self.entries in
+    record {
+      same = refl;
+      disowned = subst (λ o. DisownsIn o os ps) (sym c.in-Some.is)
+          (subst (λ net. Frees net os ps) c.as_slice.ensures
+          (frees_by c.as_slice.result.now os ps c.swap_remove.ensures.updates.1 c.swap_remove.ensures.updates.3));
+    }

@@ -1,29 +1,56 @@
-use Rattle.std.proofs.Common.{rules, ◌≡◌, ◌<◌, ℕ, List, length, IfOk, OnOk, ◌+◌, ◌-◌, ◌*◌, ◌≤◌, ◌/◌, ◌%◌, Bool, true, false, nat_eq, nat_lt, [], ◌∷◌, ◌++◌, slice_index_or, slice_set, bit_and, bit_or, Fits, w8, w32, w64, Bor, MutBor}
-use Rattle.spec_frames.specs.Frame.{IsAmsPacket, header_bytes}
-use Rattle.spec_machine.specs.Connection.{connection_of}
-use Rattle.spec_relay.specs.RelayState.{RelayState}
-use Rattle.spec_relay.specs.Routing.{given_to, has_room, framed, after_unknown, not_found_packet}
-use Rattle.ams_header.specs.Header.{ams_header_of}
-use Rattle.ams_relay.specs.Holds.{Holds}
-use Rattle.ams_relay.specs.Peers.{IsSeat, places_of}
+use Rattle.std.proofs.Common.{◌≡◌, List, ℕ, ◌++◌, length, refl, sym, ap, ◌∙◌, subst}
+use Rattle.std.specs.Map.{keys_of}
+use Rattle.spec_frames.specs.Frame.{frame_bytes}
+use Rattle.connections.specs.Outlets.{change_at, given, is_fitting, test_in, outlet_at}
+use Rattle.connections.proofs.OutletLemmas.{keys_changed}
+use Rattle.ams_relay.specs.Peers.{places_of}
+use Rattle.ams_relay.proofs.GiveLemmas.{given_closing, given_fits, given_over, room_fits}
+use Rattle.ams_relay.proofs.OwnLemmas.{value_at}
 use Rattle.ams_relay.proofs.router.Router.give.Goals as goal
 
--- src/giving.rt:39:13
 pub returns-then-is_closing-clause-follows : goal.returns-then-is_closing-clause-follows
-returns-then-is_closing-clause-follows c = ?
+returns-then-is_closing-clause-follows c = λ b s h.
+    given_closing c.args.to.number c.args.to.place c.args.packet.now b c.args.self.now s h c.requires.seat.entry (sym c.is_closing.ensures ∙ c.if-is_closing.true)
 
--- src/giving.rt:46:13
-pub returns-then-branch-clause-follows : goal.returns-then-branch-clause-follows
-returns-then-branch-clause-follows c = ?
+pub returns-then-fitted-clause-follows : goal.returns-then-fitted-clause-follows
+returns-then-fitted-clause-follows c = λ b s h.
+    let old = c.args.self.now in
+    let seat = c.args.to in
+    let packet = c.args.packet.now in
+    let frame : c.frame_header-header.result ++ packet ≡ frame_bytes packet = ap (λ (x : List ℕ). x ++ packet) c.frame_header-header.ensures in
+    let fitted = c.in_ok-fitted.ensures.fitted ∙ ap (λ (f : List ℕ). test_in (is_fitting f) (outlet_at old.outlets seat.place)) frame in
+    let given_to = c.in_ok-fitted.ensures.given ∙ ap (λ (f : List ℕ). change_at (given f) seat.place old.outlets) frame in (
+      sym c.if-fitted.true ∙ fitted ∙ room_fits seat.number seat.place packet b old s h c.requires.seat.entry,
+      given_fits seat.number seat.place packet b c.give_parts.new.self old c.note_near.new.self s h c.requires.seat.entry (sym fitted ∙ c.if-fitted.true)
+          c.note_near.ensures given_to,
+    )
 
--- src/giving.rt:46:13
-pub returns-then-branch-clause-places : goal.returns-then-branch-clause-places
-returns-then-branch-clause-places c = ?
+pub returns-then-fitted-clause-places : goal.returns-then-fitted-clause-places
+returns-then-fitted-clause-places c =
+    let old = c.args.self.now in
+    let header = c.frame_header-header.result in
+    ap places_of c.note_near.ensures
+    ∙ (λ j. ((ap keys_of c.in_ok-fitted.ensures.given ∙ keys_changed (given (header ++ c.args.packet.now)) old.outlets c.args.to.place) j, length old.peers.items))
 
--- src/giving.rt:25:5
 pub returns-clause-follows : goal.returns-clause-follows
-returns-clause-follows c = ?
+returns-clause-follows c = λ b s h.
+    let old = c.args.self.now in
+    let seat = c.args.to in
+    let packet = c.args.packet.now in
+    let p = c.index.result.now in
+    let frame : c.frame_header-header.result ++ packet ≡ frame_bytes packet = ap (λ (x : List ℕ). x ++ packet) c.frame_header-header.ensures in
+    let fitted = c.in_ok-fitted.ensures.fitted ∙ ap (λ (f : List ℕ). test_in (is_fitting f) (outlet_at old.outlets seat.place)) frame in
+    let given_to = c.in_ok-fitted.ensures.given ∙ ap (λ (f : List ℕ). change_at (given f) seat.place old.outlets) frame in
+    let mid = record old { outlets = c.give_parts.new.self } in
+    let value = value_at old.peers.items seat.place p c.requires.seat.within c.index.ensures in (
+      sym c.if-fitted.false ∙ fitted ∙ room_fits seat.number seat.place packet b old s h c.requires.seat.entry,
+      given_over seat.number seat.place packet b p old mid c.disown.new.self s h c.requires.seat.entry value (sym c.is_closing.ensures ∙ c.if-is_closing.false)
+          (sym fitted ∙ c.if-fitted.false) refl given_to c.disown.ensures,
+    )
 
--- src/giving.rt:25:5
 pub returns-clause-places : goal.returns-clause-places
-returns-clause-places c = ?
+returns-clause-places c =
+    let old = c.args.self.now in
+    let header = c.frame_header-header.result in
+    ap places_of c.disown.ensures.same
+    ∙ (λ j. ((ap keys_of c.in_ok-fitted.ensures.given ∙ keys_changed (given (header ++ c.args.packet.now)) old.outlets c.args.to.place) j, length old.peers.items))

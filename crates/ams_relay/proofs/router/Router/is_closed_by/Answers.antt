@@ -1,24 +1,20 @@
-use Rattle.std.proofs.Common.{rules, ◌≡◌, ℕ, ◌==◌, ◌%◌, List, Some, option_map, OnOk, ◌+◌, ◌-◌, ◌*◌, ◌<◌, ◌≤◌, length, ◌/◌, Bool, true, false, nat_eq, nat_lt, [], ◌∷◌, ◌++◌, slice_index_or, slice_set, bit_and, bit_or, Fits, w8, w32, w64, Bor, MutBor}
-use Rattle.spec_frames.specs.Frame.{IsAmsPacket}
-use Rattle.spec_formats.specs.Header.{header_of}
-use Rattle.spec_relay.specs.RelayState.{RelayState, RelayConnection, owner_of}
-use Rattle.spec_relay.specs.Requests.{request_answered}
-use Rattle.spec_relay.specs.Ways.{is_closed_by, way_of_response, way_of_request}
-use Rattle.spec_relay.specs.Routing.{after_header, after_way, with_passed, with_request_of}
+use Rattle.std.proofs.Common.{sym, ◌∙◌}
 use Rattle.ams_header.specs.Header.{ams_header_of}
-use Rattle.ams_relay.specs.Holds.{Holds}
-use Rattle.ams_relay.specs.Peers.{IsSeat, places_of}
-use Rattle.ams_relay.specs.Taking.{IsHeardAt, IsOpenedAt, IsSwept, is_refused, number_of}
+use Rattle.ams_relay.proofs.WayLemmas.{closed_refused, closed_else, closed_owned}
+use Rattle.ams_relay.proofs.OwnLemmas.{taken_own}
 use Rattle.ams_relay.proofs.router.Router.is_closed_by.Goals as goal
 
--- src/routing.rt:53:13
 pub returns-then-owns : goal.returns-then-owns
-returns-then-owns c = ?
+returns-then-owns c = λ b s k h heard.
+    let head = ams_header_of c.args.h.now in
+    let client = c.owns.ensures b s k h heard c.if-owns.true in
+    closed_owned c.args.payload.now head k s (taken_own head.source.net k s.connections client) (h.known.routed c.args.from.number k head.source.net heard.found client)
 
--- src/routing.rt:56:13
 pub returns-then-is_refused : goal.returns-then-is_refused
-returns-then-is_refused c = ?
+returns-then-is_refused c = λ b s k h heard.
+    closed_refused c.args.payload.now (ams_header_of c.args.h.now) k s (sym (c.is_refused.ensures b s h) ∙ c.if-is_refused.true)
 
--- src/routing.rt:46:5
 pub returns : goal.returns
-returns c = ?
+returns c = λ b s k h heard.
+    c.is_taken.ensures b s k h heard
+    ∙ closed_else c.args.payload.now (ams_header_of c.args.h.now) k s (sym (c.is_refused.ensures b s h) ∙ c.if-is_refused.false)

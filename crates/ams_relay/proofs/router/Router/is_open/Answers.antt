@@ -1,20 +1,9 @@
-use Rattle.std.proofs.Common.{rules, ◌≡◌, ◌<◌, ◌==◌, ◌++◌, ℕ, List, ◌∷◌, [], length, remove, position, filter, slice_get, if◌then◌else◌, false, IsTrue, IfOk, IfSome, OnOk, Some, ◌+◌, ◌-◌, ◌*◌, ◌≤◌, ◌/◌, ◌%◌, Bool, true, nat_eq, nat_lt, slice_index_or, slice_set, bit_and, bit_or, Fits, w8, w32, w64, Bor, MutBor}
-use Rattle.spec_formats.specs.Commands.{DEVICE_NOTIFICATION}
-use Rattle.ams_header.specs.Header.{ams_header_of}
-use Rattle.spec_relay.specs.RelayState.{RelayState, RelayConnection}
-use Rattle.spec_relay.specs.Requests.{is_answered_by}
-use Rattle.spec_relay.specs.Requests.{MAX_REQUESTS as MOST}
-use Rattle.spec_relay.specs.Routing.{with_request_of}
-use Rattle.ams_relay.specs.Asking.{request_of, with_room}
-use Rattle.ams_relay.specs.Holds.{Holds, owner_in}
-use Rattle.ams_relay.specs.Peers.{IsSeat, is_open, places_of}
-use Rattle.ams_relay.specs.Taking.{IsHeardAt, IsOpenedAt, IsSwept, Spends, SpendsAt, is_asked_heard, number_in}
+use Rattle.std.proofs.Common.{not, ap, ◌∙◌}
+use Rattle.ams_relay.proofs.CarryLemmas.{open_at, open_absent}
 use Rattle.ams_relay.proofs.router.Router.is_open.Goals as goal
 
--- src/remembering.rt:152:5
 pub returns-in-Some : goal.returns-in-Some
-returns-in-Some c = ?
+returns-in-Some c = ap not c.is_closing.ensures ∙ open_at c.args.self.now.outlets c.args.number c.in-Some.place c.in-Some.ensures.found
 
--- src/remembering.rt:152:5
 pub returns-in-None : goal.returns-in-None
-returns-in-None c = ?
+returns-in-None c = open_absent c.args.self.now.outlets c.args.number c.in-None.ensures.absent

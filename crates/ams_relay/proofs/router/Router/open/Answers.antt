@@ -1,19 +1,8 @@
-use Rattle.std.proofs.Common.{rules, ◌≡◌, ◌++◌, ◌∷◌, [], ℕ, List, OnOk, IfSome, IfNone, ◌+◌, ◌-◌, ◌*◌, ◌<◌, ◌≤◌, length, ◌/◌, ◌%◌, Bool, true, false, nat_eq, nat_lt, slice_index_or, slice_set, bit_and, bit_or, Fits, w8, w32, w64, Bor, MutBor}
-use Rattle.ads_outside.specs.declared.event.Event.TheVariants as event
-use Rattle.spec_machine.specs.Connection.{connection_of, with_closing}
-use Rattle.spec_machine.specs.Moves.{with_gone}
-use Rattle.spec_machine.specs.MachineState.{after_exchange}
-use Rattle.spec_relay.specs.RelayState.{RelayState}
-use Rattle.spec_relay.specs.RelayMoves.{relay_after_event}
-use Rattle.spec_relay.specs.Routing.{at_connection}
-use Rattle.connections.specs.Entries.{IsEntry, IsNoEntry}
-use Rattle.connections.specs.Outlets.{fresh_outlet, without_number}
-use Rattle.ams_relay.specs.Holds.{Holds}
-use Rattle.ams_relay.specs.Peers.{IsSeat, places_of}
-use Rattle.ams_relay.specs.Relays.{StandsFor}
-use Rattle.ams_relay.specs.Taking.{Disowns}
+use Rattle.std.proofs.Common.{refl}
+use Rattle.ams_relay.proofs.EndLemmas.{opens}
 use Rattle.ams_relay.proofs.router.Router.open.Goals as goal
 
--- src/ends.rt:65:5
 pub returns-clause-follows : goal.returns-clause-follows
-returns-clause-follows c = ?
+returns-clause-follows c = λ b s h is_new.
+    opens c.args.number b c.fresh.result c.args.self.now _ s h is_new c.requires c.fresh.ensures.owned c.fresh.ensures.asked refl refl
+    c.in_ok-open.ensures.ok c.in_ok-push.ensures.items c.count_connection.ensures

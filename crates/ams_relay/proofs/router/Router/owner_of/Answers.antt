@@ -1,13 +1,7 @@
-use Rattle.std.proofs.Common.{rules, ◌≡◌, ℕ, List, Some, option_map, is_some, not, bytes_eq, true, false, IsTrue, OnOk, IfSome, ◌+◌, ◌-◌, ◌*◌, ◌<◌, ◌≤◌, length, ◌/◌, ◌%◌, Bool, nat_eq, nat_lt, [], ◌∷◌, ◌++◌, slice_index_or, slice_set, bit_and, bit_or, Fits, w8, w32, w64, Bor, MutBor}
-use Rattle.spec_plant.specs.Rights.{rights_of}
-use Rattle.spec_relay.specs.RelayState.{RelayState, RelayConnection, owner_of}
-use Rattle.spec_relay.specs.Ways.{is_taken_net}
-use Rattle.spec_relay.specs.Routing.{with_owner}
-use Rattle.ams_relay.specs.Holds.{Holds, owner_in}
-use Rattle.ams_relay.specs.Peers.{IsSeat, places_of, net_of, owned_at}
-use Rattle.ams_relay.specs.Taking.{IsHeardAt, IsOwnerSeat, number_of, number_in}
+use Rattle.ams_relay.proofs.OwnLemmas.{owner_seated}
+use Rattle.std.proofs.Common.{sym, ◌∙◌}
 use Rattle.ams_relay.proofs.router.Router.owner_of.Goals as goal
 
--- src/owners.rt:58:21
-pub returns-in_err-place-clause-entry : goal.returns-in_err-place-clause-entry
-returns-in_err-place-clause-entry c = ?
+pub returns-in_default-place_of-clause-entry : goal.returns-in_default-place_of-clause-entry
+returns-in_default-place_of-clause-entry c = λ b s h. absurd
+    (owner_seated c.args.net.bytes c.in-Some.number b c.args.self.now s h (sym c.owner_number.ensures ∙ c.in-Some.is) c.in_default-place_of.ensures.absent)

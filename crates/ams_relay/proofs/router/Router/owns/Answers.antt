@@ -1,13 +1,11 @@
-use Rattle.std.proofs.Common.{rules, ◌≡◌, ℕ, List, Some, option_map, is_some, not, bytes_eq, true, false, IsTrue, OnOk, IfSome, ◌+◌, ◌-◌, ◌*◌, ◌<◌, ◌≤◌, length, ◌/◌, ◌%◌, Bool, nat_eq, nat_lt, [], ◌∷◌, ◌++◌, slice_index_or, slice_set, bit_and, bit_or, Fits, w8, w32, w64, Bor, MutBor}
-use Rattle.spec_plant.specs.Rights.{rights_of}
-use Rattle.spec_relay.specs.RelayState.{RelayState, RelayConnection, owner_of}
-use Rattle.spec_relay.specs.Ways.{is_taken_net}
-use Rattle.spec_relay.specs.Routing.{with_owner}
-use Rattle.ams_relay.specs.Holds.{Holds, owner_in}
-use Rattle.ams_relay.specs.Peers.{IsSeat, places_of, net_of, owned_at}
-use Rattle.ams_relay.specs.Taking.{IsHeardAt, IsOwnerSeat, number_of, number_in}
+use Rattle.std.proofs.Common.{sym, ◌∙◌}
+use Rattle.ams_relay.proofs.OwnLemmas.{value_at, owned_is}
 use Rattle.ams_relay.proofs.router.Router.owns.Goals as goal
 
--- src/owners.rt:86:5
 pub returns : goal.returns
-returns c = ?
+returns c = λ b s k h heard same.
+    let r = c.args.self.now in
+    let seat = c.args.from in
+    let p = c.index.result.now in
+    let value = value_at r.peers.items seat.place p c.requires.within c.index.ensures in
+    sym (owned_is seat.number seat.place b k p r s h c.requires.entry value heard) ∙ c.owns.ensures same

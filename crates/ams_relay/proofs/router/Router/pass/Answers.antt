@@ -1,32 +1,61 @@
-use Rattle.std.proofs.Common.{rules, ◌≡◌, ℕ, ◌==◌, ◌%◌, List, Some, option_map, OnOk, ◌+◌, ◌-◌, ◌*◌, ◌<◌, ◌≤◌, length, ◌/◌, Bool, true, false, nat_eq, nat_lt, [], ◌∷◌, ◌++◌, slice_index_or, slice_set, bit_and, bit_or, Fits, w8, w32, w64, Bor, MutBor}
-use Rattle.spec_frames.specs.Frame.{IsAmsPacket}
-use Rattle.spec_formats.specs.Header.{header_of}
-use Rattle.spec_relay.specs.RelayState.{RelayState, RelayConnection, owner_of}
+use Rattle.std.proofs.Common.{List, ℕ, Bool, cond, ap, sym, ◌∙◌, subst}
+use Rattle.spec_formats.specs.Header.{payload_of}
+use Rattle.spec_relay.specs.RelayState.{owner_of}
 use Rattle.spec_relay.specs.Requests.{request_answered}
 use Rattle.spec_relay.specs.Ways.{is_closed_by, way_of_response, way_of_request}
-use Rattle.spec_relay.specs.Routing.{after_header, after_way, with_passed, with_request_of}
+use Rattle.spec_relay.specs.Routing.{after_way, with_owner}
 use Rattle.ams_header.specs.Header.{ams_header_of}
 use Rattle.ams_relay.specs.Holds.{Holds}
-use Rattle.ams_relay.specs.Peers.{IsSeat, places_of}
-use Rattle.ams_relay.specs.Taking.{IsHeardAt, IsOpenedAt, IsSwept, is_refused, number_of}
+use Rattle.ams_relay.proofs.OwnLemmas.{seat_kept}
+use Rattle.ams_relay.proofs.PromiseLemmas.{on_ok}
+use Rattle.ams_relay.proofs.WayLemmas.{header_closes, header_goes, way_by_mark, not_taken, has_route, after_owned}
 use Rattle.ams_relay.proofs.router.Router.pass.Goals as goal
 
--- src/routing.rt:35:13
 pub returns-then-is_closed_by-clause-follows : goal.returns-then-is_closed_by-clause-follows
-returns-then-is_closed_by-clause-follows c = ?
+returns-then-is_closed_by-clause-follows c = λ b s k h heard swept.
+    let head = ams_header_of c.in-Some.h in
+    let closes = ap (λ (p : List ℕ). is_closed_by p head k s) (sym c.in-Some.ensures.payload)
+    ∙ sym (c.is_closed_by.ensures b s k h heard) ∙ c.if-is_closed_by.true in
+    header_closes c.args.from.number c.args.packet.now k head c.close.new.self b s c.in-Some.ensures.header closes (c.close.ensures.follows b s h)
 
--- src/routing.rt:39:13
 pub pass_response-requires-clause-seat : goal.pass_response-requires-clause-seat
-pass_response-requires-clause-seat c = ?
+pass_response-requires-clause-seat c = seat_kept c.args.self.now c.own.new.self c.args.from c.own.ensures.places c.requires.seat
 
--- src/routing.rt:41:13
 pub pass_request-requires-clause-seat : goal.pass_request-requires-clause-seat
-pass_request-requires-clause-seat c = ?
+pass_request-requires-clause-seat c = seat_kept c.args.self.now c.own.new.self c.args.from c.own.ensures.places c.requires.seat
 
--- src/routing.rt:23:5
 pub returns-then-is_response-clause-follows : goal.returns-then-is_response-clause-follows
-returns-then-is_response-clause-follows c = ?
+returns-then-is_response-clause-follows c = on_ok c.pass_response.result (λ e b s k h heard swept.
+    let head = ams_header_of c.in-Some.h in
+    let conn = c.args.from.number in
+    let packet = c.args.packet.now in
+    let opens = ap (λ (p : List ℕ). is_closed_by p head k s) (sym c.in-Some.ensures.payload)
+    ∙ sym (c.is_closed_by.ensures b s k h heard) ∙ c.if-is_closed_by.false in
+    let owned = with_owner conn head.source.net s in
+    let held = c.in_ok-own.ensures.follows b s k h heard (not_taken (payload_of packet) head k s opens) (has_route (payload_of packet) head k s opens) in
+    let after = after_owned conn head.source.net k s heard swept in
+    let goes = e b owned after.connection held after.heard after.swept in
+    header_goes conn packet k head c.pass_response.new.self b s c.in-Some.ensures.header opens
+    (way_by_mark conn head packet c.pass_response.new.self b owned c.is_response.result c.is_response.ensures
+    (subst (λ (t : Bool). Holds c.pass_response.new.self b
+    (after_way conn head packet
+    (cond t (way_of_response (request_answered conn head owned.world.requests)) (way_of_request (owner_of head.target.net owned.connections))) owned))
+    (sym c.if-is_response.true) goes))) c.pass_response.ensures.follows
 
--- src/routing.rt:23:5
 pub returns-else-is_response-clause-follows : goal.returns-else-is_response-clause-follows
-returns-else-is_response-clause-follows c = ?
+returns-else-is_response-clause-follows c = on_ok c.pass_request.result (λ e b s k h heard swept.
+    let head = ams_header_of c.in-Some.h in
+    let conn = c.args.from.number in
+    let packet = c.args.packet.now in
+    let opens = ap (λ (p : List ℕ). is_closed_by p head k s) (sym c.in-Some.ensures.payload)
+    ∙ sym (c.is_closed_by.ensures b s k h heard) ∙ c.if-is_closed_by.false in
+    let owned = with_owner conn head.source.net s in
+    let held = c.in_ok-own.ensures.follows b s k h heard (not_taken (payload_of packet) head k s opens) (has_route (payload_of packet) head k s opens) in
+    let after = after_owned conn head.source.net k s heard swept in
+    let goes = e b owned after.connection held after.heard after.swept after.client in
+    header_goes conn packet k head c.pass_request.new.self b s c.in-Some.ensures.header opens
+    (way_by_mark conn head packet c.pass_request.new.self b owned c.is_response.result c.is_response.ensures
+    (subst (λ (t : Bool). Holds c.pass_request.new.self b
+    (after_way conn head packet
+    (cond t (way_of_response (request_answered conn head owned.world.requests)) (way_of_request (owner_of head.target.net owned.connections))) owned))
+    (sym c.if-is_response.false) goes))) c.pass_request.ensures.follows

@@ -1,20 +1,18 @@
-use Rattle.std.proofs.Common.{rules, ◌≡◌, ℕ, ◌==◌, ◌%◌, List, Some, option_map, OnOk, ◌+◌, ◌-◌, ◌*◌, ◌<◌, ◌≤◌, length, ◌/◌, Bool, true, false, nat_eq, nat_lt, [], ◌∷◌, ◌++◌, slice_index_or, slice_set, bit_and, bit_or, Fits, w8, w32, w64, Bor, MutBor}
-use Rattle.spec_frames.specs.Frame.{IsAmsPacket}
-use Rattle.spec_formats.specs.Header.{header_of}
-use Rattle.spec_relay.specs.RelayState.{RelayState, RelayConnection, owner_of}
-use Rattle.spec_relay.specs.Requests.{request_answered}
-use Rattle.spec_relay.specs.Ways.{is_closed_by, way_of_response, way_of_request}
-use Rattle.spec_relay.specs.Routing.{after_header, after_way, with_passed, with_request_of}
+use Rattle.std.proofs.Common.{sym, ap, ◌∙◌}
 use Rattle.ams_header.specs.Header.{ams_header_of}
-use Rattle.ams_relay.specs.Holds.{Holds}
-use Rattle.ams_relay.specs.Peers.{IsSeat, places_of}
-use Rattle.ams_relay.specs.Taking.{IsHeardAt, IsOpenedAt, IsSwept, is_refused, number_of}
+use Rattle.ams_relay.specs.Taking.{number_in}
+use Rattle.ams_relay.proofs.OwnLemmas.{owner_found}
+use Rattle.ams_relay.proofs.PromiseLemmas.{on_ok}
+use Rattle.ams_relay.proofs.WayLemmas.{way_unknown}
 use Rattle.ams_relay.proofs.router.Router.pass_request.Goals as goal
 
--- src/routing.rt:94:5
 pub returns-in-Some-clause-follows : goal.returns-in-Some-clause-follows
-returns-in-Some-clause-follows c = ?
+returns-in-Some-clause-follows c =
+    on_ok c.pass_to.result
+    (λ e b s k h heard swept client. e b s k h heard swept client (sym (ap number_in c.in-Some.is) ∙ c.owner_near.ensures.entry b s h ∙ owner_found c.args.h.now.target.net.bytes b c.args.self.now s h)) c.pass_to.ensures.follows
 
--- src/routing.rt:94:5
 pub returns-in-None-clause-follows : goal.returns-in-None-clause-follows
-returns-in-None-clause-follows c = ?
+returns-in-None-clause-follows c =
+    on_ok c.tell_unknown.result (λ e b s k h heard swept client.
+    way_unknown c.args.from.number (ams_header_of c.args.h.now) c.args.packet.now c.tell_unknown.new.self b s
+    (sym (ap number_in c.in-None.is) ∙ c.owner_near.ensures.entry b s h ∙ owner_found c.args.h.now.target.net.bytes b c.args.self.now s h) (e b s h)) c.tell_unknown.ensures.follows

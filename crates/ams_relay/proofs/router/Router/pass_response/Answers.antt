@@ -1,24 +1,40 @@
-use Rattle.std.proofs.Common.{rules, ◌≡◌, ℕ, ◌==◌, ◌%◌, List, Some, option_map, OnOk, ◌+◌, ◌-◌, ◌*◌, ◌<◌, ◌≤◌, length, ◌/◌, Bool, true, false, nat_eq, nat_lt, [], ◌∷◌, ◌++◌, slice_index_or, slice_set, bit_and, bit_or, Fits, w8, w32, w64, Bor, MutBor}
-use Rattle.spec_frames.specs.Frame.{IsAmsPacket}
-use Rattle.spec_formats.specs.Header.{header_of}
-use Rattle.spec_relay.specs.RelayState.{RelayState, RelayConnection, owner_of}
-use Rattle.spec_relay.specs.Requests.{request_answered}
-use Rattle.spec_relay.specs.Ways.{is_closed_by, way_of_response, way_of_request}
-use Rattle.spec_relay.specs.Routing.{after_header, after_way, with_passed, with_request_of}
+use Rattle.std.proofs.Common.{Bool, cond, refl, sym, subst}
 use Rattle.ams_header.specs.Header.{ams_header_of}
+use Rattle.spec_relay.specs.Routing.{given_to, with_passed}
 use Rattle.ams_relay.specs.Holds.{Holds}
-use Rattle.ams_relay.specs.Peers.{IsSeat, places_of}
-use Rattle.ams_relay.specs.Taking.{IsHeardAt, IsOpenedAt, IsSwept, is_refused, number_of}
+use Rattle.ams_relay.specs.Taking.{Spends, number_in}
+use Rattle.ams_relay.proofs.WayLemmas.{way_stray, way_answered, passed_counted}
 use Rattle.ams_relay.proofs.router.Router.pass_response.Goals as goal
 
--- src/routing.rt:84:13
 pub returns-in_default-clause-follows : goal.returns-in_default-clause-follows
-returns-in_default-clause-follows c = ?
+returns-in_default-clause-follows c = λ b s k h heard swept.
+    let head = ams_header_of c.args.h.now in
+    way_stray c.args.from.number head c.args.packet.now c.spend.new.self b s
+    (subst (λ o. Spends (number_in o) c.args.from.number head c.spend.new.self b s) c.in_default.is (c.spend.ensures.spends b s k h heard swept))
 
--- src/routing.rt:69:5
 pub returns-then-fitted-clause-follows : goal.returns-then-fitted-clause-follows
-returns-then-fitted-clause-follows c = ?
+returns-then-fitted-clause-follows c = λ b s k h heard swept.
+    let head = ams_header_of c.args.h.now in
+    let packet = c.args.packet.now in
+    let asker = c.in-Some.asker.number in
+    let given = c.give.new.self in
+    let new = record given { counts = c.count_passed.new.self } in
+    way_answered c.args.from.number asker head packet c.spend.new.self new b s c.in_ok-fitted.fitted
+    (subst (λ o. Spends (number_in o) c.args.from.number head c.spend.new.self b s) c.in-Some.is (c.spend.ensures.spends b s k h heard swept))
+    (λ t held. let g = c.in_ok-fitted.ensures.follows b t held in (
+      g.0,
+      subst (λ (f : Bool). Holds new b (cond f (with_passed (given_to asker packet t)) (given_to asker packet t))) (sym c.if-fitted.true)
+          (passed_counted given new b (given_to asker packet t) refl c.count_passed.ensures g.1),
+    ))
 
--- src/routing.rt:69:5
 pub returns-else-fitted-clause-follows : goal.returns-else-fitted-clause-follows
-returns-else-fitted-clause-follows c = ?
+returns-else-fitted-clause-follows c = λ b s k h heard swept.
+    let head = ams_header_of c.args.h.now in
+    let packet = c.args.packet.now in
+    let asker = c.in-Some.asker.number in
+    way_answered c.args.from.number asker head packet c.spend.new.self c.give.new.self b s c.in_ok-fitted.fitted
+    (subst (λ o. Spends (number_in o) c.args.from.number head c.spend.new.self b s) c.in-Some.is (c.spend.ensures.spends b s k h heard swept))
+    (λ t held. let g = c.in_ok-fitted.ensures.follows b t held in (
+      g.0,
+      subst (λ (f : Bool). Holds c.give.new.self b (cond f (with_passed (given_to asker packet t)) (given_to asker packet t))) (sym c.if-fitted.false) g.1,
+    ))

@@ -1,20 +1,26 @@
-use Rattle.std.proofs.Common.{rules, ◌≡◌, ℕ, ◌==◌, ◌%◌, List, Some, option_map, OnOk, ◌+◌, ◌-◌, ◌*◌, ◌<◌, ◌≤◌, length, ◌/◌, Bool, true, false, nat_eq, nat_lt, [], ◌∷◌, ◌++◌, slice_index_or, slice_set, bit_and, bit_or, Fits, w8, w32, w64, Bor, MutBor}
-use Rattle.spec_frames.specs.Frame.{IsAmsPacket}
-use Rattle.spec_formats.specs.Header.{header_of}
-use Rattle.spec_relay.specs.RelayState.{RelayState, RelayConnection, owner_of}
-use Rattle.spec_relay.specs.Requests.{request_answered}
-use Rattle.spec_relay.specs.Ways.{is_closed_by, way_of_response, way_of_request}
-use Rattle.spec_relay.specs.Routing.{after_header, after_way, with_passed, with_request_of}
+use Rattle.std.proofs.Common.{sym, ◌∙◌}
+use Rattle.spec_relay.specs.Routing.{given_to}
 use Rattle.ams_header.specs.Header.{ams_header_of}
-use Rattle.ams_relay.specs.Holds.{Holds}
-use Rattle.ams_relay.specs.Peers.{IsSeat, places_of}
-use Rattle.ams_relay.specs.Taking.{IsHeardAt, IsOpenedAt, IsSwept, is_refused, number_of}
+use Rattle.ams_relay.proofs.PromiseLemmas.{on_ok}
+use Rattle.ams_relay.proofs.WayLemmas.{way_asked, way_refused, after_given}
 use Rattle.ams_relay.proofs.router.Router.pass_to.Goals as goal
 
--- src/routing.rt:135:13
 pub returns-then-fitted-clause-follows : goal.returns-then-fitted-clause-follows
-returns-then-fitted-clause-follows c = ?
+returns-then-fitted-clause-follows c =
+    on_ok c.ask.result (λ e b s k h heard swept client target.
+    let head = ams_header_of c.args.h.now in
+    let packet = c.args.packet.now in
+    let g = c.in_ok-fitted.ensures.follows b s h in
+    let room = sym g.0 ∙ c.if-fitted.true in
+    let after = after_given c.args.from.number c.args.target.number packet k s heard swept room in
+    way_asked c.args.from.number c.args.target.number head packet c.ask.new.self b s target room
+    (e b (given_to c.args.target.number packet s) after.connection g.1 after.heard after.swept (after.client ∙ client) after.opened)) c.ask.ensures.follows
 
--- src/routing.rt:116:5
 pub returns-clause-follows : goal.returns-clause-follows
-returns-clause-follows c = ?
+returns-clause-follows c =
+    on_ok c.tell_unknown.result (λ e b s k h heard swept client target.
+    let head = ams_header_of c.args.h.now in
+    let packet = c.args.packet.now in
+    let g = c.in_ok-fitted.ensures.follows b s h in
+    way_refused c.args.from.number c.args.target.number head packet c.tell_unknown.new.self b s target
+    (sym g.0 ∙ c.if-fitted.false) (e b (given_to c.args.target.number packet s) g.1)) c.tell_unknown.ensures.follows

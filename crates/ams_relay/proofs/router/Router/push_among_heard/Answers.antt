@@ -1,16 +1,30 @@
-use Rattle.std.proofs.Common.{rules, ◌≡◌, ◌<◌, ◌==◌, ◌++◌, ℕ, List, ◌∷◌, [], length, remove, position, filter, slice_get, if◌then◌else◌, false, IsTrue, IfOk, IfSome, OnOk, Some, ◌+◌, ◌-◌, ◌*◌, ◌≤◌, ◌/◌, ◌%◌, Bool, true, nat_eq, nat_lt, slice_index_or, slice_set, bit_and, bit_or, Fits, w8, w32, w64, Bor, MutBor}
-use Rattle.spec_formats.specs.Commands.{DEVICE_NOTIFICATION}
+use Rattle.std.proofs.Common.{◌≡◌, ◌<◌, ◌++◌, ◌∷◌, [], List, sym, ap, refl, inl, inr, ◌∙◌}
+use Rattle.std.specs.Prelude.{filter}
 use Rattle.ams_header.specs.Header.{ams_header_of}
-use Rattle.spec_relay.specs.RelayState.{RelayState, RelayConnection}
-use Rattle.spec_relay.specs.Requests.{is_answered_by}
-use Rattle.spec_relay.specs.Requests.{MAX_REQUESTS as MOST}
-use Rattle.spec_relay.specs.Routing.{with_request_of}
-use Rattle.ams_relay.specs.Asking.{request_of, with_room}
-use Rattle.ams_relay.specs.Holds.{Holds, owner_in}
-use Rattle.ams_relay.specs.Peers.{IsSeat, is_open, places_of}
-use Rattle.ams_relay.specs.Taking.{IsHeardAt, IsOpenedAt, IsSwept, Spends, SpendsAt, is_asked_heard, number_in}
+use Rattle.spec_relay.specs.RelayState.{Request}
+use Rattle.ams_relay.specs.declared.asked.Asked.{Asked}
+use Rattle.ams_relay.specs.declared.peer.Peer.{Peer}
+use Rattle.ams_relay.specs.Asking.{with_room}
+use Rattle.ams_relay.specs.Taking.{is_asked_heard}
+use Rattle.ams_relay.proofs.OwnLemmas.{value_at}
+use Rattle.ams_relay.proofs.OwnerLemmas.{some_same}
+use Rattle.ams_relay.proofs.RememberLemmas.{remembers}
 use Rattle.ams_relay.proofs.router.Router.push_among_heard.Goals as goal
 
--- src/remembering.rt:108:5
 pub returns-clause-follows : goal.returns-clause-follows
-returns-clause-follows c = ?
+returns-clause-follows c = λ b s k h heard swept client opened asks.
+    let old = c.args.self.now in
+    let seat = c.args.from in
+    let p = c.index_mut.result.now in
+    let first = value_at old.peers.items seat.place c.index.result.now c.requires.within c.index.ensures in
+    let value = value_at old.peers.items seat.place p c.requires.within c.index_mut.ensures.value in
+    let same = some_same c.index.result.now p (sym first ∙ value) in
+    let q : Peer = record p { asked = c.push_back.new.self } in
+    let a = c.asked_by.result in
+    let left : List Asked = with_room (filter (is_asked_heard old.outlets) p.asked.items) in
+    let is = c.drop_oldest.ensures ∙ ap with_room (c.in_ok-kept.ensures ∙ ap (λ (x : Peer). filter (is_asked_heard old.outlets) x.asked.items) same) in
+    remembers seat.place old _ b s seat.number c.args.target k (ams_header_of c.args.h.now) p q left a
+    h swept heard opened client asks c.requires.entry value refl refl refl refl refl refl
+    (c.in_ok-push_back.ensures.items ∙ ap (λ (xs : List Asked). xs ++ a ∷ []) is) (c.asked_by.ensures seat.number)
+    (ap (λ (r : Request). r.asked) (c.asked_by.ensures seat.number)) (ap (λ (r : Request). r.source.net) (c.asked_by.ensures seat.number))
+    (inr refl)

@@ -1,24 +1,24 @@
-use Rattle.std.proofs.Common.{rules, ◌≡◌, ◌<◌, ◌==◌, ◌++◌, ℕ, List, ◌∷◌, [], length, remove, position, filter, slice_get, if◌then◌else◌, false, IsTrue, IfOk, IfSome, OnOk, Some, ◌+◌, ◌-◌, ◌*◌, ◌≤◌, ◌/◌, ◌%◌, Bool, true, nat_eq, nat_lt, slice_index_or, slice_set, bit_and, bit_or, Fits, w8, w32, w64, Bor, MutBor}
-use Rattle.spec_formats.specs.Commands.{DEVICE_NOTIFICATION}
+use Rattle.std.proofs.Common.{sym, ap, ◌∙◌, subst}
+use Rattle.std.specs.Prelude.{Bool}
 use Rattle.ams_header.specs.Header.{ams_header_of}
-use Rattle.spec_relay.specs.RelayState.{RelayState, RelayConnection}
-use Rattle.spec_relay.specs.Requests.{is_answered_by}
-use Rattle.spec_relay.specs.Requests.{MAX_REQUESTS as MOST}
-use Rattle.spec_relay.specs.Routing.{with_request_of}
-use Rattle.ams_relay.specs.Asking.{request_of, with_room}
-use Rattle.ams_relay.specs.Holds.{Holds, owner_in}
-use Rattle.ams_relay.specs.Peers.{IsSeat, is_open, places_of}
-use Rattle.ams_relay.specs.Taking.{IsHeardAt, IsOpenedAt, IsSwept, Spends, SpendsAt, is_asked_heard, number_in}
+use Rattle.ams_relay.specs.Taking.{SpendsAt, number_in}
+use Rattle.ams_relay.proofs.SpendLemmas.{none_owned}
 use Rattle.ams_relay.proofs.router.Router.spend.Goals as goal
 
--- src/remembering.rt:36:21
-pub returns-in_err-asker-clause-spends : goal.returns-in_err-asker-clause-spends
-returns-in_err-asker-clause-spends c = ?
+pub returns-in_default-clause-spends : goal.returns-in_default-clause-spends
+returns-in_default-clause-spends c = λ b s k h heard swept.
+    record {
+      none = none_owned c.args.self.now b s h swept c.args.from.number
+          (ams_header_of c.args.h.now) (sym (c.owner_near.ensures.entry b s h) ∙ ap number_in c.in_default.is);
+      holds = h;
+    }
 
--- src/remembering.rt:30:5
 pub returns-then-spend_of-clause-spends : goal.returns-then-spend_of-clause-spends
-returns-then-spend_of-clause-spends c = ?
+returns-then-spend_of-clause-spends c = λ b s k h heard swept.
+    subst (λ (t : Bool). SpendsAt t c.in-Some.asker.number c.args.from.number (ams_header_of c.args.h.now) c.spend_of.new.self b s) c.if-spend_of.true
+    (c.spend_of.ensures.spends b s k h heard swept (sym (c.owner_near.ensures.entry b s h) ∙ ap number_in c.in-Some.is))
 
--- src/remembering.rt:30:5
 pub returns-else-spend_of-clause-spends : goal.returns-else-spend_of-clause-spends
-returns-else-spend_of-clause-spends c = ?
+returns-else-spend_of-clause-spends c = λ b s k h heard swept.
+    subst (λ (t : Bool). SpendsAt t c.in-Some.asker.number c.args.from.number (ams_header_of c.args.h.now) c.spend_of.new.self b s) c.if-spend_of.false
+    (c.spend_of.ensures.spends b s k h heard swept (sym (c.owner_near.ensures.entry b s h) ∙ ap number_in c.in-Some.is))

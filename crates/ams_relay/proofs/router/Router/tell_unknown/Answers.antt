@@ -1,18 +1,21 @@
-use Rattle.std.proofs.Common.{rules, ◌≡◌, ◌<◌, ℕ, List, length, IfOk, OnOk, ◌+◌, ◌-◌, ◌*◌, ◌≤◌, ◌/◌, ◌%◌, Bool, true, false, nat_eq, nat_lt, [], ◌∷◌, ◌++◌, slice_index_or, slice_set, bit_and, bit_or, Fits, w8, w32, w64, Bor, MutBor}
-use Rattle.spec_frames.specs.Frame.{IsAmsPacket, header_bytes}
-use Rattle.spec_machine.specs.Connection.{connection_of}
-use Rattle.spec_relay.specs.RelayState.{RelayState}
-use Rattle.spec_relay.specs.Routing.{given_to, has_room, framed, after_unknown, not_found_packet}
+use Rattle.std.proofs.Common.{List, ℕ, refl, ◌∙◌, subst}
+use Rattle.spec_formats.specs.Commands.{DEVICE_NOTIFICATION}
+use Rattle.spec_machine.proofs.Find.{test_same, test_other}
+use Rattle.spec_relay.specs.Routing.{given_to, with_unknown}
 use Rattle.ams_header.specs.Header.{ams_header_of}
 use Rattle.ams_relay.specs.Holds.{Holds}
-use Rattle.ams_relay.specs.Peers.{IsSeat, places_of}
+use Rattle.ams_relay.proofs.WayLemmas.{unknown_counted, unknown_silent, unknown_told}
 use Rattle.ams_relay.proofs.router.Router.tell_unknown.Goals as goal
 
--- src/giving.rt:76:13
-pub returns-then-h-eq-DEVICE_NOTIFICATION-clause-follows :
-    goal.returns-then-h-eq-DEVICE_NOTIFICATION-clause-follows
-returns-then-h-eq-DEVICE_NOTIFICATION-clause-follows c = ?
+pub returns-then-h-eq-DEVICE_NOTIFICATION-clause-follows : goal.returns-then-h-eq-DEVICE_NOTIFICATION-clause-follows
+returns-then-h-eq-DEVICE_NOTIFICATION-clause-follows c = λ b s h.
+    unknown_silent c.args.from.number (ams_header_of c.args.h.now) _ b s (test_same c.args.h.now.command DEVICE_NOTIFICATION c.if-h-eq-DEVICE_NOTIFICATION.true)
+    (unknown_counted c.args.self.now _ b s refl c.count_unknown.ensures h)
 
--- src/giving.rt:63:5
 pub returns-clause-follows : goal.returns-clause-follows
-returns-clause-follows c = ?
+returns-clause-follows c = λ b s h.
+    let given = c.in_ok-give.ensures.follows b (with_unknown s) (unknown_counted c.args.self.now _ b s refl c.count_unknown.ensures h) in
+    unknown_told c.args.from.number (ams_header_of c.args.h.now) c.give.new.self b s
+    (test_other c.args.h.now.command DEVICE_NOTIFICATION c.if-h-eq-DEVICE_NOTIFICATION.false)
+    (subst (λ (packet : List ℕ). Holds c.give.new.self b (given_to c.args.from.number packet (with_unknown s)))
+    (c.as_slice.ensures ∙ c.not_found-packet.ensures) given.1)

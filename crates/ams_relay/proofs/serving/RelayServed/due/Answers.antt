@@ -1,12 +1,9 @@
-use Rattle.std.proofs.Common.{rules, ◌≡◌, OnOk, ℕ, ◌+◌, ◌-◌, ◌*◌, ◌<◌, ◌≤◌, length, ◌/◌, ◌%◌, Bool, true, false, nat_eq, nat_lt, List, [], ◌∷◌, ◌++◌, slice_index_or, slice_set, bit_and, bit_or, Fits, w8, w32, w64, Bor, MutBor}
-use Rattle.ads_outside.specs.declared.moves.Move.TheVariants as move
-use Rattle.spec_machine.specs.Running.{OpensNew}
-use Rattle.ams_relay.specs.Relays.{RelayRunning, StandsRunning, running_after_event, StandsAt, HasFailed, nothing_noted, offer_in, run_in, offers_in}
-use Rattle.spec_relay.specs.RelayState.{RelayWorld, Owned}
-use Rattle.spec_relay.specs.RelayMoves.{relay_after_event}
-use Rattle.spec_relay.proofs.OpenedAlone.{relay_opens_alone}
+use Rattle.std.proofs.Common.{sym, subst, ◌∙◌}
+use Rattle.ads_served.specs.Due.{LeavesOutIdle}
+use Rattle.ads_served.proofs.DueLemmas.{leaves_out_idle}
+use Rattle.connections.proofs.ReadLemmas.{due_are}
 use Rattle.ams_relay.proofs.serving.RelayServed.due.Goals as goal
 
--- src/serving.rt:57:5
 pub returns-in-Ok-clause-due : goal.returns-in-Ok-clause-due
-returns-in-Ok-clause-due c = ?
+returns-in-Ok-clause-due c = λ x s.
+    subst (LeavesOutIdle x.running) (sym (c.in-Ok.ensures ∙ due_are c.args.self.now.router.outlets x.running s.holds.outlets)) (leaves_out_idle x.running)

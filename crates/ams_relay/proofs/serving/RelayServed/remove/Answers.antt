@@ -1,16 +1,16 @@
-use Rattle.std.proofs.Common.{rules, ◌≡◌, OnOk, ℕ, ◌+◌, ◌-◌, ◌*◌, ◌<◌, ◌≤◌, length, ◌/◌, ◌%◌, Bool, true, false, nat_eq, nat_lt, List, [], ◌∷◌, ◌++◌, slice_index_or, slice_set, bit_and, bit_or, Fits, w8, w32, w64, Bor, MutBor}
-use Rattle.ads_outside.specs.declared.moves.Move.TheVariants as move
-use Rattle.spec_machine.specs.Running.{OpensNew}
-use Rattle.ams_relay.specs.Relays.{RelayRunning, StandsRunning, running_after_event, StandsAt, HasFailed, nothing_noted, offer_in, run_in, offers_in}
-use Rattle.spec_relay.specs.RelayState.{RelayWorld, Owned}
-use Rattle.spec_relay.specs.RelayMoves.{relay_after_event}
-use Rattle.spec_relay.proofs.OpenedAlone.{relay_opens_alone}
+use Rattle.std.proofs.Common.{◌∙◌}
+use Rattle.std.proofs.lemmas.List.{append-nil}
+use Rattle.spec_machine.specs.Moves.{state_after_move}
 use Rattle.ams_relay.proofs.serving.RelayServed.remove.Goals as goal
 
--- src/serving.rt:87:5
 pub returns-clause-shut : goal.returns-clause-shut
-returns-clause-shut c = ?
+unfolding state_after_move
+returns-clause-shut c = λ x s.
+    let stands = c.end.ensures.follows x.running.blocked x.running.state (record { holds = s.holds; streams = s.streams }) in
+    record { working = c.end.ensures.failed ∙ s.working; holds = stands.holds; streams = stands.streams; notes = append-nil x.notes ∙ s.notes }
 
--- src/serving.rt:87:5
 pub returns-clause-lost : goal.returns-clause-lost
-returns-clause-lost c = ?
+unfolding state_after_move
+returns-clause-lost c = λ x s.
+    let stands = c.end.ensures.follows x.running.blocked x.running.state (record { holds = s.holds; streams = s.streams }) in
+    record { working = c.end.ensures.failed ∙ s.working; holds = stands.holds; streams = stands.streams; notes = append-nil x.notes ∙ s.notes }

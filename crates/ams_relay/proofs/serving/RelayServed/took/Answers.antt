@@ -1,12 +1,13 @@
-use Rattle.std.proofs.Common.{rules, ◌≡◌, OnOk, ℕ, ◌+◌, ◌-◌, ◌*◌, ◌<◌, ◌≤◌, length, ◌/◌, ◌%◌, Bool, true, false, nat_eq, nat_lt, List, [], ◌∷◌, ◌++◌, slice_index_or, slice_set, bit_and, bit_or, Fits, w8, w32, w64, Bor, MutBor}
-use Rattle.ads_outside.specs.declared.moves.Move.TheVariants as move
-use Rattle.spec_machine.specs.Running.{OpensNew}
-use Rattle.ams_relay.specs.Relays.{RelayRunning, StandsRunning, running_after_event, StandsAt, HasFailed, nothing_noted, offer_in, run_in, offers_in}
-use Rattle.spec_relay.specs.RelayState.{RelayWorld, Owned}
-use Rattle.spec_relay.specs.RelayMoves.{relay_after_event}
-use Rattle.spec_relay.proofs.OpenedAlone.{relay_opens_alone}
+use Rattle.std.proofs.Common.{refl, subst, ◌∙◌}
+use Rattle.std.proofs.lemmas.List.{append-nil}
+use Rattle.ads_served.specs.Due.{FitsOffer}
+use Rattle.ams_relay.proofs.MoveLemmas.{took_stands}
 use Rattle.ams_relay.proofs.serving.RelayServed.took.Goals as goal
 
--- src/serving.rt:71:5
 pub returns-clause-follows : goal.returns-clause-follows
-returns-clause-follows c = ?
+returns-clause-follows c = λ x left bytes s offered count.
+    let old = c.args.self.now in
+    let new = record old { router = record old.router { outlets = c.took.new.self } } in
+    let stands = took_stands c.args.conn c.args.n left bytes old new x.running (record { holds = s.holds; streams = s.streams }) offered count
+    (subst (FitsOffer c.args.n) offered c.requires) refl refl c.took.ensures.taken in
+    record { working = s.working; holds = stands.holds; streams = stands.streams; notes = append-nil x.notes ∙ s.notes }

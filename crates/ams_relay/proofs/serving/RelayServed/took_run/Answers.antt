@@ -1,12 +1,10 @@
-use Rattle.std.proofs.Common.{rules, ◌≡◌, OnOk, ℕ, ◌+◌, ◌-◌, ◌*◌, ◌<◌, ◌≤◌, length, ◌/◌, ◌%◌, Bool, true, false, nat_eq, nat_lt, List, [], ◌∷◌, ◌++◌, slice_index_or, slice_set, bit_and, bit_or, Fits, w8, w32, w64, Bor, MutBor}
-use Rattle.ads_outside.specs.declared.moves.Move.TheVariants as move
-use Rattle.spec_machine.specs.Running.{OpensNew}
-use Rattle.ams_relay.specs.Relays.{RelayRunning, StandsRunning, running_after_event, StandsAt, HasFailed, nothing_noted, offer_in, run_in, offers_in}
-use Rattle.spec_relay.specs.RelayState.{RelayWorld, Owned}
-use Rattle.spec_relay.specs.RelayMoves.{relay_after_event}
-use Rattle.spec_relay.proofs.OpenedAlone.{relay_opens_alone}
+use Rattle.std.proofs.Common.{refl}
+use Rattle.ams_relay.proofs.MoveLemmas.{run_stands, stands_wholes}
 use Rattle.ams_relay.proofs.serving.RelayServed.took_run.Goals as goal
 
--- src/serving.rt:79:5
 pub returns-clause-follows : goal.returns-clause-follows
-returns-clause-follows c = ?
+returns-clause-follows c = λ x frames s some.
+    let old = c.args.self.now in
+    let new = record old { router = record old.router { outlets = c.took_run.new.self } } in
+    stands_wholes new c.args.conn frames x s.working
+    (run_stands c.args.conn frames old new x.running (record { holds = s.holds; streams = s.streams }) some refl refl c.took_run.ensures) s.notes
