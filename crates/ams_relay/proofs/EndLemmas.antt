@@ -159,7 +159,8 @@ closed_already n i b r s h at closing =
 -- one that was not closing is, at its place
 pub closes_at : (n i : ℕ) (b : List ℕ) (p : Peer) (old mid new : Router) (s : RelayState) → Holds old b s → IsEntry old.outlets n i
     → slice_get old.peers.items i ≡ Some p → closing_at old.outlets i ≡ false
-    → mid ≡ record old { outlets = mid.outlets } → keys_of mid.outlets ≡ keys_of old.outlets → Carries mid.outlets b (at_connection n with_closing s).connections
+    → mid ≡ record old { outlets = mid.outlets } → keys_of mid.outlets ≡ keys_of old.outlets
+    → Carries mid.outlets b (at_connection n with_closing s).connections
     → Disowns p.owned mid new → Holds new b (at_connection n with_closing s)
 closes_at n i b p old mid new s h at value is_open is numbers carried d =
     let there = at_number old.outlets b s.connections n i h.outlets at in
@@ -334,9 +335,11 @@ opens n b p old new s h is_new none owns asked routes owners outlets peers count
         routes = λ net. ap (rights_of net) routes ∙ known.routes net;
         peers = subst (λ es. AreBeside IsPeerOf es new.peers.items t.connections) (sym outlets)
             (subst (λ (ps : List Peer). AreBeside IsPeerOf (old.outlets ++ (n, fresh_outlet) ∷ []) ps t.connections) (sym peers) column);
-        owners = subst (λ os. HoldsOwners os t.connections) (sym (ap (λ o. o.entries) owners)) (owners_opened old.owners.entries n s.connections is_new known.owners);
+        owners = subst (λ os. HoldsOwners os t.connections) (sym (ap (λ o. o.entries) owners))
+            (owners_opened old.owners.entries n s.connections is_new known.owners);
         requests = subst (λ ps. HoldsRequests ps t) in_new asked_new;
-        named = named_changed s.connections t.connections (λ c e. was_none_append c s.connections (fresh_connection None n ∷ []) e) s.world.requests known.named;
+        named = named_changed s.connections t.connections (λ c e. was_none_append c s.connections (fresh_connection None n ∷ []) e)
+            s.world.requests known.named;
         counts = ap counts_in counts ∙ counted;
         routed = routed_opened n s known.routed;
       };

@@ -22,7 +22,8 @@ settled old es b s same h = subst (λ fs. StandsFor (record old { router = recor
 abbrev pub Taken : Relay → RelayRunning → Event → Type 0
 Taken new x e = StandsFor new (blocked_after_move x.blocked (move.Event e)) (state_after_move relay_after_event x.state (move.Event e))
 
-pub opened_taken : (new : Relay) (x : RelayRunning) (n : ℕ) → StandsFor new x.blocked (relay_after_event x.state (event.Opened n)) → Taken new x (event.Opened n)
+pub opened_taken : (new : Relay) (x : RelayRunning) (n : ℕ)
+    → StandsFor new x.blocked (relay_after_event x.state (event.Opened n)) → Taken new x (event.Opened n)
 unfolding state_after_move
 opened_taken new x n h = h
 

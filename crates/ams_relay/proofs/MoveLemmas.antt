@@ -32,7 +32,8 @@ use Rattle.ams_relay.proofs.StateLemmas.{Quiet}
 abbrev took : ℕ → RelayConnection → RelayConnection
 took m k = cond k.gone k (record k { bytes_taken = k.bytes_taken + m })
 
-by_gone : {X : Type 0} (read : RelayConnection → X) (m : ℕ) (k : RelayConnection) → read (record k { bytes_taken = k.bytes_taken + m }) ≡ read k → read (took m k) ≡ read k
+by_gone : {X : Type 0} (read : RelayConnection → X) (m : ℕ) (k : RelayConnection)
+    → read (record k { bytes_taken = k.bytes_taken + m }) ≡ read k → read (took m k) ≡ read k
 by_gone read m k same = elim (cases_Bool k.gone) [
   | inl t ↦ ap read (cond-true k.gone k (record k { bytes_taken = k.bytes_taken + m }) t)
   | inr t ↦ ap read (cond-false k.gone k (record k { bytes_taken = k.bytes_taken + m }) t) ∙ same
@@ -99,7 +100,8 @@ rest_wholes n (f ∷ fs) relay s h =
 
 -- other outlets with the same numbers, which stand for the machine
 stands_rest : (old new : Relay) (y : RelayRunning) → new.router ≡ record old.router { outlets = new.router.outlets } → new.streams ≡ old.streams
-    → keys_of new.router.outlets ≡ keys_of old.router.outlets → Carries new.router.outlets y.blocked y.state.connections → Rest old y.state → StandsRunning new y
+    → keys_of new.router.outlets ≡ keys_of old.router.outlets → Carries new.router.outlets y.blocked y.state.connections
+    → Rest old y.state → StandsRunning new y
 stands_rest old new y router streams numbers carried h = record {
   holds = record {
     outlets = carried;

@@ -248,7 +248,13 @@ owns_now n i b net k p q old new s h at value heard own free has owns asked rout
     (λ j m. beside m (sym outlets j) (sym peers j)) in
     record {
       outlets = subst (λ es. Carries es b t.connections) (sym outlets)
-          (carry_quiet n f b old.outlets s (record { number = λ l. refl; gone = λ l. refl; produced = λ l. refl; bytes_taken = λ l. refl; closing = λ l. refl }) h.outlets);
+          (carry_quiet n f b old.outlets s (record {
+            number = λ l. refl;
+            gone = λ l. refl;
+            produced = λ l. refl;
+            bytes_taken = λ l. refl;
+            closing = λ l. refl;
+          }) h.outlets);
       known = record {
         routes = λ m. ap (rights_of m) routes ∙ known.routes m ∙ ap (λ (w : RelayWorld). rights_of m w.routes) (sym (world-change n f s));
         peers = subst (λ es. AreBeside IsPeerOf es new.peers.items t.connections) (sym outlets)

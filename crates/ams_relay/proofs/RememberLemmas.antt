@@ -206,7 +206,8 @@ module _ (s : RelayState) (swept : IsSwept s) (c d : ℕ) (k : RelayConnection) 
           [ inl t ↦ rw t named | inr t ↦ rw t (named_without (is_asked_by c) s.world.requests named) ]
 
 -- those that are heard, as the code keeps them
-pub heard_kept : (es : Outlets) (b : List ℕ) (s : RelayState) (n : ℕ) (asked : List Asked) → Carries es b s.connections → requests_of n (filter (is_asked_heard es) asked)
+pub heard_kept : (es : Outlets) (b : List ℕ) (s : RelayState) (n : ℕ) (asked : List Asked) → Carries es b s.connections
+    → requests_of n (filter (is_asked_heard es) asked)
     ≡ filter (is_asked_in (hearing s.connections)) (requests_of n asked)
 heard_kept es b s n asked h =
     sym (filter-map (request_of n) (is_asked_in (hearing s.connections)) asked

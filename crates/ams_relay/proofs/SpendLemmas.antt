@@ -177,7 +177,8 @@ module _ (r : Router) (b : List ℕ) (s : RelayState) (h : Holds r b s) (swept :
 
     pub spends : (i : ℕ) (new : Router) (p q : Peer) (at : ℕ) → IsEntry r.outlets a i → slice_get r.peers.items i ≡ Some p
         → new.routes ≡ r.routes → new.outlets ≡ r.outlets → new.owners ≡ r.owners → new.counts ≡ r.counts → new.peers.items ≡ set r.peers.items i q
-        → q.owned ≡ p.owned → q.asked.items ≡ remove p.asked.items at → position (λ x. test (request_of a x)) p.asked.items ≡ Some at → SpendsOne a c head new b s
+        → q.owned ≡ p.owned → q.asked.items ≡ remove p.asked.items at
+        → position (λ x. test (request_of a x)) p.asked.items ≡ Some at → SpendsOne a c head new b s
     spends i new p q at entry value routes outlets owners counts peers owns asked e =
         let found = find-position (request_of a) test p.asked.items at e in
         let was = peer_at a i b p r s h entry value in

@@ -331,7 +331,8 @@ streams_taken n i piece held b old new helds s at numbers w h =
       each = λ m x l found_m found there. elim (cases_eq n m) [
         | inl e ↦
             let x_is : held ≡ x = some_same held x
-            (sym sets.own ∙ ap (λ j. beside j old.outlets (set helds i held)) e ∙ sym (beside_keys m old.outlets new.outlets (set helds i held) numbers) ∙ found_m) in
+            (sym sets.own ∙ ap (λ j. beside j old.outlets (set helds i held)) e
+            ∙ sym (beside_keys m old.outlets new.outlets (set helds i held) numbers) ∙ found_m) in
             let l_is : w.connection ≡ l = some_same w.connection l
             (sym w.found ∙ ap (λ j. connection_of j (relay_after_event s (event.Piece n piece)).connections) e ∙ found) in
             subst (λ (k : RelayConnection). IsStreamOf x k) l_is (subst (λ (y : Held). IsStreamOf y w.connection) x_is w.stream)

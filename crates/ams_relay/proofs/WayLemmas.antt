@@ -46,7 +46,7 @@ passed_counted old new b s same counts h = subst (λ (r : Router). Holds r b (wi
     more = let before : old.counts.passed ≡ count_of s.world.passed = ap (λ (x : CountsOfState). x.passed) h.known.counts in omega (arith, before)
 
     counted : counts_in (let t = old.counts in record t { passed = count_of (t.passed + 1) }) ≡ relay_summary_of (with_passed s)
-    counted = λ i. record { connections = (h.known.counts i).connections; frames = (h.known.counts i).frames; passed = more i; unknown = (h.known.counts i).unknown }
+    counted = λ i. (let c = h.known.counts i in record { connections = c.connections; frames = c.frames; passed = more i; unknown = c.unknown })
 
 pub unknown_counted : (old new : Router) (b : List ℕ) (s : RelayState) → new ≡ record old { counts = new.counts }
     → new.counts ≡ (let t = old.counts in record t { unknown = count_of (t.unknown + 1) })
@@ -68,7 +68,7 @@ unknown_counted old new b s same counts h = subst (λ (r : Router). Holds r b (w
     more = let before : old.counts.unknown ≡ count_of s.world.unknown = ap (λ (x : CountsOfState). x.unknown) h.known.counts in omega (arith, before)
 
     counted : counts_in (let t = old.counts in record t { unknown = count_of (t.unknown + 1) }) ≡ relay_summary_of (with_unknown s)
-    counted = λ i. record { connections = (h.known.counts i).connections; frames = (h.known.counts i).frames; passed = (h.known.counts i).passed; unknown = more i }
+    counted = λ i. (let c = h.known.counts i in record { connections = c.connections; frames = c.frames; passed = c.passed; unknown = more i })
 
 -- a frame of a notification is not answered, any other is
 pub unknown_silent : (c : ℕ) (head : AmsHeader) (new : Router) (b : List ℕ) (s : RelayState)

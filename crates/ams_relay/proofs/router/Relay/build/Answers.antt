@@ -11,6 +11,6 @@ returns c = record {
   holds = starts c.empty.result (description_of c.args.d)
       (λ net. ap (rights_of net) c.empty.ensures.routes ∙ c.in_ok-routes.ensures net) c.empty.ensures.outlets c.empty.ensures.peers c.empty.ensures.owners
       c.empty.ensures.counts;
-  streams = nothing_beside IsStreamOf c.empty.result.outlets c.new.result.items c.empty.ensures.outlets c.new.ensures;
+  streams = nothing_beside IsStreamOf c.empty.result.outlets c.new.result.items c.empty.ensures.outlets c.new.ensures.items;
   notes = refl;
 }

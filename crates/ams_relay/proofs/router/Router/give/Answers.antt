@@ -10,7 +10,8 @@ use Rattle.ams_relay.proofs.router.Router.give.Goals as goal
 
 pub returns-then-is_closing-clause-follows : goal.returns-then-is_closing-clause-follows
 returns-then-is_closing-clause-follows c = λ b s h.
-    given_closing c.args.to.number c.args.to.place c.args.packet.now b c.args.self.now s h c.requires.seat.entry (sym c.is_closing.ensures ∙ c.if-is_closing.true)
+    given_closing c.args.to.number c.args.to.place c.args.packet.now b c.args.self.now s h c.requires.seat.entry
+    (sym c.is_closing.ensures ∙ c.if-is_closing.true)
 
 pub returns-then-fitted-clause-follows : goal.returns-then-fitted-clause-follows
 returns-then-fitted-clause-follows c = λ b s h.
@@ -28,9 +29,9 @@ returns-then-fitted-clause-follows c = λ b s h.
 pub returns-then-fitted-clause-places : goal.returns-then-fitted-clause-places
 returns-then-fitted-clause-places c =
     let old = c.args.self.now in
-    let header = c.frame_header-header.result in
-    ap places_of c.note_near.ensures
-    ∙ (λ j. ((ap keys_of c.in_ok-fitted.ensures.given ∙ keys_changed (given (header ++ c.args.packet.now)) old.outlets c.args.to.place) j, length old.peers.items))
+    let numbers = ap keys_of c.in_ok-fitted.ensures.given
+    ∙ keys_changed (given (c.frame_header-header.result ++ c.args.packet.now)) old.outlets c.args.to.place in
+    ap places_of c.note_near.ensures ∙ (λ j. (numbers j, length old.peers.items))
 
 pub returns-clause-follows : goal.returns-clause-follows
 returns-clause-follows c = λ b s h.
@@ -51,6 +52,6 @@ returns-clause-follows c = λ b s h.
 pub returns-clause-places : goal.returns-clause-places
 returns-clause-places c =
     let old = c.args.self.now in
-    let header = c.frame_header-header.result in
-    ap places_of c.disown.ensures.same
-    ∙ (λ j. ((ap keys_of c.in_ok-fitted.ensures.given ∙ keys_changed (given (header ++ c.args.packet.now)) old.outlets c.args.to.place) j, length old.peers.items))
+    let numbers = ap keys_of c.in_ok-fitted.ensures.given
+    ∙ keys_changed (given (c.frame_header-header.result ++ c.args.packet.now)) old.outlets c.args.to.place in
+    ap places_of c.disown.ensures.same ∙ (λ j. (numbers j, length old.peers.items))
