@@ -25,15 +25,15 @@ use Rattle.ams_relay.proofs.HoldLemmas.{knows_changed}
 use Rattle.ams_relay.proofs.RequestLemmas.{heard_parts, heard_of_parts, deaf_closing}
 use Rattle.ams_relay.proofs.StateLemmas.{changed-nothing, frame_quiet}
 
-pub produce-fits : (frame : Produced) (k : RelayConnection) → k.closing ≡ false → fits frame k ≡ true → produce frame k ≡ with_frame frame k
+produce-fits : (frame : Produced) (k : RelayConnection) → k.closing ≡ false → fits frame k ≡ true → produce frame k ≡ with_frame frame k
 unfolding produce
 produce-fits frame k is_open room = cond-false k.closing k _ is_open ∙ cond-true (fits frame k) (with_frame frame k) (with_closing k) room
 
-pub produce-over : (frame : Produced) (k : RelayConnection) → k.closing ≡ false → fits frame k ≡ false → produce frame k ≡ with_closing k
+produce-over : (frame : Produced) (k : RelayConnection) → k.closing ≡ false → fits frame k ≡ false → produce frame k ≡ with_closing k
 unfolding produce
 produce-over frame k is_open over = cond-false k.closing k _ is_open ∙ cond-false (fits frame k) (with_frame frame k) (with_closing k) over
 
-pub produce-closing : (frame : Produced) (k : RelayConnection) → k.closing ≡ true → produce frame k ≡ k
+produce-closing : (frame : Produced) (k : RelayConnection) → k.closing ≡ true → produce frame k ≡ k
 unfolding produce
 produce-closing frame k closing = cond-true k.closing k _ closing
 

@@ -40,7 +40,7 @@ named_changed ks ls opened [] named = tt
 named_changed ks ls opened (r ∷ rs) named =
     (record { asker = λ e. named.0.asker (opened r.asker e); asked = λ e. named.0.asked (opened r.asked e) }, named_changed ks ls opened rs named.1)
 
-pub named_filter : (ks : List RelayConnection) (P : Request → Bool) (rs : List Request) → AreNamed ks rs → AreNamed ks (filter P rs)
+named_filter : (ks : List RelayConnection) (P : Request → Bool) (rs : List Request) → AreNamed ks rs → AreNamed ks (filter P rs)
 named_filter ks P [] named = tt
 named_filter ks P (r ∷ rs) named = elim (cases_Bool (P r)) [
   | inl t ↦ subst (AreNamed ks) (sym (filter-yes P r rs t)) (named.0, named_filter ks P rs named.1)
@@ -64,7 +64,7 @@ asked_kept asked m k l s t same heard client opened h = record {
         (requests_of m asked) ≡ filter (is_asked_by m) (requests_heard t.connections rs)
 
 -- after a quiet change
-pub requests_changed : (n : ℕ) (f : RelayConnection → RelayConnection) (ps : Peers) (s : RelayState)
+requests_changed : (n : ℕ) (f : RelayConnection → RelayConnection) (ps : Peers) (s : RelayState)
     → Quiet f → HoldsRequests ps s → HoldsRequests ps (at_connection n f s)
 requests_changed n f ps s quiet h m p k at found heard = elim (cases_eq m n) [
   | inr ne ↦
@@ -145,7 +145,7 @@ pub column_same : (old new : Router) (ks : List RelayConnection) → SameBeside 
 column_same old new ks same h = subst (λ (ps : List Peer). AreBeside IsPeerOf new.outlets ps ks) (sym same.peers)
     (beside_same IsPeerOf old.outlets new.outlets old.peers.items ks same.numbers h)
 
-pub requests_same : (ps qs : Peers) (s : RelayState) → ((n : ℕ) → qs n ≡ ps n) → HoldsRequests ps s → HoldsRequests qs s
+requests_same : (ps qs : Peers) (s : RelayState) → ((n : ℕ) → qs n ≡ ps n) → HoldsRequests ps s → HoldsRequests qs s
 requests_same ps qs s same h m p k at found heard = h m p k (sym (same m) ∙ at) found heard
 
 -- after a quiet change; whatever it takes is counted

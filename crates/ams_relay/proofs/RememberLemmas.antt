@@ -259,10 +259,6 @@ kept_more P xs i a ys zs within at before more =
     append_nothing [] = refl
     append_nothing (y ∷ ys) = ap (λ zs. y ∷ zs) (append_nothing ys)
 
--- a test of less that passes
-pub less_by_test : (a b : ℕ) → nat_lt a b ≡ true → a < b
-less_by_test a b t = elim (cases_lt a b) [ inl l ↦ l | inr l ↦ absurd (true≢false (sym t ∙ le-ltb a b l)) ]
-
 -- what was left of the queue: all where there was room, else what with_room leaves of those that are heard
 abbrev pub IsLeft : Outlets → List Asked → List Asked → Type 0
 IsLeft es asked left = ((length asked < MAX_REQUESTS) × (left ≡ asked)) ⊎ (left ≡ with_room (filter (is_asked_heard es) asked))

@@ -61,7 +61,7 @@ rest-closing k closing = at_front (is_broken (front_of (rest_of k.received)))
     at_front true = ap (λ (t : Bool). record k { closing = t }) (sym closing)
     at_front false = refl
 
-pub end-closing : (c : ℕ) (k : RelayConnection) (s : RelayState) → connection_of c s.connections ≡ Some k → k.closing ≡ true → end_of_piece c s ≡ s
+end-closing : (c : ℕ) (k : RelayConnection) (s : RelayState) → connection_of c s.connections ≡ Some k → k.closing ≡ true → end_of_piece c s ≡ s
 end-closing c k s found closing =
     ap (at_connection c after_rest) (frames-closing c k (packets_of (connection_of c s.connections)) s found closing)
     ∙ changed-nothing c after_rest s (λ j e. rest-closing j (ap (λ (x : RelayConnection). x.closing) (some_same j k (sym e ∙ found)) ∙ closing))
@@ -72,7 +72,7 @@ end-none : (c : ℕ) (k : RelayConnection) (s : RelayState) → connection_of c 
 unfolding after_frames
 end-none c k s found none = ap (λ ps. at_connection c after_rest (after_frames c ps s)) (ap packets_of found ∙ none)
 
-pub end-open : (c : ℕ) (k : RelayConnection) (s : RelayState) → connection_of c s.connections ≡ Some k
+end-open : (c : ℕ) (k : RelayConnection) (s : RelayState) → connection_of c s.connections ≡ Some k
     → packets_left k ≡ [] → is_broken (front_of (rest_of k.received)) ≡ false → end_of_piece c s ≡ s
 end-open c k s found none rest =
     end-none c k s found none
@@ -80,7 +80,7 @@ end-open c k s found none rest =
     (λ j e. subst (λ x. after_rest x ≡ x) (sym (some_same j k (sym e ∙ found)))
     (cond-false (is_broken (front_of (rest_of k.received))) (with_closing k) k rest))
 
-pub end-broken : (c : ℕ) (k : RelayConnection) (s : RelayState) → connection_of c s.connections ≡ Some k
+end-broken : (c : ℕ) (k : RelayConnection) (s : RelayState) → connection_of c s.connections ≡ Some k
     → packets_left k ≡ [] → is_broken (front_of (rest_of k.received)) ≡ true
     → end_of_piece c s ≡ at_connection c with_closing s
 end-broken c k s found none rest =
@@ -150,7 +150,7 @@ takes_frame c packet k held given new b s found is_open there answer stream h =
     }
 
 -- what is heard is swept once the rest is dropped
-pub swept_is : (s : RelayState) → IsSwept (with_requests_heard s)
+swept_is : (s : RelayState) → IsSwept (with_requests_heard s)
 swept_is s = filter-finer (is_heard_in (hearing s.connections)) (is_heard_in (hearing s.connections)) s.world.requests (λ q among e. e)
 
 one_taken_quiet : Quiet with_one_taken
@@ -195,7 +195,7 @@ frame_taken c b k old new s h found is counts = subst (λ (r : Router). Holds r 
     counted = λ i. record { connections = connections i; frames = frames i; passed = passed i; unknown = unknown i }
 
 -- the connection of a seat is closing as its outlet is
-pub seat_closing : (c i : ℕ) (held : Held) (b : List ℕ) (r : Router) (s : RelayState) (w : HoldsWith c held r b s) → IsEntry r.outlets c i
+seat_closing : (c i : ℕ) (held : Held) (b : List ℕ) (r : Router) (s : RelayState) (w : HoldsWith c held r b s) → IsEntry r.outlets c i
     → w.connection.closing ≡ closing_at r.outlets i
 seat_closing c i held b r s w at =
     let there = at_number r.outlets b s.connections c i w.holds.outlets at in
