@@ -1,6 +1,6 @@
 -- The owners of NetIds, as a connection changes, is closed, owns a NetId or is opened.
 use Rattle.std.proofs.Common.{◌≡◌, ◌≢◌, ◌⊎◌, ℕ, List, [], ◌∷◌, ◌++◌, true, false, refl, sym, ap, ◌∙◌, subst, inl, inr}
-use Rattle.std.specs.Prelude.{Bool, not, ◌||◌, ◌&&◌, ◌==◌, Option, Some, None, option_map, bytes_eq}
+use Rattle.std.specs.Prelude.{Bool, not, ◌||◌, ◌&&◌, ◌==◌, Option, Some, None, option_map, is_some, bytes_eq}
 use Rattle.std.proofs.lemmas.Bool.{cases_Bool, cases_eq, true≢false, cond-true, cond-false}
 use Rattle.std.proofs.lemmas.Slice.Eq.{bytes_eq-Decides}
 use Rattle.spec_machine.specs.Connection.{connection_of, fresh_connection}
@@ -30,6 +30,10 @@ bytes_other xs ys ne = elim (cases_Bool (bytes_eq xs ys)) [
 
 pub some_same : {A : Type 0} (x y : A) → ◌≡◌ {A = Option A} (Some x) (Some y) → x ≡ y
 some_same x y e = cc
+
+pub none_of : {X : Type 0} (o : Option X) → is_some o ≡ false → o ≡ None
+none_of None e = refl
+none_of (Some x) e = cc
 
 -- the connection before a change, of the one that is found after it
 pub record Before (n : ℕ) (f : RelayConnection → RelayConnection) (k : RelayConnection) (ks : List RelayConnection) : Type 0 where

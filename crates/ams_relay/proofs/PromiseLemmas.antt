@@ -41,10 +41,10 @@ log_promises end.LinkFault d serves old new turns offers =
 log_promises end.Memory d serves old new turns offers = by_offers d old new offers
 
 -- what holds of a value holds where there is one
-pub if_ok : {A E : Type 0} {P Q : A → Type 0} (r : Result A E) → ((a : A) → P a → Q a) → IfOk r P → IfOk r Q
-if_ok (Ok a) f h = f a h
-if_ok (Err e) f h = h
-
 pub on_ok : {A E : Type 0} {P Q : Type 0} (r : Result A E) → (P → Q) → OnOk r P → OnOk r Q
 on_ok (Ok a) f h = f h
 on_ok (Err e) f h = h
+
+pub on_both : {A E : Type 0} {P Q S : Type 0} (r : Result A E) → (P → Q → S) → OnOk r P → OnOk r Q → OnOk r S
+on_both (Ok a) f p q = f p q
+on_both (Err e) f p q = p

@@ -1,7 +1,7 @@
 -- A request that was passed on waits for its response: of its asker the last ones do.
 use Rattle.std.proofs.Common.{◌≡◌, ◌≢◌, ℕ, ◌+◌, ◌<◌, ◌≤◌, ◌⊎◌, List, [], ◌∷◌, ◌++◌, length, map, get_or, Bool}
 use Rattle.std.proofs.Common.{true, false, cond, refl, sym, ap, ◌∙◌, subst, inl, inr, arith}
-use Rattle.std.specs.Prelude.{Option, Some, None, filter, drop, take, ◌&&◌, not, ◌||◌, ◌==◌, nat_lt, nat_le, if◌then◌else◌}
+use Rattle.std.specs.Prelude.{Option, Some, None, filter, drop, take, set, slice_get, ◌&&◌, not, ◌||◌, ◌==◌, nat_lt, nat_le, if◌then◌else◌}
 use Rattle.std.proofs.lemmas.Bool.{cases_Bool, cases_eq, cases_lt, true≢false, eqb-true, lt-ltb, le-ltb, le-leb, lt-leb, cond-true, cond-false}
 use Rattle.std.proofs.lemmas.List.{length-map, map-append, length-append, length-drop, take_more}
 use Rattle.spec_plant.specs.Rights.{rights_of}
@@ -17,35 +17,19 @@ use Rattle.ams_relay.specs.declared.peer.Peer.{Peer}
 use Rattle.ams_relay.specs.declared.router.Router.{Router}
 use Rattle.ams_relay.specs.Asking.{request_of, requests_of, with_room}
 use Rattle.ams_relay.specs.Counts.{counts_in}
-use Rattle.ams_relay.specs.Holds.{Stands, HoldsPeers, HoldsOwners, IsOwn, AreOwn, HoldsAsked, IsNamed, AreNamed, Holds}
-use Rattle.ams_relay.specs.Peers.{Peers, peer_in, read_in, Sets}
-use Rattle.ams_relay.specs.Touched.{OthersIdle}
-use Rattle.ams_relay.specs.Taking.{IsHeardAt, IsOpenedAt, IsSwept, is_open, is_asked_heard}
-use Rattle.ams_relay.proofs.HoldLemmas.{peer_found, peer_absent, peers_same, peers_set}
+use Rattle.connections.specs.Carries.{Carries}
+use Rattle.connections.specs.Entries.{IsEntry}
+use Rattle.connections.specs.Outlets.{Outlets}
+use Rattle.ams_relay.specs.Holds.{HoldsOwners, IsOwn, AreOwn, HoldsAsked, IsNamed, AreNamed, Holds}
+use Rattle.ams_relay.specs.Peers.{peers_in, is_open}
+use Rattle.ams_relay.specs.Taking.{IsHeardAt, IsOpenedAt, IsSwept, is_asked_heard}
+use Rattle.ams_relay.proofs.CarryLemmas.{open_is}
+use Rattle.ams_relay.proofs.OwnLemmas.{peer_at, peers_after}
 use Rattle.ams_relay.proofs.ListLemmas.{Among, all-pass, filter-yes, filter-no, filter-all, filter-append}
 use Rattle.ams_relay.proofs.ListLemmas.{filter-map, map-drop, filtered-among, length-filter, filter-without}
 use Rattle.ams_relay.proofs.ListLemmas.{filter-without-other, without-all, without-among}
 use Rattle.ams_relay.proofs.OwnerLemmas.{some_same}
 use Rattle.ams_relay.proofs.RequestLemmas.{hearing, is_heard_in, is_asked_in, heard_found, heard_none, deaf_gone}
-
--- who is heard, in the code and in the machine
-heard_is : (es : Peers) (b : List ℕ) (s : RelayState) (n : ℕ) → HoldsPeers es b s → read_in is_open false (peer_in n es) ≡ is_heard_among n s.connections
-heard_is es b s n h = by (peer_in n es) refl
-  where
-    or_none : (c : Bool) → not (c || false) ≡ not c
-    or_none true = refl
-    or_none false = refl
-
-    absent : peer_in n es ≡ None → (o : Option RelayConnection) → connection_of n s.connections ≡ o → false ≡ is_heard_among n s.connections
-    absent none None e = sym (heard_none n s.connections e)
-    absent none (Some k) e = sym (heard_found n k s.connections e ∙ deaf_gone k (peer_absent es b s n h none k e))
-
-    by : (o : Option Peer) → peer_in n es ≡ o → read_in is_open false (peer_in n es) ≡ is_heard_among n s.connections
-    by None none = ap (read_in is_open false) none ∙ absent none (connection_of n s.connections) refl
-    by (Some p) some =
-        let at = peer_found es b s n p h some in
-        ap (read_in is_open false) some ∙ ap not at.stands.closing ∙ sym (ap (λ g. not (at.connection.closing || g)) at.there ∙ or_none at.connection.closing)
-        ∙ sym (heard_found n at.connection s.connections at.found)
 
 -- the machine's request of one asker more
 module _ (s : RelayState) (swept : IsSwept s) (c d : ℕ) (k : RelayConnection) (heard : IsHeardAt c k s) (head : AmsHeader) where
@@ -222,11 +206,12 @@ module _ (s : RelayState) (swept : IsSwept s) (c d : ℕ) (k : RelayConnection) 
           [ inl t ↦ rw t named | inr t ↦ rw t (named_without (is_asked_by c) s.world.requests named) ]
 
 -- those that are heard, as the code keeps them
-pub heard_kept : (es : Peers) (b : List ℕ) (s : RelayState) (n : ℕ) (asked : List Asked) → HoldsPeers es b s → requests_of n (filter (is_asked_heard es) asked)
+pub heard_kept : (es : Outlets) (b : List ℕ) (s : RelayState) (n : ℕ) (asked : List Asked) → Carries es b s.connections
+    → requests_of n (filter (is_asked_heard es) asked)
     ≡ filter (is_asked_in (hearing s.connections)) (requests_of n asked)
 heard_kept es b s n asked h =
     sym (filter-map (request_of n) (is_asked_in (hearing s.connections)) asked
-    ∙ (λ i. map (request_of n) (filter (λ a. sym (heard_is es b s a.asked h) i) asked)))
+    ∙ (λ i. map (request_of n) (filter (λ a. sym (open_is es b s.connections a.asked h) i) asked)))
 
 own_filtered : (k : RelayConnection) (ks : List RelayConnection) (P : Asked → Bool) (asked : List Asked) → AreOwn k ks asked → AreOwn k ks (filter P asked)
 own_filtered k ks P [] own = tt
@@ -274,53 +259,51 @@ kept_more P xs i a ys zs within at before more =
     append_nothing [] = refl
     append_nothing (y ∷ ys) = ap (λ zs. y ∷ zs) (append_nothing ys)
 
--- a test of less that passes
-pub less_by_test : (a b : ℕ) → nat_lt a b ≡ true → a < b
-less_by_test a b t = elim (cases_lt a b) [ inl l ↦ l | inr l ↦ absurd (true≢false (sym t ∙ le-ltb a b l)) ]
-
 -- what was left of the queue: all where there was room, else what with_room leaves of those that are heard
-abbrev pub IsLeft : Peers → List Asked → List Asked → Type 0
+abbrev pub IsLeft : Outlets → List Asked → List Asked → Type 0
 IsLeft es asked left = ((length asked < MAX_REQUESTS) × (left ≡ asked)) ⊎ (left ≡ with_room (filter (is_asked_heard es) asked))
 
 -- whichever it was: the asker's queue before, what is kept of it, and one more
-pub remembers : (old mid : Router) (b : List ℕ) (s : RelayState) (c d : ℕ) (k : RelayConnection)
+pub remembers : (i : ℕ) (old mid : Router) (b : List ℕ) (s : RelayState) (c d : ℕ) (k : RelayConnection)
     (head : AmsHeader) (p q : Peer) (left : List Asked) (a : Asked) → Holds old b s → IsSwept s → IsHeardAt c k s
     → IsOpenedAt d s → k.client ≡ Some head.source.net → (head.command == DEVICE_NOTIFICATION) ≡ false
-    → peer_in c old.peers.entries ≡ Some p → Sets c q old.peers.entries mid.peers.entries
-    → mid.routes ≡ old.routes → mid.owners.entries ≡ old.owners.entries → mid.counts ≡ old.counts
-    → q.asked.items ≡ left ++ a ∷ [] → ((l : RelayConnection) → Stands p l → Stands q l) → q.blocked ≡ p.blocked
-    → request_of c a ≡ request_from c d head → a.asked ≡ d → a.source.net.bytes ≡ head.source.net
-    → IsLeft old.peers.entries p.asked.items left → OthersIdle mid.touched mid.peers.entries → Holds mid b (with_request_of c d head s)
-remembers old mid b s c d k head p q left a h swept heard opened client asks was
-    sets routes owners counts asked stands blocked is asked_is source_is rest idle =
+    → IsEntry old.outlets c i → slice_get old.peers.items i ≡ Some p
+    → mid.routes ≡ old.routes → mid.outlets ≡ old.outlets → mid.owners ≡ old.owners → mid.counts ≡ old.counts → mid.peers.items ≡ set old.peers.items i q
+    → q.owned ≡ p.owned → q.asked.items ≡ left ++ a ∷ [] → request_of c a ≡ request_from c d head → a.asked ≡ d → a.source.net.bytes ≡ head.source.net
+    → IsLeft old.outlets p.asked.items left → Holds mid b (with_request_of c d head s)
+remembers i old mid b s c d k head p q left a h swept heard opened client asks entry value
+    routes outlets owners counts peers owns asked is asked_is source_is rest =
+    let at_q = peers_after c i b p q old mid s h entry value outlets peers owns in
     subst (Holds mid b) (sym
     (cond-false (head.command == DEVICE_NOTIFICATION) s (with_requests (with_request (request_from c d head) s.world.requests) s) asks)) (record {
-      routes = λ net. ap (rights_of net) routes ∙ h.routes net;
-      peers = peers_same mid.peers.entries b s after refl (peers_set c b p q old.peers.entries mid.peers.entries s h.peers was sets stands blocked);
-      owners = subst (λ os. HoldsOwners os s.connections) (sym owners) h.owners;
-      requests = λ m x l at conn heard_l. elim (cases_eq m c) [
-        | inl e ↦
-            let x_is : x ≡ q = some_same x q (sym (ap (λ j. peer_in j mid.peers.entries) (sym e) ∙ at) ∙ sets.own) in
-            let l_is : l ≡ k = some_same l k (sym conn ∙ ap (λ j. connection_of j s.connections) e ∙ heard.found) in
-            subst (λ j. HoldsAsked x.asked.items j l after) (sym e)
-            (subst (λ (y : Peer). HoldsAsked y.asked.items c l after) (sym x_is)
-            (subst (λ y. HoldsAsked q.asked.items c y after) (sym l_is)
-            (subst (λ ys. HoldsAsked ys c k after) (sym asked) own)))
-        | inr ne ↦
-            let before = h.requests m x l (sym (sets.others m ne) ∙ at) conn heard_l in
-            record { same = before.same ∙ sym (other_after s swept c d k heard head m ne); own = before.own; few = before.few }
-      ];
-      named = named_after s swept c d k heard head opened h.named;
-      counts = ap counts_in counts ∙ h.counts;
-      idle = idle;
-      routed = h.routed;
+      outlets = subst (λ es. Carries es b s.connections) (sym outlets) h.outlets;
+      known = record {
+        routes = λ net. ap (rights_of net) routes ∙ h.known.routes net;
+        peers = at_q.column;
+        owners = subst (λ os. HoldsOwners os s.connections) (sym (ap (λ o. o.entries) owners)) h.known.owners;
+        requests = λ m x l at conn heard_l. elim (cases_eq m c) [
+          | inl e ↦
+              let x_is : x ≡ q = some_same x q (sym (ap (peers_in mid) (sym e) ∙ at) ∙ at_q.sets.own) in
+              let l_is : l ≡ k = some_same l k (sym conn ∙ ap (λ j. connection_of j s.connections) e ∙ heard.found) in
+              subst (λ j. HoldsAsked x.asked.items j l after) (sym e)
+              (subst (λ (y : Peer). HoldsAsked y.asked.items c l after) (sym x_is)
+              (subst (λ y. HoldsAsked q.asked.items c y after) (sym l_is)
+              (subst (λ ys. HoldsAsked ys c k after) (sym asked) own)))
+          | inr ne ↦
+              let before = h.known.requests m x l (sym (at_q.sets.others m ne) ∙ at) conn heard_l in
+              record { same = before.same ∙ sym (other_after s swept c d k heard head m ne); own = before.own; few = before.few }
+        ];
+        named = named_after s swept c d k heard head opened h.known.named;
+        counts = ap counts_in counts ∙ h.known.counts;
+        routed = h.known.routed;
+      };
     })
   where
     after : RelayState
     after = with_requests (with_request (request_from c d head) s.world.requests) s
 
     held : HoldsAsked p.asked.items c k s
-    held = h.requests c p k was heard.found heard.heard
+    held = h.known.requests c p k (peer_at c i b p old s h entry value) heard.found heard.heard
 
     one : IsOwn k s.connections a
     one = record {
@@ -334,7 +317,7 @@ remembers old mid b s c d k head p q left a h swept heard opened client asks was
     own : HoldsAsked (left ++ a ∷ []) c k after
     own = by rest
       where
-        by : IsLeft old.peers.entries p.asked.items left → HoldsAsked (left ++ a ∷ []) c k after
+        by : IsLeft old.outlets p.asked.items left → HoldsAsked (left ++ a ∷ []) c k after
         by (inl room) = (let size = pushed left in let left_is = room.1 in record {
           same = queued_after s swept c d k heard head left a is
               (ap (λ xs. filter (is_asked_in (hearing s.connections)) (requests_of c xs)) room.1
@@ -343,9 +326,9 @@ remembers old mid b s c d k head p q left a h swept heard opened client asks was
           few = (let sizes = ap length room.1 in let less = room.0 in omega (arith, size, sizes, less));
         })
         by (inr none) = (
-            let mine = heard_kept old.peers.entries b s c p.asked.items h.peers ∙ held.same ∙ ap (filter (is_asked_by c)) swept in
-            let heard_only = filter (is_asked_heard old.peers.entries) p.asked.items in
-            let few = length-filter (is_asked_heard old.peers.entries) p.asked.items in
+            let mine = heard_kept old.outlets b s c p.asked.items h.outlets ∙ held.same ∙ ap (filter (is_asked_by c)) swept in
+            let heard_only = filter (is_asked_heard old.outlets) p.asked.items in
+            let few = length-filter (is_asked_heard old.outlets) p.asked.items in
             let most = held.few in
             let less = room_left heard_only (omega (arith, few, most)) in
             let sizes = ap length none in
@@ -356,6 +339,6 @@ remembers old mid b s c d k head p q left a h swept heard opened client asks was
                   ∙ kept_without_room s swept c d k heard head p.asked.items heard_only held mine);
               own = own_pushed k s.connections left a
                   (subst (AreOwn k s.connections) (sym none)
-                  (own_with_room k s.connections heard_only (own_filtered k s.connections (is_asked_heard old.peers.entries) p.asked.items held.own))) one;
+                  (own_with_room k s.connections heard_only (own_filtered k s.connections (is_asked_heard old.outlets) p.asked.items held.own))) one;
               few = omega (arith, few, most, less, sizes, size);
             })

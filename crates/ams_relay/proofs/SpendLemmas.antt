@@ -1,6 +1,6 @@
 -- The oldest request that a response answers, in the queue of its asker and among all of the machine.
 use Rattle.std.proofs.Common.{◌≡◌, ◌≢◌, ℕ, zero, suc, ◌<◌, ◌≤◌, List, [], ◌∷◌, length, Bool, true, refl, sym, ap, ◌∙◌, subst, inl, inr, arith}
-use Rattle.std.specs.Prelude.{Option, Some, None, filter, find, remove, position, ◌==◌, bytes_eq}
+use Rattle.std.specs.Prelude.{Option, Some, None, filter, find, remove, set, slice_get, position, ◌==◌, bytes_eq}
 use Rattle.std.proofs.lemmas.Bool.{cases_Bool, cases_eq, eqb-true}
 use Rattle.std.proofs.lemmas.List.Quantifiers.{position-Some}
 use Rattle.spec_formats.specs.Header.{AmsHeader, is_same_address}
@@ -15,11 +15,12 @@ use Rattle.ams_relay.specs.declared.router.Router.{Router}
 use Rattle.spec_plant.specs.Rights.{rights_of}
 use Rattle.ams_relay.specs.Counts.{counts_in}
 use Rattle.ams_relay.specs.Asking.{request_of, requests_of}
-use Rattle.ams_relay.specs.Holds.{Stands, IsOwner, AreOwn, HoldsAsked, AreNamed, HoldsOwners, Holds, owner_in}
-use Rattle.ams_relay.specs.Peers.{peer_in, Sets}
-use Rattle.ams_relay.specs.Touched.{OthersIdle}
+use Rattle.connections.specs.Carries.{Carries}
+use Rattle.connections.specs.Entries.{IsEntry}
+use Rattle.ams_relay.specs.Holds.{IsOwner, AreOwn, HoldsAsked, AreNamed, HoldsOwners, Holds, owner_in}
+use Rattle.ams_relay.specs.Peers.{peers_in}
 use Rattle.ams_relay.specs.Taking.{IsHeardAt, IsSwept, SpendsOne}
-use Rattle.ams_relay.proofs.HoldLemmas.{Kept, peer_kept, peers_same, peers_set}
+use Rattle.ams_relay.proofs.OwnLemmas.{Kept, peer_kept, peer_at, peers_after}
 use Rattle.ams_relay.proofs.ListLemmas.{Among, all-pass, among-filtered, filtered-among, filter-all}
 use Rattle.ams_relay.proofs.ListLemmas.{filter-without, filter-without-other, find-found, find-filter}
 use Rattle.ams_relay.proofs.ListLemmas.{find-none, find-position, find-nowhere, without-among}
@@ -63,8 +64,8 @@ module _ (r : Router) (b : List ℕ) (s : RelayState) (h : Holds r b s) (swept :
       (all-pass (is_heard_in (hearing s.connections)) s.world.requests swept q among) in
       let there = heard_there q.asker s.connections both.0 in
       let parts = heard_parts there.connection there.heard in
-      let kept = peer_kept r.peers.entries b s q.asker there.connection h.peers there.found parts.1 in
-      let a = h.requests q.asker kept.peer there.connection kept.found there.found there.heard in
+      let kept = peer_kept q.asker b there.connection r s h there.found parts.1 in
+      let a = h.known.requests q.asker kept.peer there.connection kept.found there.found there.heard in
       let mine = among-filtered (is_asked_by q.asker) q s.world.requests among (test_same q.asker q.asker refl) in
       let heard = subst (Among q) (ap (filter (is_asked_by q.asker)) (sym swept) ∙ sym a.same) mine in
       let own = (filtered-among (is_asked_in (hearing s.connections)) q (requests_of q.asker kept.peer.asked.items) heard).0 in
@@ -80,7 +81,7 @@ module _ (r : Router) (b : List ℕ) (s : RelayState) (h : Holds r b s) (swept :
       → is_answered_by c head q ≡ true → owner_in head.target.net r.owners.entries ≡ Some q.asker
   asker_is_owner c head q among e =
       let facts = answers_is c head q e in
-      ap (λ net. owner_in net r.owners.entries) (sym facts.net) ∙ h.owners.owners q.source.net q.asker (owner_of_request q among)
+      ap (λ net. owner_in net r.owners.entries) (sym facts.net) ∙ h.known.owners.owners q.source.net q.asker (owner_of_request q among)
 
   -- nobody owns the target
   pub none_owned : (c : ℕ) (head : AmsHeader) → owner_in head.target.net r.owners.entries ≡ None → request_answered c head s.world.requests ≡ None
@@ -150,34 +151,17 @@ module _ (r : Router) (b : List ℕ) (s : RelayState) (h : Holds r b s) (swept :
       | inr t ↦ rw t (named.0, named_without rs named.1)
     ]
 
-    -- the owner is kept
-    record Asker : Type 0 where
-      pub connection : RelayConnection
-      pub found : connection_of a s.connections ≡ Some connection
-      pub hears : is_heard connection ≡ true
-      pub kept : Kept a r.peers.entries connection
-
-    asker : Asker
-    asker =
-        let o = h.owners.owned head.target.net a owned in
-        record {
-          connection = o.connection;
-          found = o.found;
-          hears = o.heard;
-          kept = peer_kept r.peers.entries b s a o.connection h.peers o.found (heard_parts o.connection o.heard).1;
-        }
-
-    -- so it has a place
-    pub asker_absent : peer_in a r.peers.entries ≡ None → ⊥
-    asker_absent none = (let no : ◌≡◌ {A = Option Peer} None (Some asker.kept.peer) = sym none ∙ asker.kept.found in cc)
+    -- the owner is heard
+    owner : IsOwner head.target.net a s.connections
+    owner = h.known.owners.owned head.target.net a owned
 
     -- its queue, and the peer that was found
-    queue : (p : Peer) → peer_in a r.peers.entries ≡ Some p → HoldsAsked p.asked.items a asker.connection s
-    queue p at = h.requests a p asker.connection at asker.found asker.hears
+    queue : (p : Peer) → peers_in r a ≡ Some p → HoldsAsked p.asked.items a owner.connection s
+    queue p at = h.known.requests a p owner.connection at owner.found owner.heard
 
-    pub none_waits : (p : Peer) → peer_in a r.peers.entries ≡ Some p
+    pub none_waits : (p : Peer) → peers_in r a ≡ Some p
         → position (λ x. test (request_of a x)) p.asked.items ≡ None → request_answered c head s.world.requests ≡ None
-    none_waits p at none = found_in_queue p.asked.items asker.connection (queue p at) ∙ find-nowhere (request_of a) test p.asked.items none
+    none_waits p at none = found_in_queue p.asked.items owner.connection (queue p at) ∙ find-nowhere (request_of a) test p.asked.items none
 
     own_removed : (l : RelayConnection) (ks : List RelayConnection) (asked : List Asked) (i : ℕ) → AreOwn l ks asked → AreOwn l ks (remove asked i)
     own_removed l ks [] zero own = tt
@@ -191,39 +175,42 @@ module _ (r : Router) (b : List ℕ) (s : RelayState) (h : Holds r b s) (swept :
     length_removed (x ∷ xs) zero = omega arith
     length_removed (x ∷ xs) (suc i) = let rest = length_removed xs i in omega (arith, rest)
 
-    pub spends : (new : Router) (p q : Peer) (i : ℕ) → peer_in a r.peers.entries ≡ Some p
-        → Sets a q r.peers.entries new.peers.entries → new.routes ≡ r.routes → new.owners.entries ≡ r.owners.entries
-        → new.counts ≡ r.counts → q.asked.items ≡ remove p.asked.items i → ((l : RelayConnection) → Stands p l → Stands q l) → q.blocked ≡ p.blocked
-        → position (λ x. test (request_of a x)) p.asked.items ≡ Some i → OthersIdle new.touched new.peers.entries → SpendsOne a c head new b s
-    spends new p q i at sets routes owners counts asked stands blocked e idle =
-        let found = find-position (request_of a) test p.asked.items i e in
-        let held = queue p at in
+    pub spends : (i : ℕ) (new : Router) (p q : Peer) (at : ℕ) → IsEntry r.outlets a i → slice_get r.peers.items i ≡ Some p
+        → new.routes ≡ r.routes → new.outlets ≡ r.outlets → new.owners ≡ r.owners → new.counts ≡ r.counts → new.peers.items ≡ set r.peers.items i q
+        → q.owned ≡ p.owned → q.asked.items ≡ remove p.asked.items at
+        → position (λ x. test (request_of a x)) p.asked.items ≡ Some at → SpendsOne a c head new b s
+    spends i new p q at entry value routes outlets owners counts peers owns asked e =
+        let found = find-position (request_of a) test p.asked.items at e in
+        let was = peer_at a i b p r s h entry value in
+        let held = queue p was in
         let left = q.asked.items in
         let left_is : requests_of a left ≡ without_first test (requests_of a p.asked.items) = ap (requests_of a) asked ∙ found.2 in
-        let fewer : length left ≤ length p.asked.items = (let l = length_removed p.asked.items i in let same = ap length asked in omega (arith, l, same)) in
+        let fewer : length left ≤ length p.asked.items = (let l = length_removed p.asked.items at in let same = ap length asked in omega (arith, l, same)) in
+        let after = peers_after a i b p q r new s h entry value outlets peers owns in
         record {
           request = request_of a found.0;
-          answered = found_in_queue p.asked.items asker.connection held ∙ found.1;
+          answered = found_in_queue p.asked.items owner.connection held ∙ found.1;
           asked = refl;
           holds = record {
-            routes = λ net. ap (rights_of net) routes ∙ h.routes net;
-            peers = peers_same new.peers.entries b s (with_requests rest s) refl
-                (peers_set a b p q r.peers.entries new.peers.entries s h.peers at sets stands blocked);
-            owners = subst (λ os. HoldsOwners os s.connections) (sym owners) h.owners;
-            requests = λ m x l is conn heard_l. elim (cases_eq m a) [
-              | inl same ↦
-                  let x_is : x ≡ q = some_same x q (sym (ap (λ j. peer_in j new.peers.entries) (sym same) ∙ is) ∙ sets.own) in
-                  let l_is : l ≡ asker.connection = some_same l asker.connection (sym conn ∙ ap (λ j. connection_of j s.connections) same ∙ asker.found) in
-                  subst (λ j. HoldsAsked x.asked.items j l (with_requests rest s)) (sym same)
-                  (subst (λ (y : Peer). HoldsAsked y.asked.items a l (with_requests rest s)) (sym x_is)
-                  (subst (λ y. HoldsAsked left a y (with_requests rest s)) (sym l_is)
-                  (spent_own p.asked.items left asker.connection held left_is
-                  (subst (AreOwn asker.connection s.connections) (sym asked) (own_removed asker.connection s.connections p.asked.items i held.own)) fewer)))
-              | inr ne ↦ spent_other x.asked.items m l ne (h.requests m x l (sym (sets.others m ne) ∙ is) conn heard_l)
-            ];
-            named = named_without s.world.requests h.named;
-            counts = ap counts_in counts ∙ h.counts;
-            idle = idle;
-            routed = h.routed;
+            outlets = subst (λ es. Carries es b s.connections) (sym outlets) h.outlets;
+            known = record {
+              routes = λ net. ap (rights_of net) routes ∙ h.known.routes net;
+              peers = after.column;
+              owners = subst (λ os. HoldsOwners os s.connections) (sym (ap (λ o. o.entries) owners)) h.known.owners;
+              requests = λ m x l is conn heard_l. elim (cases_eq m a) [
+                | inl same ↦
+                    let x_is : x ≡ q = some_same x q (sym (ap (peers_in new) (sym same) ∙ is) ∙ after.sets.own) in
+                    let l_is : l ≡ owner.connection = some_same l owner.connection (sym conn ∙ ap (λ j. connection_of j s.connections) same ∙ owner.found) in
+                    subst (λ j. HoldsAsked x.asked.items j l (with_requests rest s)) (sym same)
+                    (subst (λ (y : Peer). HoldsAsked y.asked.items a l (with_requests rest s)) (sym x_is)
+                    (subst (λ y. HoldsAsked left a y (with_requests rest s)) (sym l_is)
+                    (spent_own p.asked.items left owner.connection held left_is
+                    (subst (AreOwn owner.connection s.connections) (sym asked) (own_removed owner.connection s.connections p.asked.items at held.own)) fewer)))
+                | inr ne ↦ spent_other x.asked.items m l ne (h.known.requests m x l (sym (after.sets.others m ne) ∙ is) conn heard_l)
+              ];
+              named = named_without s.world.requests h.known.named;
+              counts = ap counts_in counts ∙ h.known.counts;
+              routed = h.known.routed;
+            };
           };
         }

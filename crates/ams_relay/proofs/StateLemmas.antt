@@ -1,26 +1,15 @@
--- The connections of a state: those that are there, numbers that differ, one in the place of another, and a change of one.
-use Rattle.std.proofs.Common.{◌≡◌, ◌≢◌, ℕ, suc, ◌+◌, List, [], ◌∷◌, true, false, nat_eq, refl, sym, ap, ◌∙◌, subst, inl, inr, arith}
+-- The connections of a state: one in the place of another, a change of one, and one more.
+use Rattle.std.proofs.Common.{◌≡◌, ◌≢◌, ℕ, suc, ◌+◌, List, [], ◌∷◌, ◌++◌, true, refl, sym, ap, ◌∙◌, inl, inr, arith}
 use Rattle.std.specs.Prelude.{◌==◌, Option, Some, None, map, sum, length}
-use Rattle.std.specs.List.{IsDistinct, AllByRecursion}
-use Rattle.std.specs.Map.{keys_of, remove_entry}
-use Rattle.std.proofs.lemmas.Bool.{cases_Bool, cases_eq, cond-true, cond-false}
+use Rattle.std.proofs.lemmas.Bool.{cases_eq, cond-true, cond-false}
 use Rattle.std.proofs.lemmas.List.Sums.{sum-map, sum_by-cons}
-use Rattle.spec_machine.specs.Connection.{connection_of, put_back, with_frame}
-use Rattle.spec_machine.specs.MachineState.{present_numbers, after_exchange}
-use Rattle.spec_machine.proofs.Find.{test_same, test_other, number_of_found}
-use Rattle.ads_served.specs.Opened.{AreApart}
-use Rattle.connections.specs.Present.{present}
-use Rattle.connections.proofs.StateLemmas.{present-gone, present-there, connection_of-same, connection_of-other, number_differs, none_behind}
-use Rattle.connections.proofs.StateLemmas.{put_back-same, put_back-other, put_back-itself, none_of_nil, was_none, AreApart-put_back}
-use Rattle.spec_relay.specs.RelayState.{RelayConnection, RelayState}
+use Rattle.spec_machine.specs.Connection.{connection_of, put_back, with_frame, fresh_connection}
+use Rattle.spec_machine.specs.MachineState.{after_exchange}
+use Rattle.spec_machine.proofs.Find.{test_same, test_other, or_else, number_of_found, connection_of-append}
+use Rattle.connections.proofs.StateLemmas.{connection_of-same, connection_of-other}
+use Rattle.connections.proofs.StateLemmas.{put_back-same, put_back-other, put_back-itself, none_of_nil, was_none}
+use Rattle.spec_relay.specs.RelayState.{Owned, RelayConnection, RelayState}
 use Rattle.spec_relay.specs.Routing.{at_connection, framed}
-use Rattle.ams_relay.specs.Peers.{Peers}
-
-abbrev pub number_of : RelayConnection → ℕ
-number_of k = k.number
-
-abbrev pub numbers_in : List RelayConnection → List ℕ
-numbers_in ks = map number_of (present ks)
 
 -- a change that leaves the number, and whether the connection is there
 pub record Stays (f : RelayConnection → RelayConnection) : Type 0 where
@@ -47,40 +36,6 @@ changed-list n f s P none some = go (connection_of n s.connections) refl
     go None e = none e
     go (Some k) e = some k e
 
-numbers-same : (j l : RelayConnection) (ks : List RelayConnection) → l.number ≡ j.number → l.gone ≡ j.gone → numbers_in (l ∷ ks) ≡ numbers_in (j ∷ ks)
-numbers-same j l ks number gone = elim (cases_Bool j.gone) [
-  | inl e ↦ ap (map number_of) (present-gone l ks (gone ∙ e)) ∙ sym (ap (map number_of) (present-gone j ks e))
-  | inr e ↦ ap (map number_of) (present-there l ks (gone ∙ e)) ∙ ap (λ m. m ∷ numbers_in ks) number ∙ sym (ap (map number_of) (present-there j ks e))
-]
-
-numbers-behind : (j : RelayConnection) (ks ls : List RelayConnection) → numbers_in ks ≡ numbers_in ls → numbers_in (j ∷ ks) ≡ numbers_in (j ∷ ls)
-numbers-behind j ks ls same = elim (cases_Bool j.gone) [
-  | inl e ↦ ap (map number_of) (present-gone j ks e) ∙ same ∙ sym (ap (map number_of) (present-gone j ls e))
-  | inr e ↦ ap (map number_of) (present-there j ks e) ∙ ap (λ ms. j.number ∷ ms) same ∙ sym (ap (map number_of) (present-there j ls e))
-]
-
-numbers-put_back : (n : ℕ) (l k : RelayConnection) (ks : List RelayConnection)
-    → connection_of n ks ≡ Some k → l.number ≡ n → l.gone ≡ k.gone → numbers_in (put_back l ks) ≡ numbers_in ks
-unfolding put_back
-numbers-put_back n l k [] found number gone = refl
-numbers-put_back n l k (j ∷ ks) found number gone = elim (cases_eq j.number n) [
-  | inl q ↦
-      let same : j ≡ k = (let both = sym (connection_of-same n j ks q) ∙ found in cc) in
-      ap numbers_in (put_back-same l j ks (q ∙ sym number)) ∙ numbers-same j l ks (number ∙ sym q) (gone ∙ sym (ap (λ (x : RelayConnection). x.gone) same))
-  | inr q ↦
-      ap numbers_in (put_back-other l j ks (λ r. q (r ∙ number)))
-      ∙ numbers-behind j (put_back l ks) ks (numbers-put_back n l k ks (sym (connection_of-other n j ks q) ∙ found) number gone)
-]
-
--- those that are there have the same numbers after a change that leaves them there
-pub changed-numbers : (n : ℕ) (f : RelayConnection → RelayConnection) → Stays f → (s : RelayState) → present_numbers (at_connection n f s) ≡ present_numbers s
-changed-numbers n f stays s =
-    changed-list n f s (λ ks. numbers_in ks ≡ numbers_in s.connections) (λ e. refl)
-    (λ k e. numbers-put_back n (f k) k s.connections e (stays.number k ∙ number_of_found n k s.connections e) (stays.gone k))
-
-pub changed-apart : (n : ℕ) (f : RelayConnection → RelayConnection) (s : RelayState) → AreApart s.connections → AreApart (at_connection n f s).connections
-changed-apart n f s apart = changed-list n f s AreApart (λ e. apart) (λ k e. AreApart-put_back (f k) s.connections apart)
-
 -- a change that changes nothing
 pub changed-nothing : (n : ℕ) (f : RelayConnection → RelayConnection) (s : RelayState)
     → ((k : RelayConnection) → connection_of n s.connections ≡ Some k → f k ≡ k) → at_connection n f s ≡ s
@@ -91,40 +46,6 @@ changed-nothing n f s same = go (connection_of n s.connections) refl
     go (Some k) e =
         ap (λ (l : RelayConnection). record s { connections = put_back l s.connections }) (same k e)
         ∙ ap (λ ks. record s { connections = ks }) (put_back-itself n k s.connections e)
-
--- the number of a connection that goes, goes
-ended-head : (n : ℕ) (l j : RelayConnection) (ks : List RelayConnection) → l.number ≡ n → l.gone ≡ true → j.gone ≡ false
-    → (j.number ≢ n → (fs : Peers) → keys_of fs ≡ numbers_in ks → keys_of (remove_entry (λ i. n == i) fs) ≡ numbers_in (put_back l ks))
-    → (fs : Peers) → keys_of fs ≡ j.number ∷ numbers_in ks → keys_of (remove_entry (λ i. n == i) fs) ≡ numbers_in (put_back l (j ∷ ks))
-ended-head n l j ks number gone there rest [] e = absurd (let no : ◌≡◌ {A = List ℕ} [] (j.number ∷ numbers_in ks) = e in cc)
-ended-head n l j ks number gone there rest (f ∷ fs) e =
-    let head : f.0 ≡ j.number = cc in
-    let tail : keys_of fs ≡ numbers_in ks = cc in
-    elim (cases_eq j.number n) [
-      | inl q ↦
-          ap keys_of (cond-true (n == f.0) fs (f ∷ remove_entry (λ i. n == i) fs) (test_same n f.0 (sym (head ∙ q)))) ∙ tail
-          ∙ sym (ap numbers_in (put_back-same l j ks (q ∙ sym number)) ∙ ap (map number_of) (present-gone l ks gone))
-      | inr q ↦
-          ap keys_of (cond-false (n == f.0) fs (f ∷ remove_entry (λ i. n == i) fs) (test_other n f.0 (λ r. q (sym head ∙ sym r))))
-          ∙ ap (λ ms. f.0 ∷ ms) (rest q fs tail) ∙ ap (λ m. m ∷ numbers_in (put_back l ks)) head
-          ∙ sym (ap numbers_in (put_back-other l j ks (λ r. q (r ∙ number))) ∙ ap (map number_of) (present-there j (put_back l ks) there))
-    ]
-
-pub numbers-ended : (n : ℕ) (l k : RelayConnection) (es : Peers) (ks : List RelayConnection)
-    → connection_of n ks ≡ Some k → k.gone ≡ false → l.number ≡ n → l.gone ≡ true
-    → keys_of es ≡ numbers_in ks → keys_of (remove_entry (λ j. n == j) es) ≡ numbers_in (put_back l ks)
-numbers-ended n l k es [] found there number gone keys = absurd (let no : ◌≡◌ {A = Option RelayConnection} None (Some k) = sym (none_of_nil n) ∙ found in cc)
-numbers-ended n l k es (j ∷ ks) found there number gone keys = elim (cases_Bool j.gone) [
-  | inl g ↦
-      let q : j.number ≢ n =
-      λ q. (let both = sym (connection_of-same n j ks q) ∙ found in let same : j ≡ k = cc in
-      let no : true ≡ false = sym g ∙ ap (λ (x : RelayConnection). x.gone) same ∙ there in cc) in
-      let rest = numbers-ended n l k es ks (sym (connection_of-other n j ks q) ∙ found) there number gone (keys ∙ ap (map number_of) (present-gone j ks g)) in
-      rest ∙ sym (ap numbers_in (put_back-other l j ks (λ r. q (r ∙ number))) ∙ ap (map number_of) (present-gone j (put_back l ks) g))
-  | inr g ↦
-      ended-head n l j ks number gone g (λ q fs e. numbers-ended n l k fs ks (sym (connection_of-other n j ks q) ∙ found) there number gone e) es
-      (keys ∙ ap (map number_of) (present-there j ks g))
-]
 
 -- how many frames were taken, of all
 abbrev pub frames_in : List RelayConnection → ℕ
@@ -187,23 +108,31 @@ pub changed-none : (n m : ℕ) (f : RelayConnection → RelayConnection) → (s 
 changed-none n m f s e = changed-list n f s (λ ks. connection_of m ks ≡ None → connection_of m s.connections ≡ None)
     (λ none q. q) (λ k some q. was_none m (f k) s.connections q) e
 
--- the numbers of those that are there differ
-none_among : (n : ℕ) (ks : List RelayConnection) → connection_of n ks ≡ None → AllByRecursion (λ m. nat_eq n m ≡ false) (numbers_in ks)
-none_among n [] none = tt
-none_among n (k ∷ ks) none =
-    let rest = none_among n ks (none_behind n k ks none) in
-    elim (cases_Bool k.gone) [
-      | inl g ↦ subst (AllByRecursion (λ m. nat_eq n m ≡ false)) (sym (ap (map number_of) (present-gone k ks g))) rest
-      | inr g ↦ subst (AllByRecursion (λ m. nat_eq n m ≡ false)) (sym (ap (map number_of) (present-there k ks g)))
-          (test_other n k.number (λ e. number_differs n k ks none (sym e)), rest)
-    ]
+-- a connection is gone
+abbrev pub as_gone : RelayConnection → RelayConnection
+as_gone k = record k { gone = true }
 
-pub numbers-distinct : (ks : List RelayConnection) → AreApart ks → IsDistinct nat_eq (numbers_in ks)
-unfolding IsDistinct
-numbers-distinct [] apart = tt
-numbers-distinct (k ∷ ks) apart =
-    let rest = numbers-distinct ks apart.1 in
-    elim (cases_Bool k.gone) [
-      | inl g ↦ subst (IsDistinct nat_eq) (sym (ap (map number_of) (present-gone k ks g))) rest
-      | inr g ↦ subst (IsDistinct nat_eq) (sym (ap (map number_of) (present-there k ks g))) (none_among k.number ks apart.0, rest)
-    ]
+-- a connection is opened
+abbrev pub with_fresh : ℕ → RelayState → RelayState
+with_fresh n s = record s { connections = s.connections ++ fresh_connection None n ∷ [] }
+
+fresh_found : (n : ℕ) → connection_of n (fresh_connection {C = Owned} None n ∷ []) ≡ Some (fresh_connection None n)
+unfolding connection_of
+fresh_found n = cond-true (n == n) (Some (fresh_connection None n)) None (test_same n n refl)
+
+fresh_other : (n m : ℕ) → n ≢ m → connection_of m (fresh_connection {C = Owned} None n ∷ []) ≡ None
+unfolding connection_of
+fresh_other n m ne = cond-false (n == m) (Some (fresh_connection None n)) None (test_other n m ne)
+
+or_none : (o : Option RelayConnection) → or_else o None ≡ o
+or_none None = refl
+or_none (Some k) = refl
+
+pub opened_own : (n : ℕ) (ks : List RelayConnection) → connection_of n ks ≡ None
+    → connection_of n (ks ++ fresh_connection None n ∷ []) ≡ Some (fresh_connection None n)
+opened_own n ks new = connection_of-append n ks (fresh_connection None n ∷ [])
+    ∙ ap (λ o. or_else o (connection_of n (fresh_connection None n ∷ []))) new ∙ fresh_found n
+
+pub opened_other : (n m : ℕ) (ks : List RelayConnection) → n ≢ m → connection_of m (ks ++ fresh_connection None n ∷ []) ≡ connection_of m ks
+opened_other n m ks ne = connection_of-append m ks (fresh_connection None n ∷ [])
+    ∙ ap (λ o. or_else (connection_of m ks) o) (fresh_other n m ne) ∙ or_none (connection_of m ks)

@@ -1,42 +1,48 @@
 -- Frames are taken one after another, down to a rest that is open or broken, or until their connection is closing.
-use Rattle.std.proofs.Common.{◌≡◌, ℕ, ◌+◌, List, [], ◌∷◌, length, drop, Bool, true, false, cond, refl, sym, ap, ◌∙◌, subst, inl, inr, arith}
-use Rattle.std.specs.Prelude.{Option, Some, None, option_map, ◌||◌, not, is_some, IfSome}
-use Rattle.std.proofs.lemmas.Bool.{cond-true, cond-false, cases_eq}
+use Rattle.std.proofs.Common.{◌≡◌, ◌≢◌, ℕ, ◌+◌, List, [], ◌∷◌, length, drop, Bool, true, false, cond, refl, sym, ap, ◌∙◌, subst, inl, inr, arith}
+use Rattle.std.specs.Prelude.{Option, Some, None, option_map, ◌||◌, not, set, slice_get}
+use Rattle.std.specs.Map.{keys_of}
+use Rattle.std.proofs.lemmas.Bool.{cond-true, cond-false, cases_eq, true≢false}
+use Rattle.std.proofs.lemmas.List.{length-set}
 use Rattle.ads_outside.specs.declared.event.Event.TheVariants as event
 use Rattle.spec_frames.specs.Division.{front_of, frames_of, rest_of, is_broken}
-use Rattle.spec_plant.specs.Rights.{rights_of}
 use Rattle.spec_formats.specs.Header.{header_of}
 use Rattle.spec_machine.specs.Connection.{connection_of, with_closing, put_back, is_deaf}
 use Rattle.spec_machine.specs.MachineState.{after_exchange}
-use Rattle.spec_machine.specs.Offers.{is_among}
 use Rattle.spec_machine.specs.Piece.{with_received, with_one_taken, packets_left, after_rest}
 use Rattle.spec_machine.specs.Summary.{count_of}
 use Rattle.ams_tcp.specs.Held.{Held}
-use Rattle.ams_tcp.specs.History.{Represents, after_feed, answer_of, after_next}
+use Rattle.ams_tcp.specs.History.{History, Represents, after_feed, answer_of, after_next}
 use Rattle.ams_tcp.specs.declared.cut.Cut.TheVariants as cut
-use Rattle.spec_relay.specs.RelayState.{RelayWorld, RelayConnection, RelayState}
+use Rattle.spec_relay.specs.RelayState.{RelayWorld, Owned, RelayConnection, RelayState, is_heard, is_heard_among}
 use Rattle.spec_relay.specs.RelayMoves.{after_frames, after_piece_of, relay_after_event}
 use Rattle.spec_relay.specs.RelaySummary.{RelaySummary as CountsOfState, relay_summary_of}
 use Rattle.spec_relay.specs.Requests.{with_requests_heard}
 use Rattle.spec_relay.specs.Routing.{at_connection, with_frame_taken, after_header, after_frame_of, after_frame}
-use Rattle.spec_relay.proofs.ChangeLemmas.{changed-own, world-change}
-use Rattle.spec_relay.proofs.RelayDelivered.{gone_of, gone-kept, frame-seen}
-use Rattle.spec_relay.proofs.TakenLemmas.{progress, frame-own}
-use Rattle.ams_relay.specs.declared.peer.Peer.{Peer}
+use Rattle.spec_relay.proofs.ChangeLemmas.{changed-own, changed-other, world-change}
+use Rattle.spec_relay.proofs.RelayDelivered.{gone_of, gone-kept, frame-seen, piece-seen}
+use Rattle.spec_relay.proofs.TakenLemmas.{progress, frame-own, piece-progress}
+use Rattle.connections.specs.Carries.{Carries, IsStreamOf}
+use Rattle.connections.specs.Entries.{IsEntry}
+use Rattle.connections.specs.Outlets.{Outlets, beside, closing_at}
+use Rattle.connections.proofs.BesideLemmas.{beside_at}
+use Rattle.connections.proofs.CarryLemmas.{KeepsOutput, at_number}
+use Rattle.connections.proofs.StreamLemmas.{packet_is_next, rest_is_open, rest_is_broken, own_mark, after_frame as one_given}
 use Rattle.ams_relay.specs.declared.router.Router.{Router}
 use Rattle.ams_relay.specs.Counts.{counts_in}
-use Rattle.ams_relay.specs.Holds.{history_of, IsStreamOf, IsPeerOf, HoldsOwners, HoldsAsked, Holds}
-use Rattle.ams_relay.specs.Peers.{Peers, peer_in, read_in, is_lent, is_lent_in, Sets}
-use Rattle.ams_relay.specs.Taking.{IsHeardAt, IsSwept, KeepsStreams, packets_of, end_of_piece, HoldsWith, TakesOne}
-use Rattle.ams_relay.specs.Touched.{OthersIdle}
-use Rattle.ams_relay.proofs.HoldLemmas.{Found, peer_found, peer_absent, holds_changed, holds_counted, holds_swept}
-use Rattle.ams_relay.proofs.IdleLemmas.{idle_stream}
+use Rattle.ams_relay.specs.Holds.{AreBeside, Knows, Holds}
+use Rattle.ams_relay.specs.Taking.{IsHeardAt, IsSwept, packets_of, end_of_piece, HoldsWith, TakesOne}
+use Rattle.ams_relay.proofs.BesideLemmas.{beside_keys, count_same, sets_at}
+use Rattle.ams_relay.proofs.CarryLemmas.{closing_is, carry_quiet}
+use Rattle.ams_relay.proofs.HoldLemmas.{SameBeside, knows_changed, knows_counted, knows_swept}
 use Rattle.ams_relay.proofs.ListLemmas.{filter-finer}
 use Rattle.ams_relay.proofs.OwnerLemmas.{some_same}
-use Rattle.ams_relay.proofs.PeerLemmas.{received_stands, taken_stands, stream_stands}
-use Rattle.ams_relay.proofs.RequestLemmas.{is_heard_in, hearing, heard_of_parts}
+use Rattle.ams_relay.proofs.RequestLemmas.{is_heard_in, hearing, heard_found, heard_of_parts}
 use Rattle.ams_relay.proofs.StateLemmas.{Quiet, changed-nothing, changed-length, changed-more-frames, frames_in}
-use Rattle.connections.proofs.StreamLemmas.{packet_is_next, rest_is_open, rest_is_broken, own_mark, after_frame as one_given}
+
+-- the history of the stream of a connection
+abbrev pub history_of : Held → RelayConnection → History
+history_of held k = record { fed = k.received; given = k.frames_taken; told_broken = held.told_broken }
 
 -- nothing more is taken of a connection that is closing
 frames-closing : (c : ℕ) (k : RelayConnection) (packets : List (List ℕ)) (s : RelayState)
@@ -55,7 +61,7 @@ rest-closing k closing = at_front (is_broken (front_of (rest_of k.received)))
     at_front true = ap (λ (t : Bool). record k { closing = t }) (sym closing)
     at_front false = refl
 
-pub end-closing : (c : ℕ) (k : RelayConnection) (s : RelayState) → connection_of c s.connections ≡ Some k → k.closing ≡ true → end_of_piece c s ≡ s
+end-closing : (c : ℕ) (k : RelayConnection) (s : RelayState) → connection_of c s.connections ≡ Some k → k.closing ≡ true → end_of_piece c s ≡ s
 end-closing c k s found closing =
     ap (at_connection c after_rest) (frames-closing c k (packets_of (connection_of c s.connections)) s found closing)
     ∙ changed-nothing c after_rest s (λ j e. rest-closing j (ap (λ (x : RelayConnection). x.closing) (some_same j k (sym e ∙ found)) ∙ closing))
@@ -66,7 +72,7 @@ end-none : (c : ℕ) (k : RelayConnection) (s : RelayState) → connection_of c 
 unfolding after_frames
 end-none c k s found none = ap (λ ps. at_connection c after_rest (after_frames c ps s)) (ap packets_of found ∙ none)
 
-pub end-open : (c : ℕ) (k : RelayConnection) (s : RelayState) → connection_of c s.connections ≡ Some k
+end-open : (c : ℕ) (k : RelayConnection) (s : RelayState) → connection_of c s.connections ≡ Some k
     → packets_left k ≡ [] → is_broken (front_of (rest_of k.received)) ≡ false → end_of_piece c s ≡ s
 end-open c k s found none rest =
     end-none c k s found none
@@ -74,7 +80,7 @@ end-open c k s found none rest =
     (λ j e. subst (λ x. after_rest x ≡ x) (sym (some_same j k (sym e ∙ found)))
     (cond-false (is_broken (front_of (rest_of k.received))) (with_closing k) k rest))
 
-pub end-broken : (c : ℕ) (k : RelayConnection) (s : RelayState) → connection_of c s.connections ≡ Some k
+end-broken : (c : ℕ) (k : RelayConnection) (s : RelayState) → connection_of c s.connections ≡ Some k
     → packets_left k ≡ [] → is_broken (front_of (rest_of k.received)) ≡ true
     → end_of_piece c s ≡ at_connection c with_closing s
 end-broken c k s found none rest =
@@ -116,12 +122,12 @@ behind c packet k s found is_open = by (connection_of c (after_frame c packet s)
         }
 
 -- one frame is taken, and the end is the same
-pub takes_frame : (c : ℕ) (packet : List ℕ) (k : RelayConnection) (held given : Held) (new : Router) (b : List ℕ) (s : RelayState)
+takes_frame : (c : ℕ) (packet : List ℕ) (k : RelayConnection) (held given : Held) (new : Router) (b : List ℕ) (s : RelayState)
     → connection_of c s.connections ≡ Some k → k.closing ≡ false → k.gone ≡ false
     → cut.Frame packet ≡ answer_of (history_of held k) → Represents given (after_next (history_of held k))
-    → is_lent_in c new.peers.entries ≡ true → Holds new b (after_frame c packet s) → TakesOne c given new b s
+    → Holds new b (after_frame c packet s) → TakesOne c given new b s
 unfolding after_frames
-takes_frame c packet k held given new b s found is_open there answer stream lent h =
+takes_frame c packet k held given new b s found is_open there answer stream h =
     let l = behind c packet k s found is_open in
     let left = packet_is_next (history_of held k) packet answer in
     let rest = drop (k.frames_taken + 1) (frames_of k.received) in
@@ -134,7 +140,6 @@ takes_frame c packet k held given new b s found is_open there answer stream lent
       next = after_frame c packet s;
       holds = record {
         holds = h;
-        lent = lent;
         connection = l.connection;
         found = l.found;
         there = l.gone ∙ there;
@@ -145,158 +150,77 @@ takes_frame c packet k held given new b s found is_open there answer stream lent
     }
 
 -- what is heard is swept once the rest is dropped
-pub swept_is : (s : RelayState) → IsSwept (with_requests_heard s)
+swept_is : (s : RelayState) → IsSwept (with_requests_heard s)
 swept_is s = filter-finer (is_heard_in (hearing s.connections)) (is_heard_in (hearing s.connections)) s.world.requests (λ q among e. e)
 
 one_taken_quiet : Quiet with_one_taken
 one_taken_quiet = record { stays = record { number = λ k. refl; gone = λ k. refl }; client = λ k. refl; closing = λ k. refl }
 
--- a peer whose stream is lent
-pub record LentPeer (c : ℕ) (es : Peers) : Type 0 where
-  pub peer : Peer
-  pub was : peer_in c es ≡ Some peer
-  pub lent : peer.stream ≡ None
-
-lent_is_none : (o : Option Held) → not (is_some o) ≡ true → o ≡ None
-lent_is_none None e = refl
-lent_is_none (Some held) e = absurd (let no : false ≡ true = e in cc)
-
-pub lent_peer : (c : ℕ) (es : Peers) → is_lent_in c es ≡ true → LentPeer c es
-lent_peer c es lent = by (peer_in c es) refl
-  where
-    by : (o : Option Peer) → peer_in c es ≡ o → LentPeer c es
-    by None e = absurd (let no : false ≡ true = sym (ap (read_in is_lent false) e) ∙ lent in cc)
-    by (Some p) e = record { peer = p; was = e; lent = lent_is_none p.stream (sym (ap (read_in is_lent false) e) ∙ lent) }
-
-sets_same : (c : ℕ) (p : Peer) (es : Peers) → peer_in c es ≡ Some p → Sets c p es es
-sets_same c p es was = record { keys = refl; others = λ m ne. refl; own = was }
+one_taken_still : KeepsOutput {C = Owned} with_one_taken
+one_taken_still = record { number = λ k. refl; gone = λ k. refl; produced = λ k. refl; bytes_taken = λ k. refl; closing = λ k. refl }
 
 -- a frame is taken and counted
-pub frame_taken : (c : ℕ) (b : List ℕ) (p : Peer) (old new : Router) (s : RelayState) → Holds old b s
-    → peer_in c old.peers.entries ≡ Some p → p.stream ≡ None
-    → new.peers.entries ≡ old.peers.entries → new.routes ≡ old.routes → new.owners.entries ≡ old.owners.entries
-    → new.counts ≡ (let t = old.counts in record t { frames = count_of (t.frames + 1) }) → new.touched ≡ old.touched
+pub frame_taken : (c : ℕ) (b : List ℕ) (k : RelayConnection) (old new : Router) (s : RelayState) → Holds old b s → connection_of c s.connections ≡ Some k
+    → new ≡ record old { counts = new.counts } → new.counts ≡ (let t = old.counts in record t { frames = count_of (t.frames + 1) })
     → Holds new b (with_frame_taken c s)
-frame_taken c b p old new s h was lent peers routes owners counts touched =
-    holds_swept new b (at_connection c with_one_taken s)
-    (holds_counted c with_one_taken b b p p old new s one_taken_quiet h was
-    (subst (λ es. Sets c p old.peers.entries es) (sym peers) (sets_same c p old.peers.entries was)) routes owners (ap counts_in counts ∙ counted)
-    (record { stands = λ l st. taken_stands p l lent st; marked = λ e. e }) refl (λ m ne. refl)
-    (subst (λ es. OthersIdle new.touched es) (sym peers) (subst (λ u. OthersIdle u old.peers.entries) (sym touched) h.idle)))
+frame_taken c b k old new s h found is counts = subst (λ (r : Router). Holds r b (with_frame_taken c s)) (sym is) (record {
+  outlets = carry_quiet c with_one_taken b old.outlets s one_taken_still h.outlets;
+  known = knows_swept mid (at_connection c with_one_taken s)
+      (knows_counted c with_one_taken old mid s one_taken_quiet (record { routes = refl; numbers = refl; peers = refl; owners = refl })
+      (ap counts_in counts ∙ counted) h.known);
+})
   where
-    at : Found p (connection_of c s.connections)
-    at = peer_found old.peers.entries b s c p h.peers was
+    mid : Router
+    mid = record old { counts = new.counts }
 
-    number : (k : RelayConnection) → (with_one_taken k).number ≡ k.number
-    number k = refl
+    number : (l : RelayConnection) → (with_one_taken l).number ≡ l.number
+    number l = refl
 
     connections : old.counts.connections ≡ count_of (length (at_connection c with_one_taken s).connections)
-    connections = ap (λ (x : CountsOfState). x.connections) h.counts ∙ ap count_of (sym (changed-length c with_one_taken s))
+    connections = ap (λ (x : CountsOfState). x.connections) h.known.counts ∙ ap count_of (sym (changed-length c with_one_taken s))
 
     frames : count_of (old.counts.frames + 1) ≡ count_of (frames_in (at_connection c with_one_taken s).connections)
     frames =
-        let before : old.counts.frames ≡ count_of (frames_in s.connections) = ap (λ (x : CountsOfState). x.frames) h.counts in
-        let more = changed-more-frames c with_one_taken number (λ k. refl) s at.connection at.found in
+        let before : old.counts.frames ≡ count_of (frames_in s.connections) = ap (λ (x : CountsOfState). x.frames) h.known.counts in
+        let more = changed-more-frames c with_one_taken number (λ l. refl) s k found in
         omega (arith, before, more)
 
     passed : old.counts.passed ≡ count_of (at_connection c with_one_taken s).world.passed
-    passed = ap (λ (x : CountsOfState). x.passed) h.counts ∙ ap (λ (w : RelayWorld). count_of w.passed) (sym (world-change c with_one_taken s))
+    passed = ap (λ (x : CountsOfState). x.passed) h.known.counts ∙ ap (λ (w : RelayWorld). count_of w.passed) (sym (world-change c with_one_taken s))
 
     unknown : old.counts.unknown ≡ count_of (at_connection c with_one_taken s).world.unknown
-    unknown = ap (λ (x : CountsOfState). x.unknown) h.counts ∙ ap (λ (w : RelayWorld). count_of w.unknown) (sym (world-change c with_one_taken s))
+    unknown = ap (λ (x : CountsOfState). x.unknown) h.known.counts ∙ ap (λ (w : RelayWorld). count_of w.unknown) (sym (world-change c with_one_taken s))
 
     counted : counts_in (let t = old.counts in record t { frames = count_of (t.frames + 1) }) ≡ relay_summary_of (at_connection c with_one_taken s)
     counted = λ i. record { connections = connections i; frames = frames i; passed = passed i; unknown = unknown i }
 
+-- the connection of a seat is closing as its outlet is
+seat_closing : (c i : ℕ) (held : Held) (b : List ℕ) (r : Router) (s : RelayState) (w : HoldsWith c held r b s) → IsEntry r.outlets c i
+    → w.connection.closing ≡ closing_at r.outlets i
+seat_closing c i held b r s w at =
+    let there = at_number r.outlets b s.connections c i w.holds.outlets at in
+    ap (λ (x : RelayConnection). x.closing) (some_same w.connection there.k (sym w.found ∙ there.found))
+    ∙ closing_is r.outlets c i b s.connections there
+
 -- and goes its way
-pub passed_on : (c : ℕ) (packet : List ℕ) (b : List ℕ) (p : Peer) (held given : Held) (old mid new : Router) (s : RelayState)
-    → (w : HoldsWith c held old b s) → peer_in c old.peers.entries ≡ Some p → p.closing ≡ false
+pub passed_on : (c i : ℕ) (packet : List ℕ) (b : List ℕ) (held given : Held) (old mid new : Router) (s : RelayState)
+    → (w : HoldsWith c held old b s) → IsEntry old.outlets c i → closing_at old.outlets i ≡ false
     → cut.Frame packet ≡ answer_of (history_of held w.connection) → Represents given (after_next (history_of held w.connection))
     → Holds mid b (with_frame_taken c s)
     → ((d : List ℕ) (t : RelayState) (l : RelayConnection) → Holds mid d t → IsHeardAt c l t
     → IsSwept t → Holds new d (after_header c packet l t (header_of packet)))
-    → is_lent_in c new.peers.entries ≡ true → TakesOne c given new b s
+    → TakesOne c given new b s
 unfolding after_frame
-passed_on c packet b p held given old mid new s w was is_open answer stream taken pass lent =
-    let at = peer_found old.peers.entries b s c p w.holds.peers was in
+passed_on c i packet b held given old mid new s w at is_open answer stream taken pass =
     let k = w.connection in
-    let same_k : at.connection ≡ k = some_same at.connection k (sym at.found ∙ w.found) in
-    let open_k : k.closing ≡ false = sym (ap (λ (x : RelayConnection). x.closing) same_k) ∙ sym at.stands.closing ∙ is_open in
+    let open_k : k.closing ≡ false = seat_closing c i held b old s w at ∙ is_open in
     let found : connection_of c (with_frame_taken c s).connections ≡ Some (with_one_taken k) =
     changed-own c with_one_taken (λ l. refl) s ∙ ap (option_map with_one_taken) w.found in
     let heard : IsHeardAt c (with_one_taken k) (with_frame_taken c s) = record { found = found; heard = heard_of_parts (with_one_taken k) open_k w.there } in
     let after = pass b (with_frame_taken c s) (with_one_taken k) taken heard (swept_is (at_connection c with_one_taken s)) in
     let same : after_frame c packet s ≡ after_header c packet k (with_frame_taken c s) (header_of packet) =
     ap (after_frame_of c packet s) w.found ∙ cond-false k.closing s (after_header c packet k (with_frame_taken c s) (header_of packet)) open_k in
-    takes_frame c packet k held given new b s w.found open_k w.there answer stream lent (subst (Holds new b) (sym same) after)
-
--- a change of the stream alone, where the peer stands for the same connection
-pub stream_kept : (c : ℕ) (b : List ℕ) (p : Peer) (o : Option Held) (old new : Router) (s : RelayState) → Holds old b s → peer_in c old.peers.entries ≡ Some p
-    → Sets c (record p { stream = o }) old.peers.entries new.peers.entries → new.routes ≡ old.routes
-    → new.owners.entries ≡ old.owners.entries → new.counts ≡ old.counts → new.touched ≡ old.touched
-    → ((l : RelayConnection) → connection_of c s.connections ≡ Some l → IfSome o (IsStreamOf l)) → Holds new b s
-stream_kept c b p o old new s h was sets routes owners counts touched stream =
-    let at = peer_found old.peers.entries b s c p h.peers was in
-    record {
-      routes = λ net. ap (rights_of net) routes ∙ h.routes net;
-      peers = record {
-        numbers = sets.keys ∙ h.peers.numbers;
-        each = λ m. elim (cases_eq m c) [
-          | inl e ↦ subst (λ j. IsPeerOf (peer_in j new.peers.entries) (connection_of j s.connections)) (sym e)
-              (subst (λ u. IsPeerOf u (connection_of c s.connections)) (sym sets.own)
-              (subst (λ u. IsPeerOf (Some (record p { stream = o })) u) (sym at.found)
-              (at.there, stream_stands p o at.connection (stream at.connection at.found) at.stands)))
-          | inr ne ↦ subst (λ u. IsPeerOf u (connection_of m s.connections)) (sym (sets.others m ne)) (h.peers.each m)
-        ];
-        apart = h.peers.apart;
-        marked = λ m. elim (cases_eq m c) [
-          | inl e ↦ subst (λ j. IfSome (peer_in j new.peers.entries) (λ r. r.blocked ≡ is_among j b)) (sym e)
-              (subst (λ u. IfSome u (λ r. r.blocked ≡ is_among c b)) (sym sets.own)
-              (subst (λ u. IfSome u (λ r. r.blocked ≡ is_among c b)) was (h.peers.marked c)))
-          | inr ne ↦ subst (λ u. IfSome u (λ r. r.blocked ≡ is_among m b)) (sym (sets.others m ne)) (h.peers.marked m)
-        ];
-        known = h.peers.known;
-      };
-      owners = subst (λ os. HoldsOwners os s.connections) (sym owners) h.owners;
-      requests = λ m q k at_m found heard. elim (cases_eq m c) [
-        | inl e ↦
-            let is : record p { stream = o } ≡ q =
-            some_same (record p { stream = o }) q (sym sets.own ∙ sym (ap (λ j. peer_in j new.peers.entries) e) ∙ at_m) in
-            subst (λ (r : Peer). HoldsAsked r.asked.items m k s) is (h.requests m p k (ap (λ j. peer_in j old.peers.entries) e ∙ was) found heard)
-        | inr ne ↦ h.requests m q k (sym (sets.others m ne) ∙ at_m) found heard
-      ];
-      named = h.named;
-      counts = ap counts_in counts ∙ h.counts;
-      idle = idle_stream c p o old new was sets touched h.idle;
-      routed = h.routed;
-    }
-
--- the stream is lent
-pub lent_out : (c : ℕ) (b : List ℕ) (p : Peer) (held : Held) (o : Option Held) (old new : Router) (s : RelayState) → Holds old b s
-    → peer_in c old.peers.entries ≡ Some p
-    → p.stream ≡ Some held → o ≡ None → Sets c (record p { stream = o }) old.peers.entries new.peers.entries → new.routes ≡ old.routes
-    → new.owners.entries ≡ old.owners.entries → new.counts ≡ old.counts → new.touched ≡ old.touched → HoldsWith c held new b s
-lent_out c b p held o old new s h was is none sets_o routes owners counts touched =
-    let at = peer_found old.peers.entries b s c p h.peers was in
-    let sets : Sets c (record p { stream = None }) old.peers.entries new.peers.entries =
-    subst (λ (u : Option Held). Sets c (record p { stream = u }) old.peers.entries new.peers.entries) none sets_o in
-    record {
-      holds = stream_kept c b p None old new s h was sets routes owners counts touched (λ l found. tt);
-      lent = ap (read_in is_lent false) sets.own;
-      connection = at.connection;
-      found = at.found;
-      there = at.there;
-      stream = subst (λ (u : Option Held). IfSome u (IsStreamOf at.connection)) is at.stands.stream;
-    }
-
--- and is here again
-pub come_back : (c : ℕ) (b : List ℕ) (p : Peer) (held : Held) (old new : Router) (s : RelayState) → HoldsWith c held old b s
-    → peer_in c old.peers.entries ≡ Some p
-    → Sets c (record p { stream = Some held }) old.peers.entries new.peers.entries → new.routes ≡ old.routes
-    → new.owners.entries ≡ old.owners.entries → new.counts ≡ old.counts → new.touched ≡ old.touched → Holds new b s
-come_back c b p held old new s w was sets routes owners counts touched =
-    stream_kept c b p (Some held) old new s w.holds was sets routes owners counts touched
-    (λ l found. subst (λ (k : RelayConnection). IsStreamOf k held) (some_same w.connection l (sym w.found ∙ found)) w.stream)
+    takes_frame c packet k held given new b s w.found open_k w.there answer stream (subst (Holds new b) (sym same) after)
 
 -- the rest is open
 pub ends_open : (c : ℕ) (held : Held) (b : List ℕ) (r : Router) (s : RelayState) → (w : HoldsWith c held r b s)
@@ -307,13 +231,11 @@ ends_open c held b r s w answer =
 
 -- the rest is broken
 pub ends_broken : (c : ℕ) (held : Held) (b : List ℕ) (old new : Router) (s : RelayState) → (w : HoldsWith c held old b s)
-    → cut.Broken ≡ answer_of (history_of held w.connection) → Holds new b (at_connection c with_closing s)
-    → KeepsStreams old.peers.entries new.peers.entries → HoldsWith c held new b (end_of_piece c s)
-ends_broken c held b old new s w answer closed streams =
+    → cut.Broken ≡ answer_of (history_of held w.connection) → Holds new b (at_connection c with_closing s) → HoldsWith c held new b (end_of_piece c s)
+ends_broken c held b old new s w answer closed =
     let rest = rest_is_broken (history_of held w.connection) answer in
     subst (HoldsWith c held new b) (sym (end-broken c w.connection s w.found rest.none_left rest.rest)) (record {
       holds = closed;
-      lent = streams c ∙ w.lent;
       connection = with_closing w.connection;
       found = changed-own c with_closing (λ l. refl) s ∙ ap (option_map with_closing) w.found;
       there = w.there;
@@ -321,82 +243,120 @@ ends_broken c held b old new s w answer closed streams =
     })
 
 -- the connection is closing
-pub ends_closing : (c : ℕ) (held : Held) (b : List ℕ) (p : Peer) (r : Router) (s : RelayState) → HoldsWith c held r b s
-    → peer_in c r.peers.entries ≡ Some p → p.closing ≡ true → HoldsWith c held r b (end_of_piece c s)
-ends_closing c held b p r s w was closing =
-    let at = peer_found r.peers.entries b s c p w.holds.peers was in
-    subst (HoldsWith c held r b) (sym (end-closing c at.connection s at.found (sym at.stands.closing ∙ closing))) w
-
--- or is not there
-pub ends_absent : (c : ℕ) (held : Held) (b : List ℕ) (r : Router) (s : RelayState) → HoldsWith c held r b s → peer_in c r.peers.entries ≡ None → ⊥
-ends_absent c held b r s w none = let no : false ≡ true = sym (ap (read_in is_lent false) none) ∙ w.lent in cc
+pub ends_closing : (c i : ℕ) (held : Held) (b : List ℕ) (r : Router) (s : RelayState) → HoldsWith c held r b s
+    → IsEntry r.outlets c i → closing_at r.outlets i ≡ true → HoldsWith c held r b (end_of_piece c s)
+ends_closing c i held b r s w at closing =
+    subst (HoldsWith c held r b) (sym (end-closing c w.connection s w.found (seat_closing c i held b r s w at ∙ closing))) w
 
 -- a piece comes in
 received_quiet : (piece : List ℕ) → Quiet (with_received piece)
 received_quiet piece = record { stays = record { number = λ k. refl; gone = λ k. refl }; client = λ k. refl; closing = λ k. refl }
 
+received_still : (piece : List ℕ) → KeepsOutput {C = Owned} (with_received piece)
+received_still piece = record { number = λ k. refl; gone = λ k. refl; produced = λ k. refl; bytes_taken = λ k. refl; closing = λ k. refl }
+
 pub fed : (c : ℕ) (piece : List ℕ) (b : List ℕ) (held given : Held) (r : Router) (s : RelayState) → (w : HoldsWith c held r b s)
     → Represents given (after_feed (history_of held w.connection) piece) → HoldsWith c given r b (at_connection c (with_received piece) s)
-fed c piece b held given r s w stream =
-    let l = lent_peer c r.peers.entries w.lent in
-    record {
-      holds = holds_changed c (with_received piece) b b l.peer l.peer r r s (received_quiet piece) (λ k. refl) w.holds l.was
-          (sets_same c l.peer r.peers.entries l.was) refl refl refl
-          (record { stands = λ k st. received_stands l.peer piece k l.lent st; marked = λ e. e }) refl (λ m ne. refl) w.holds.idle;
-      lent = w.lent;
-      connection = with_received piece w.connection;
-      found = changed-own c (with_received piece) (λ k. refl) s ∙ ap (option_map (with_received piece)) w.found;
-      there = w.there;
-      stream = own_mark given (after_feed (history_of held w.connection) piece) stream;
-    }
+fed c piece b held given r s w stream = record {
+  holds = record {
+    outlets = carry_quiet c (with_received piece) b r.outlets s (received_still piece) w.holds.outlets;
+    known = knows_changed c (with_received piece) r r s (received_quiet piece) (λ k. refl)
+        (record { routes = refl; numbers = refl; peers = refl; owners = refl }) refl w.holds.known;
+  };
+  connection = with_received piece w.connection;
+  found = changed-own c (with_received piece) (λ k. refl) s ∙ ap (option_map (with_received piece)) w.found;
+  there = w.there;
+  stream = own_mark given (after_feed (history_of held w.connection) piece) stream;
+}
 
-pub piece_taken : (c : ℕ) (piece : List ℕ) (b : List ℕ) (p : Peer) (r new : Router) (s : RelayState)
-    → Holds r b s → peer_in c r.peers.entries ≡ Some p → p.closing ≡ false
-    → Holds new b (end_of_piece c (at_connection c (with_received piece) s)) → Holds new b (relay_after_event s (event.Piece c piece))
+-- a piece of one that is heard: its frames are taken
+piece_is : (c : ℕ) (piece : List ℕ) (k : RelayConnection) (s : RelayState) → connection_of c s.connections ≡ Some k → is_deaf k ≡ false
+    → relay_after_event s (event.Piece c piece) ≡ end_of_piece c (at_connection c (with_received piece) s)
 unfolding relay_after_event
-piece_taken c piece b p r new s h was is_open after =
-    let at = peer_found r.peers.entries b s c p h.peers was in
-    let k = at.connection in
+piece_is c piece k s found hearing_k =
     let u = at_connection c (with_received piece) s in
-    let hearing_k : is_deaf k ≡ false = ap (λ x. x || k.gone) (sym at.stands.closing ∙ is_open) ∙ at.there in
     let packets : packets_of (connection_of c u.connections) ≡ packets_left (with_received piece k) =
-    ap packets_of (changed-own c (with_received piece) (λ l. refl) s ∙ ap (option_map (with_received piece)) at.found) in
-    let same : after_piece_of c piece s (connection_of c s.connections) ≡ end_of_piece c u =
-    ap (after_piece_of c piece s) at.found
+    ap packets_of (changed-own c (with_received piece) (λ l. refl) s ∙ ap (option_map (with_received piece)) found) in
+    ap (after_piece_of c piece s) found
     ∙ cond-false (is_deaf k) s (at_connection c after_rest (after_frames c (packets_left (with_received piece k)) u)) hearing_k
-    ∙ ap (λ ps. at_connection c after_rest (after_frames c ps u)) (sym packets) in
-    subst (Holds new b) (sym same) after
+    ∙ ap (λ ps. at_connection c after_rest (after_frames c ps u)) (sym packets)
 
--- nothing is taken of one that is closing, or is not there
-pub piece_closing : (c : ℕ) (piece : List ℕ) (b : List ℕ) (p : Peer) (r : Router) (s : RelayState)
-    → Holds r b s → peer_in c r.peers.entries ≡ Some p → p.closing ≡ true
-    → Holds r b (relay_after_event s (event.Piece c piece))
+-- nothing is taken of one that is not heard
+pub piece_unheard : (c : ℕ) (piece : List ℕ) (s : RelayState) → is_heard_among c s.connections ≡ false → relay_after_event s (event.Piece c piece) ≡ s
 unfolding relay_after_event
-piece_closing c piece b p r s h was closing =
-    let at = peer_found r.peers.entries b s c p h.peers was in
-    let k = at.connection in
-    let deaf : is_deaf k ≡ true = ap (λ x. x || k.gone) (sym at.stands.closing ∙ closing) in
-    let same : after_piece_of c piece s (connection_of c s.connections) ≡ s =
-    ap (after_piece_of c piece s) at.found
-    ∙ cond-true (is_deaf k) s
-    (at_connection c after_rest (after_frames c (packets_left (with_received piece k)) (at_connection c (with_received piece) s))) deaf in
-    subst (Holds r b) (sym same) h
-
-pub piece_absent : (c : ℕ) (piece : List ℕ) (b : List ℕ) (r : Router) (s : RelayState) → Holds r b s
-    → peer_in c r.peers.entries ≡ None → Holds r b (relay_after_event s (event.Piece c piece))
-unfolding relay_after_event
-piece_absent c piece b r s h none = subst (Holds r b) (sym (by (connection_of c s.connections) refl)) h
+piece_unheard c piece s deaf = by (connection_of c s.connections) refl
   where
-    gone_deaf : (a g : Bool) → g ≡ true → (a || g) ≡ true
-    gone_deaf true g e = refl
-    gone_deaf false g e = e
+    heard_not : (x : Bool) → not x ≡ false → x ≡ true
+    heard_not true e = refl
+    heard_not false e = absurd (true≢false e)
 
     by : (o : Option RelayConnection) → connection_of c s.connections ≡ o → after_piece_of c piece s o ≡ s
     by None e = refl
     by (Some k) e =
-        let deaf : is_deaf k ≡ true = gone_deaf k.closing k.gone (peer_absent r.peers.entries b s c h.peers none k e) in
         cond-true (is_deaf k) s
-        (at_connection c after_rest (after_frames c (packets_left (with_received piece k)) (at_connection c (with_received piece) s))) deaf
+        (at_connection c after_rest (after_frames c (packets_left (with_received piece k)) (at_connection c (with_received piece) s)))
+        (heard_not (is_deaf k) (sym (heard_found c k s.connections e) ∙ deaf))
+
+-- all other streams are as they were
+stream_other : (n m : ℕ) (piece : List ℕ) (held : Held) (l : RelayConnection) (s : RelayState) → n ≢ m
+    → connection_of m (relay_after_event s (event.Piece n piece)).connections ≡ Some l → l.gone ≡ false
+    → ((k : RelayConnection) → connection_of m s.connections ≡ Some k → k.gone ≡ false → IsStreamOf held k) → IsStreamOf held l
+unfolding relay_after_event
+stream_other n m piece held l s ne found there before = by (connection_of m s.connections) refl
+  where
+    moved : progress (connection_of m s.connections) ≡ Some (l.received, l.frames_taken)
+    moved = sym (piece-progress n m piece s ne) ∙ ap progress found
+
+    stayed : gone_of (connection_of m s.connections) ≡ Some l.gone
+    stayed = sym (piece-seen gone_of gone-kept m n piece s (connection_of n s.connections)) ∙ ap gone_of found
+
+    by : (o : Option RelayConnection) → connection_of m s.connections ≡ o → IsStreamOf held l
+    by None e = absurd (let no : ◌≡◌ {A = Option Bool} None (Some l.gone) = sym (ap gone_of e) ∙ stayed in cc)
+    by (Some k) e =
+        let pair : ◌≡◌ {A = Option (List ℕ × ℕ)} (Some (k.received, k.frames_taken)) (Some (l.received, l.frames_taken)) = sym (ap progress e) ∙ moved in
+        let both = some_same (k.received, k.frames_taken) (l.received, l.frames_taken) pair in
+        let gone : ◌≡◌ {A = Option Bool} (Some k.gone) (Some l.gone) = sym (ap gone_of e) ∙ stayed in
+        let is = before k e (some_same k.gone l.gone gone ∙ there) in
+        subst (λ (x : List ℕ × ℕ). Represents held (record { fed = x.0; given = x.1; told_broken = held.told_broken })) both is
+
+-- the streams after a piece: that of its connection is another
+streams_taken : (n i : ℕ) (piece : List ℕ) (held : Held) (b : List ℕ) (old new : Router) (helds : List Held) (s : RelayState)
+    → IsEntry old.outlets n i → keys_of new.outlets ≡ keys_of old.outlets
+    → HoldsWith n held new b (relay_after_event s (event.Piece n piece)) → AreBeside IsStreamOf old.outlets helds s.connections
+    → AreBeside IsStreamOf new.outlets (set helds i held) (relay_after_event s (event.Piece n piece)).connections
+streams_taken n i piece held b old new helds s at numbers w h =
+    let sets = sets_at n i old.outlets helds held at h.count in
+    record {
+      count = length-set helds i held ∙ h.count ∙ sym (count_same old.outlets new.outlets numbers);
+      each = λ m x l found_m found there. elim (cases_eq n m) [
+        | inl e ↦
+            let x_is : held ≡ x = some_same held x
+            (sym sets.own ∙ ap (λ j. beside j old.outlets (set helds i held)) e
+            ∙ sym (beside_keys m old.outlets new.outlets (set helds i held) numbers) ∙ found_m) in
+            let l_is : w.connection ≡ l = some_same w.connection l
+            (sym w.found ∙ ap (λ j. connection_of j (relay_after_event s (event.Piece n piece)).connections) e ∙ found) in
+            subst (λ (k : RelayConnection). IsStreamOf x k) l_is (subst (λ (y : Held). IsStreamOf y w.connection) x_is w.stream)
+        | inr ne ↦
+            let value : beside m old.outlets helds ≡ Some x =
+            sym (sets.others m (λ e. ne (sym e))) ∙ sym (beside_keys m old.outlets new.outlets (set helds i held) numbers) ∙ found_m in
+            stream_other n m piece x l s ne found there (λ k found_k there_k. h.each m x k value found_k there_k)
+      ];
+    }
+
+-- all frames of a piece were taken
+pub piece_taken : (n i : ℕ) (piece : List ℕ) (b : List ℕ) (held given : Held) (old new : Router) (helds : List Held) (s : RelayState)
+    → Holds old b s → AreBeside IsStreamOf old.outlets helds s.connections → IsEntry old.outlets n i → closing_at old.outlets i ≡ false
+    → slice_get helds i ≡ Some held → keys_of new.outlets ≡ keys_of old.outlets
+    → (HoldsWith n held old b s → HoldsWith n given new b (end_of_piece n (at_connection n (with_received piece) s)))
+    → Holds new b (relay_after_event s (event.Piece n piece))
+    × AreBeside IsStreamOf new.outlets (set helds i given) (relay_after_event s (event.Piece n piece)).connections
+piece_taken n i piece b held given old new helds s h streams place is_open value numbers takes =
+    let at = at_number old.outlets b s.connections n i h.outlets place in
+    let hears : is_deaf at.k ≡ false = ap (λ x. x || at.k.gone) (closing_is old.outlets n i b s.connections at ∙ is_open) ∙ at.there in
+    let stream = streams.each n held at.k (beside_at old.outlets helds n i place streams.count ∙ value) at.found at.there in
+    let after = subst (HoldsWith n given new b) (sym (piece_is n piece at.k s at.found hears))
+    (takes (record { holds = h; connection = at.k; found = at.found; there = at.there; stream = stream })) in
+    (after.holds, streams_taken n i piece given b old new helds s place numbers after streams)
 
 -- no frame was taken yet
 pub takes_none : (c : ℕ) (held : Held) (r : Router) (b : List ℕ) (s : RelayState) → HoldsWith c held r b s → TakesOne c held r b s

@@ -5,15 +5,14 @@ use Rattle.std.proofs.lemmas.Bool.{cases_eq, true≢false, cond-true, cond-false
 use Rattle.spec_plant.specs.Rights.{rights_of}
 use Rattle.spec_formats.specs.Commands.{DEVICE_NOTIFICATION}
 use Rattle.spec_formats.specs.Header.{AmsHeader, header_of, payload_of}
-use Rattle.spec_machine.specs.Connection.{connection_of, with_closing, with_frame, put_back, fits, produce}
-use Rattle.spec_machine.specs.MachineState.{after_exchange}
+use Rattle.spec_machine.specs.Connection.{connection_of, with_closing, with_frame}
 use Rattle.spec_machine.specs.Piece.{with_client}
 use Rattle.spec_machine.specs.Summary.{count_of}
-use Rattle.spec_relay.specs.RelayState.{Request, RelayWorld, RelayConnection, RelayState, is_heard, is_heard_among, owner_of}
+use Rattle.spec_relay.specs.RelayState.{Request, RelayWorld, RelayConnection, RelayState, is_heard_among, owner_of}
 use Rattle.spec_relay.specs.RelaySummary.{RelaySummary as CountsOfState, relay_summary_of}
 use Rattle.spec_relay.specs.Requests.{requests_heard, is_answered_by, request_answered, without_first}
 use Rattle.spec_relay.specs.Ways.{Closes, Asks, is_closed_by, is_taken_net, way_of_response, way_of_request, way_of_owned}
-use Rattle.spec_relay.specs.Routing.{at_connection, framed, has_room, delivered, given_to, with_passed}
+use Rattle.spec_relay.specs.Routing.{at_connection, framed, has_room, given_to, with_passed}
 use Rattle.spec_relay.specs.Routing.{with_unknown, with_requests, after_unknown, not_found_packet}
 use Rattle.spec_relay.specs.Routing.{with_request_of, after_way, with_owner, after_header}
 use Rattle.spec_relay.proofs.ChangeLemmas.{changed-own, changed-other, world-change}
@@ -21,10 +20,9 @@ use Rattle.ams_relay.specs.declared.router.Router.{Router}
 use Rattle.ams_relay.specs.Counts.{counts_in}
 use Rattle.ams_relay.specs.Holds.{Holds}
 use Rattle.ams_relay.specs.Taking.{IsHeardAt, IsOpenedAt, IsSwept, number_of, SpendsOne, SpendsNone, is_refused}
-use Rattle.ams_relay.proofs.HoldLemmas.{peers_same}
 use Rattle.ams_relay.proofs.OwnerLemmas.{some_same}
-use Rattle.ams_relay.proofs.PeerLemmas.{produce-fits}
-use Rattle.ams_relay.proofs.RequestLemmas.{heard_changed, heard_parts}
+use Rattle.ams_relay.proofs.GiveLemmas.{given_as_frame}
+use Rattle.ams_relay.proofs.RequestLemmas.{heard_changed}
 use Rattle.ams_relay.proofs.StateLemmas.{frame_quiet}
 
 -- one more frame was given to a connection, or has an unknown target
@@ -32,41 +30,45 @@ pub passed_counted : (old new : Router) (b : List ℕ) (s : RelayState) → new 
     → new.counts ≡ (let t = old.counts in record t { passed = count_of (t.passed + 1) })
     → Holds old b s → Holds new b (with_passed s)
 passed_counted old new b s same counts h = subst (λ (r : Router). Holds r b (with_passed s)) (sym same) (record {
-  routes = h.routes;
-  peers = peers_same old.peers.entries b s (with_passed s) refl h.peers;
-  owners = h.owners;
-  requests = λ n p k at found heard. (let a = h.requests n p k at found heard in record { same = a.same; own = a.own; few = a.few });
-  named = h.named;
-  counts = ap counts_in counts ∙ counted;
-  idle = h.idle;
-  routed = h.routed;
+  outlets = h.outlets;
+  known = record {
+    routes = h.known.routes;
+    peers = h.known.peers;
+    owners = h.known.owners;
+    requests = λ n p k at found heard. (let a = h.known.requests n p k at found heard in record { same = a.same; own = a.own; few = a.few });
+    named = h.known.named;
+    counts = ap counts_in counts ∙ counted;
+    routed = h.known.routed;
+  };
 })
   where
     more : count_of (old.counts.passed + 1) ≡ count_of (s.world.passed + 1)
-    more = let before : old.counts.passed ≡ count_of s.world.passed = ap (λ (x : CountsOfState). x.passed) h.counts in omega (arith, before)
+    more = let before : old.counts.passed ≡ count_of s.world.passed = ap (λ (x : CountsOfState). x.passed) h.known.counts in omega (arith, before)
 
     counted : counts_in (let t = old.counts in record t { passed = count_of (t.passed + 1) }) ≡ relay_summary_of (with_passed s)
-    counted = λ i. record { connections = (h.counts i).connections; frames = (h.counts i).frames; passed = more i; unknown = (h.counts i).unknown }
+    counted = λ i. (let c = h.known.counts i in record { connections = c.connections; frames = c.frames; passed = more i; unknown = c.unknown })
 
 pub unknown_counted : (old new : Router) (b : List ℕ) (s : RelayState) → new ≡ record old { counts = new.counts }
     → new.counts ≡ (let t = old.counts in record t { unknown = count_of (t.unknown + 1) })
     → Holds old b s → Holds new b (with_unknown s)
 unknown_counted old new b s same counts h = subst (λ (r : Router). Holds r b (with_unknown s)) (sym same) (record {
-  routes = h.routes;
-  peers = peers_same old.peers.entries b s (with_unknown s) refl h.peers;
-  owners = h.owners;
-  requests = λ n p k at found heard. (let a = h.requests n p k at found heard in record { same = a.same; own = a.own; few = a.few });
-  named = h.named;
-  counts = ap counts_in counts ∙ counted;
-  idle = h.idle;
-  routed = h.routed;
+  outlets = h.outlets;
+  known = record {
+    routes = h.known.routes;
+    peers = h.known.peers;
+    owners = h.known.owners;
+    requests = λ n p k at found heard. (let a = h.known.requests n p k at found heard in record { same = a.same; own = a.own; few = a.few });
+    named = h.known.named;
+    counts = ap counts_in counts ∙ counted;
+    routed = h.known.routed;
+  };
 })
   where
     more : count_of (old.counts.unknown + 1) ≡ count_of (s.world.unknown + 1)
-    more = let before : old.counts.unknown ≡ count_of s.world.unknown = ap (λ (x : CountsOfState). x.unknown) h.counts in omega (arith, before)
+    more = let before : old.counts.unknown ≡ count_of s.world.unknown = ap (λ (x : CountsOfState). x.unknown) h.known.counts in omega (arith, before)
 
     counted : counts_in (let t = old.counts in record t { unknown = count_of (t.unknown + 1) }) ≡ relay_summary_of (with_unknown s)
-    counted = λ i. record { connections = (h.counts i).connections; frames = (h.counts i).frames; passed = (h.counts i).passed; unknown = more i }
+    counted = λ i. (let c = h.known.counts i in record { connections = c.connections; frames = c.frames; passed = c.passed; unknown = more i })
 
 -- a frame of a notification is not answered, any other is
 pub unknown_silent : (c : ℕ) (head : AmsHeader) (new : Router) (b : List ℕ) (s : RelayState)
@@ -142,27 +144,6 @@ way_refused c d head packet new b s some room h = by (owner_of head.target.net s
         (subst (Holds new b) (sym
         (cond-false (has_room (framed packet) (connection_of d s.connections))
         (with_passed (with_request_of c d head (given_to d packet s))) (after_unknown c head (given_to d packet s)) room)) h)
-
-and_second : (a b : Bool) → (a && b) ≡ true → b ≡ true
-and_second true b e = e
-and_second false b e = absurd (true≢false (sym e))
-
-and_first : (a b : Bool) → (a && b) ≡ true → a ≡ true
-and_first true b e = refl
-and_first false b e = e
-
-given_as_frame : (d : ℕ) (packet : List ℕ) (s : RelayState) → has_room (framed packet) (connection_of d s.connections) ≡ true
-    → given_to d packet s ≡ at_connection d (with_frame (framed packet)) s
-given_as_frame d packet s room = go (connection_of d s.connections) room
-  where
-    go : (o : Option RelayConnection) → has_room (framed packet) o ≡ true
-        → after_exchange o (λ x. record x { connection = delivered (framed packet) x.connection }) s
-        ≡ after_exchange o (λ x. record x { connection = with_frame (framed packet) x.connection }) s
-    go None e = refl
-    go (Some k) e =
-        let parts = heard_parts k (and_first (is_heard k) (fits (framed packet) k) e) in
-        ap (λ (l : RelayConnection). record s { connections = put_back l s.connections })
-        (cond-false k.gone k (produce (framed packet) k) parts.1 ∙ produce-fits (framed packet) k parts.0 (and_second (is_heard k) (fits (framed packet) k) e))
 
 -- so the sender is heard behind it, what waits is swept, and the target was opened
 pub record AfterGiven (c d : ℕ) (k : RelayConnection) (t : RelayState) : Type 0 where

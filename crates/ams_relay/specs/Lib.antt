@@ -1,7 +1,6 @@
 pub mod Counts
 pub mod Asking
 pub mod Peers
-pub mod Touched
 pub mod Holds
 pub mod Relays
 pub mod Taking

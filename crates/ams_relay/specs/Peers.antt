@@ -1,68 +1,47 @@
--- The connections that the code keeps, found by their numbers, and how one of them changes.
-use Rattle.std.specs.Prelude.{◌≡◌, ◌≢◌, ℕ, ◌<◌, List, [], length, slice_get, slice_index_or, Bool, false, not, ◌==◌}
-use Rattle.std.specs.Prelude.{Option, Some, None, IsSomeAnd, is_some}
-use Rattle.std.specs.Map.{keys_of, values_of, lookup}
-use Rattle.indexmap.specs.IndexMap.{set_value_at}
-use Rattle.ams_tcp.specs.History.{Represents, nothing_fed}
-use Rattle.connections.specs.Offering.{offer_of, offers_of, run_of}
+-- What is kept of connections beside their outlets, found by their numbers.
+use Rattle.std.specs.Prelude.{◌≡◌, ◌≢◌, ℕ, ◌<◌, List, length, slice_get, Bool, false, not, if◌then◌else◌}
+use Rattle.std.specs.Prelude.{Option, Some, None, option_map}
+use Rattle.std.specs.Map.{keys_of}
+use Rattle.ads_base.specs.declared.net_id.NetId.{NetId}
+use Rattle.connections.specs.Entries.{IsEntry}
+use Rattle.connections.specs.Outlets.{Outlets, beside, closing_at, read_among}
+use Rattle.connections.specs.declared.outlet.Outlet.{Outlet}
 use Rattle.ams_relay.specs.declared.peer.Peer.{Peer}
+use Rattle.ams_relay.specs.declared.router.Router.{Router}
+use Rattle.ams_relay.specs.declared.seat.Seat.{Seat}
 
+-- of each number the peer that stands beside its outlet
 abbrev pub Peers : Type 0
-Peers = List (ℕ × Peer)
+Peers = ℕ → Option Peer
 
-abbrev pub peer_in : ℕ → Peers → Option Peer
-peer_in n es = lookup (λ k. n == k) es
+abbrev pub peers_in : Router → Peers
+peers_in r n = beside n r.outlets r.peers.items
 
--- the peer of a number is this one now, and no other changes
-pub record Sets (n : ℕ) (q : Peer) (old new : Peers) : Type 0 where
-  pub keys : keys_of new ≡ keys_of old
-  pub others : (m : ℕ) → m ≢ n → peer_in m new ≡ peer_in m old
-  pub own : peer_in n new ≡ Some q
+-- the one of a number is this now, and no other changes
+pub record Sets {X : Type 0} (n : ℕ) (q : X) (old new : ℕ → Option X) : Type 0 where
+  pub others : (m : ℕ) → m ≢ n → new m ≡ old m
+  pub own : new n ≡ Some q
 
--- the peer of this number stands here, and here first
-pub record IsPlace (es : Peers) (n i : ℕ) : Type 0 where
-  pub within : i < length es
-  pub number : (d : ℕ) → slice_index_or (keys_of es) i d ≡ n
-  pub first : (k d : ℕ) → k < i → slice_index_or (keys_of es) k d ≢ n
-  pub value : peer_in n es ≡ slice_get (values_of es) i
-  pub sets : (q : Peer) → Sets n q es (set_value_at es i q)
+-- the connection of a number stands at a place, in each column
+pub record IsSeat (r : Router) (seat : Seat) : Type 0 where
+  pub entry : IsEntry r.outlets seat.number seat.place
+  pub within : seat.place < length r.peers.items
 
--- nothing came of it
-pub record IsFresh (p : Peer) : Type 0 where
-  pub stream : IsSomeAnd p.stream (λ held. Represents held nothing_fed)
-  pub out : p.out ≡ []
-  pub owned : p.owned ≡ None
-  pub asked : p.asked.items ≡ []
-  pub open_ : p.closing ≡ false
-  pub free : p.blocked ≡ false
+-- where connections stand, and how many peers there are
+abbrev pub places_of : Router → List ℕ × ℕ
+places_of r = (keys_of r.outlets, length r.peers.items)
 
--- what is read of the peer of a number
-abbrev pub read_in : {X : Type 0} → (Peer → X) → X → Option Peer → X
-read_in read none None = none
-read_in read none (Some p) = read p
+-- a connection of this number is there, and not closing
+abbrev pub is_open : Outlets → ℕ → Bool
+is_open es n = read_among (λ (o : Outlet). not o.closing) false es n
 
--- the stream of a peer is lent
-abbrev pub is_lent : Peer → Bool
-is_lent p = not (is_some p.stream)
+abbrev pub net_of : Option NetId → Option (List ℕ)
+net_of o = option_map (λ (net : NetId). net.bytes) o
 
-abbrev pub is_lent_in : ℕ → Peers → Bool
-is_lent_in n es = read_in is_lent false (peer_in n es)
+abbrev pub owned_of : Option Peer → Option NetId
+owned_of None = None
+owned_of (Some p) = p.owned
 
--- no stream is lent
-abbrev pub AreHere : Peers → Type 0
-AreHere es = (n : ℕ) → is_lent_in n es ≡ false
-
--- what a connection is offered: what is left of its first frame, unless it is blocked
-abbrev pub offer_of_peer : Peer → Option (List ℕ)
-offer_of_peer p = offer_of p.blocked p.out
-
-abbrev pub is_offered : Peer → Bool
-is_offered p = is_some (offer_of_peer p)
-
--- what is lent of a connection: the frames that wait for it, unless it is blocked
-abbrev pub run_of_peer : Peer → Option (List (List ℕ))
-run_of_peer p = run_of p.blocked p.out
-
--- how many frames wait for it, unless it is blocked
-abbrev pub offers_of_peer : Peer → ℕ
-offers_of_peer p = offers_of p.blocked p.out
+-- what the connection at a place owns, unless it is closing
+abbrev pub owned_at : Router → ℕ → Option NetId
+owned_at r i = if closing_at r.outlets i then None else owned_of (slice_get r.peers.items i)

@@ -10,10 +10,10 @@ use Rattle.ads_served.specs.Standing.{Standing, Noting}
 use Rattle.spec_relay.specs.RelayState.{RelayWorld, Owned, RelayState}
 use Rattle.spec_relay.specs.RelayMoves.{relay_after_event}
 use Rattle.spec_relay.specs.RelayPromises.{RelayKeepsPromisesAt}
+use Rattle.connections.specs.Carries.{IsStreamOf}
+use Rattle.connections.specs.Outlets.{offer_among, run_among, offers_among}
 use Rattle.ams_relay.specs.declared.router.Relay.{Relay}
-use Rattle.ams_relay.specs.declared.router.Router.{Router}
-use Rattle.ams_relay.specs.Holds.{Holds}
-use Rattle.ams_relay.specs.Peers.{AreHere, peer_in, read_in, offer_of_peer, run_of_peer, offers_of_peer}
+use Rattle.ams_relay.specs.Holds.{AreBeside, Holds}
 
 abbrev pub RelayStanding : Type 0
 RelayStanding = Standing RelayWorld Owned
@@ -24,9 +24,13 @@ RelayRunning = Running RelayWorld Owned
 abbrev pub running_after_event : RelayRunning → Event → RelayRunning
 running_after_event x e = running_after relay_after_event x (move.Event e)
 
--- a router stands for a running machine
-abbrev pub HoldsRunning : Router → RelayRunning → Type 0
-HoldsRunning r x = Holds r x.blocked x.state
+-- a relay stands for a state with these connections blocked: the router does, and each stream does for what came of its connection
+pub record StandsFor (relay : Relay) (blocked : List ℕ) (s : RelayState) : Type 0 where
+  pub holds : Holds relay.router blocked s
+  pub streams : AreBeside IsStreamOf relay.router.outlets relay.streams.items s.connections
+
+abbrev pub StandsRunning : Relay → RelayRunning → Type 0
+StandsRunning relay x = StandsFor relay x.blocked x.state
 
 -- a machine of which no connection is blocked, and nothing was noted
 abbrev pub standing_at_start : RelayState → RelayStanding
@@ -40,7 +44,7 @@ nothing_noted s e = []
 pub record StandsAt (relay : Relay) (x : RelayStanding) : Type 0 where
   pub working : relay.failed ≡ false
   pub holds : Holds relay.router x.running.blocked x.running.state
-  pub here : AreHere relay.router.peers.entries
+  pub streams : AreBeside IsStreamOf relay.router.outlets relay.streams.items x.running.state.connections
   pub notes : x.notes ≡ []
 
 -- after want of memory
@@ -49,15 +53,15 @@ HasFailed relay = relay.failed ≡ true
 
 -- what the relay offers to a connection
 abbrev pub offer_in : Relay → ℕ → Option (List ℕ)
-offer_in relay c = read_in offer_of_peer None (peer_in c relay.router.peers.entries)
+offer_in relay c = offer_among relay.router.outlets c
 
 -- the frames that the relay lends of a connection in one run
 abbrev pub run_in : Relay → ℕ → Option (List (List ℕ))
-run_in relay c = read_in run_of_peer None (peer_in c relay.router.peers.entries)
+run_in relay c = run_among relay.router.outlets c
 
 -- how many offers are left to a connection at most
 abbrev pub offers_in : Relay → ℕ → ℕ
-offers_in relay c = read_in offers_of_peer 0 (peer_in c relay.router.peers.entries)
+offers_in relay c = offers_among relay.router.outlets c
 
 -- behind the log of a wire there are further moves, which keep the promises of a relay over this description
 pub record LogsPromises (ended : End) (d : Description) (old : List Move) (new : Option (List Move)) : Type 0 where

@@ -1,5 +1,6 @@
 -- How a router takes the frames of a connection. No public clause cites this file.
-use Rattle.std.specs.Prelude.{◌≡◌, ◌≢◌, ℕ, List, [], length, Bool, true, false, not, ◌||◌, ◌==◌, is_some, Option, Some, None}
+use Rattle.std.specs.Prelude.{◌≡◌, ◌≢◌, ◌<◌, ℕ, List, [], length, Bool, true, false, not, ◌||◌, ◌==◌, is_some, Option, Some, None, option_map}
+use Rattle.std.specs.Prelude.{IsSomeAnd}
 use Rattle.spec_plant.specs.Rights.{rights_of}
 use Rattle.ams_tcp.specs.Held.{Held}
 use Rattle.ads_base.specs.declared.net_id.NetId.{NetId}
@@ -10,11 +11,14 @@ use Rattle.spec_relay.specs.RelayState.{Request, RelayConnection, RelayState, is
 use Rattle.spec_relay.specs.Requests.{requests_heard, is_answered_by, request_answered, without_first}
 use Rattle.spec_relay.specs.Routing.{at_connection, with_requests}
 use Rattle.spec_relay.specs.RelayMoves.{after_frames}
+use Rattle.connections.specs.Carries.{IsStreamOf}
+use Rattle.connections.specs.Outlets.{Outlets, closing_at}
 use Rattle.ams_relay.specs.declared.asked.Asked.{Asked}
-use Rattle.ams_relay.specs.declared.peer.Peer.{Peer}
+use Rattle.ams_relay.specs.declared.router.Relay.{Relay}
 use Rattle.ams_relay.specs.declared.router.Router.{Router}
-use Rattle.ams_relay.specs.Holds.{Owners, owner_in, IsStreamOf, Holds, net_of}
-use Rattle.ams_relay.specs.Peers.{Peers, peer_in, read_in, is_lent_in}
+use Rattle.ams_relay.specs.declared.seat.Seat.{Seat}
+use Rattle.ams_relay.specs.Holds.{Owners, owner_in, Holds}
+use Rattle.ams_relay.specs.Peers.{IsSeat, is_open, net_of, owned_at}
 
 -- a connection is there and not closing
 pub record IsHeardAt (c : ℕ) (k : RelayConnection) (s : RelayState) : Type 0 where
@@ -28,16 +32,20 @@ IsOpenedAt c s = connection_of c s.connections ≡ None → ⊥
 abbrev pub number_of : RelayConnection → ℕ
 number_of k = k.number
 
--- a peer is not closing, and owns a NetId
-pub record OwnsPeer (net : List ℕ) (p : Peer) : Type 0 where
-  pub open_ : p.closing ≡ false
-  pub owned : net_of p.owned ≡ Some net
+-- the connection of a number is there and not closing, and each column reaches to its place
+pub record IsHeardSeat (relay : Relay) (n : ℕ) (at : Seat) : Type 0 where
+  pub number : at.number ≡ n
+  pub seat : IsSeat relay.router at
+  pub stream : at.place < length relay.streams.items
+  pub open_ : closing_at relay.router.outlets at.place ≡ false
 
--- the peer of this number does
-pub record OwnsAt (n : ℕ) (net : List ℕ) (es : Peers) : Type 0 where
-  pub peer : Peer
-  pub found : peer_in n es ≡ Some peer
-  pub owns : OwnsPeer net peer
+-- a connection is not closing, and owns a NetId
+pub record IsOwnerSeat (r : Router) (net : List ℕ) (at : Seat) : Type 0 where
+  pub seat : IsSeat r at
+  pub owned : net_of (owned_at r at.place) ≡ Some net
+
+abbrev pub number_in : Option Seat → Option ℕ
+number_in o = option_map (λ (seat : Seat). seat.number) o
 
 -- the requests of connections that are closing or gone are dropped
 abbrev pub IsSwept : RelayState → Type 0
@@ -59,13 +67,14 @@ abbrev pub Spends : Option ℕ → ℕ → AmsHeader → Router → List ℕ →
 Spends None c h new b s = SpendsNone c h new b s
 Spends (Some asker) c h new b s = SpendsOne asker c h new b s
 
--- a peer that is not closing
-abbrev pub is_open : Peer → Bool
-is_open p = not p.closing
+-- whether one of this asker was
+abbrev pub SpendsAt : Bool → ℕ → ℕ → AmsHeader → Router → List ℕ → RelayState → Type 0
+SpendsAt true asker c h new b s = SpendsOne asker c h new b s
+SpendsAt false asker c h new b s = SpendsNone c h new b s
 
 -- a request whose asked is there and not closing
-abbrev pub is_asked_heard : Peers → Asked → Bool
-is_asked_heard es a = read_in is_open false (peer_in a.asked es)
+abbrev pub is_asked_heard : Outlets → Asked → Bool
+is_asked_heard es a = is_open es a.asked
 
 -- a NetId is free
 pub record Frees (net : List ℕ) (os ps : Owners) : Type 0 where
@@ -85,10 +94,6 @@ pub record Disowns (owned : Option NetId) (old new : Router) : Type 0 where
 abbrev pub is_refused : List ℕ → AmsHeader → RelayState → Bool
 is_refused payload h s = not (h.len == length payload) || not (is_some (rights_of h.source.net s.world.routes))
 
--- the streams of the same connections are lent
-abbrev pub KeepsStreams : Peers → Peers → Type 0
-KeepsStreams old new = (n : ℕ) → is_lent_in n new ≡ is_lent_in n old
-
 -- all frames of a connection that are left are taken, and a broken rest closes it
 abbrev pub packets_of : Option RelayConnection → List (List ℕ)
 packets_of None = []
@@ -97,14 +102,13 @@ packets_of (Some k) = packets_left k
 abbrev pub end_of_piece : ℕ → RelayState → RelayState
 end_of_piece c s = at_connection c after_rest (after_frames c (packets_of (connection_of c s.connections)) s)
 
--- a router stands for a state in which a connection is there, whose stream is lent
+-- a router stands for a state in which a connection is there, of which this is the stream
 pub record HoldsWith (c : ℕ) (held : Held) (r : Router) (b : List ℕ) (s : RelayState) : Type 0 where
   pub holds : Holds r b s
-  pub lent : is_lent_in c r.peers.entries ≡ true
   pub connection : RelayConnection
   pub found : connection_of c s.connections ≡ Some connection
   pub there : connection.gone ≡ false
-  pub stream : IsStreamOf connection held
+  pub stream : IsStreamOf held connection
 
 -- a frame was taken, and what is left leads to the same end
 pub record TakesOne (c : ℕ) (held : Held) (new : Router) (b : List ℕ) (s : RelayState) : Type 0 where

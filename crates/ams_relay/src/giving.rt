@@ -1,18 +1,18 @@
 //! Frames are given to connections.
 
-ghost use Rattle.std.specs.Prelude.{◌≡◌, ℕ, List, IfOk, OnOk};
-ghost use Rattle.spec_frames.specs.Frame.{IsAmsPacket};
+ghost use Rattle.std.specs.Prelude.{◌≡◌, ◌<◌, ℕ, List, length, IfOk, OnOk};
+ghost use Rattle.spec_frames.specs.Frame.{IsAmsPacket, header_bytes};
 ghost use Rattle.spec_machine.specs.Connection.{connection_of};
 ghost use Rattle.spec_relay.specs.RelayState.{RelayState};
 ghost use Rattle.spec_relay.specs.Routing.{given_to, has_room, framed, after_unknown, not_found_packet};
 ghost use Rattle.ams_header.specs.Header.{ams_header_of};
 ghost use Rattle.ams_relay.specs.Holds.{Holds};
-ghost use Rattle.ams_relay.specs.Taking.{KeepsStreams};
+ghost use Rattle.ams_relay.specs.Peers.{IsSeat, places_of};
 
 use crate::router::Router;
+use crate::seat::Seat;
 use ads_base::NoMemory;
 use ams_header::{Header, answer_of, put};
-use out_queue::Pushed;
 use return_codes::Code;
 use std::alloc::Global;
 
@@ -20,60 +20,73 @@ use std::alloc::Global;
 pub(crate) const DEVICE_NOTIFICATION: u16 = 8;
 
 impl Router {
-    /// The frame of a packet is given to a connection; one that has no room for it is closing. Whether it had. It is looked
-    /// for at the place `near` first, and the frame is from a connection that stood at the place `from`.
+    /// The frame of a packet is given to a connection; one that has no room for it is closing. Whether it had. The frame is
+    /// from a connection that stands at the place `from`.
     pub(crate) fn give(
         &mut self,
         alloc: Global,
-        number: u32,
-        near: usize,
+        to: Seat,
         from: usize,
         packet: &[u8],
     ) -> Result<bool, NoMemory>
-        requires { IsAmsPacket packet.now }
+        requires packet { IsAmsPacket packet.now }
+        requires seat { IsSeat self.old to }
         ensures follows { IfOk result (λ fitted. (b : List ℕ) (s : RelayState) → Holds self.old b s
-            → (fitted ≡ has_room (framed packet.now) (connection_of number s.connections)) × Holds self.new b (given_to number packet.now s)) }
-        ensures streams { KeepsStreams self.old.peers.entries self.new.peers.entries }
+            → (fitted ≡ has_room (framed packet.now) (connection_of to.number s.connections)) × Holds self.new b (given_to to.number packet.now s)) }
+        ensures places { places_of self.new ≡ places_of self.old }
     {
-        let Some(i) = self.place_near(near, number) else {
-            return Ok(false);
-        };
-        if self.peers[i].closing {
+        if self.outlets.is_closing(to.place) {
             return Ok(false);
         }
-        match self.peers[i].push(alloc, from, packet)? {
-            Pushed::Done => {
-                self.touched = self.touched.with(number);
-                Ok(true)
-            }
-            Pushed::Over => {
-                self.close(number);
-                Ok(false)
-            }
+        let header = frame_header(packet);
+        let fitted = self.outlets.give_parts(alloc, to.place, &header, packet)?;
+        if fitted {
+            self.note_near(to.place, from);
+            return Ok(true);
+        }
+        let owned = self.peers[to.place].owned;
+        self.disown(owned);
+        Ok(false)
+    }
+
+    // The next frame of the connection at a place is likely for the one at the other.
+    fn note_near(&mut self, place: usize, near: usize)
+        ensures { self.new ≡ record self.old { nears = self.new.nears } }
+    {
+        if let Some(it) = self.nears.get_mut(place) {
+            *it = near;
         }
     }
 
-    /// The target of a frame was not found: its sender, which stood at a place, is told so, where it has room; a notification
-    /// is not answered.
+    /// The target of a frame was not found: its sender is told so, where it has room; a notification is not answered.
     pub(crate) fn tell_unknown(
         &mut self,
         alloc: Global,
-        number: u32,
-        at: usize,
+        from: Seat,
         h: &Header,
     ) -> Result<(), NoMemory>
+        requires { IsSeat self.old from }
         ensures follows { OnOk result ((b : List ℕ) (s : RelayState) → Holds self.old b s
-            → Holds self.new b (after_unknown number (ams_header_of h.now) s)) }
-        ensures streams { KeepsStreams self.old.peers.entries self.new.peers.entries }
+            → Holds self.new b (after_unknown from.number (ams_header_of h.now) s)) }
+        ensures places { places_of self.new ≡ places_of self.old }
     {
         self.counts.count_unknown();
         if h.command == DEVICE_NOTIFICATION {
             return Ok(());
         }
         let packet = not_found(h);
-        let _ = self.give(alloc, number, at, at, packet.as_slice())?;
+        let _ = self.give(alloc, from, from.place, packet.as_slice())?;
         Ok(())
     }
+}
+
+// What stands before an AMS packet.
+fn frame_header(packet: &[u8]) -> [u8; 6]
+    requires { IsAmsPacket packet.now }
+    ensures { result ≡ header_bytes packet.now }
+{
+    let len = (packet.len() as u32).to_le_bytes();
+    [0, 0, len[0], len[1], len[2], len[3]]
 }
 
 // The packet that tells a sender that the target machine was not found.

@@ -3,19 +3,17 @@
 
 mod asked;
 mod counts;
-mod dues;
 mod ends;
 mod giving;
-mod moves;
 mod owners;
 mod peer;
 mod relaying;
 mod remembering;
 mod router;
 mod routing;
+mod seat;
 mod serving;
 mod taking;
-mod touched;
 
 pub use counts::RelaySummary;
 pub use relaying::relay;

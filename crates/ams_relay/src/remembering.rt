@@ -1,8 +1,7 @@
 //! The requests that wait for a response, each in the queue of its asker.
 
-ghost use Rattle.std.specs.Prelude.{◌≡◌, ◌<◌, ◌==◌, ◌++◌, ℕ, List, [], ◌∷◌, length, remove, position};
-ghost use Rattle.std.specs.Prelude.{filter, slice_get, if◌then◌else◌, false, IsTrue, IfOk, OnOk, Some};
-ghost use Rattle.std.specs.Map.{values_of};
+ghost use Rattle.std.specs.Prelude.{◌≡◌, ◌<◌, ◌==◌, ◌++◌, ℕ, List, ◌∷◌, [], length, remove, position};
+ghost use Rattle.std.specs.Prelude.{filter, slice_get, if◌then◌else◌, false, IsTrue, IfOk, IfSome, OnOk, Some};
 ghost use Rattle.spec_formats.specs.Commands.{DEVICE_NOTIFICATION};
 ghost use Rattle.ams_header.specs.Header.{ams_header_of};
 ghost use Rattle.spec_relay.specs.RelayState.{RelayState, RelayConnection};
@@ -10,13 +9,14 @@ ghost use Rattle.spec_relay.specs.Requests.{is_answered_by, MAX_REQUESTS as MOST
 ghost use Rattle.spec_relay.specs.Routing.{with_request_of};
 ghost use Rattle.ams_relay.specs.Asking.{request_of, with_room};
 ghost use Rattle.ams_relay.specs.Holds.{Holds, owner_in};
-ghost use Rattle.ams_relay.specs.Peers.{IsPlace, peer_in, read_in};
-ghost use Rattle.ams_relay.specs.Taking.{IsHeardAt, IsOpenedAt, IsSwept, Spends, is_asked_heard, is_open, KeepsStreams};
+ghost use Rattle.ams_relay.specs.Peers.{IsSeat, is_open, places_of};
+ghost use Rattle.ams_relay.specs.Taking.{IsHeardAt, IsOpenedAt, IsSwept, Spends, SpendsAt, is_asked_heard, number_in};
 
 use crate::asked::{Asked, asked_by};
 use crate::giving::DEVICE_NOTIFICATION;
 use crate::peer::Peer;
 use crate::router::Router;
+use crate::seat::Seat;
 use ads_base::NoMemory;
 use ams_header::Header;
 use std::alloc::Global;
@@ -26,106 +26,80 @@ use std::collections::VecDeque;
 const MAX_REQUESTS: usize = 4096;
 
 impl Router {
-    /// The oldest request that a response of a connection answers waits no more: its asker, which is looked for at a place
-    /// first.
-    pub(crate) fn spend(&mut self, conn: u32, near: usize, h: &Header) -> Option<u32>
-        ensures spends { (b : List ℕ) (s : RelayState) (k : RelayConnection) → Holds self.old b s → IsHeardAt conn k s → IsSwept s
-            → Spends result conn (ams_header_of h.now) self.new b s }
-        ensures streams { KeepsStreams self.old.peers.entries self.new.peers.entries }
+    /// The oldest request that a response of a connection answers waits no more: its asker.
+    pub(crate) fn spend(&mut self, from: Seat, h: &Header) -> Option<Seat>
+        ensures spends { (b : List ℕ) (s : RelayState) (k : RelayConnection) → Holds self.old b s → IsHeardAt from.number k s → IsSwept s
+            → Spends (number_in result) from.number (ams_header_of h.now) self.new b s }
+        ensures seat { IfSome result (IsSeat self.new) }
+        ensures places { places_of self.new ≡ places_of self.old }
     {
-        let Some(asker) = self.owner_near(near, h.target.net) else {
+        let Some(asker) = self.owner_near(self.near_of(from.place), h.target.net) else {
             return None;
         };
-        self.spend_of(asker, near, conn, h)
+        if self.spend_of(asker, from.number, h) {
+            Some(asker)
+        } else {
+            None
+        }
     }
 
-    // The same, of the owner of its target.
-    fn spend_of(&mut self, asker: u32, near: usize, conn: u32, h: &Header) -> Option<u32>
+    // The same, of the owner of its target. Whether there was one.
+    fn spend_of(&mut self, asker: Seat, conn: u32, h: &Header) -> bool
+        requires { IsSeat self.old asker }
         ensures spends { (b : List ℕ) (s : RelayState) (k : RelayConnection) → Holds self.old b s → IsHeardAt conn k s → IsSwept s
-            → owner_in h.now.target.net.bytes self.old.owners.entries ≡ Some asker → Spends result conn (ams_header_of h.now) self.new b s }
-        ensures streams { KeepsStreams self.old.peers.entries self.new.peers.entries }
+            → owner_in h.now.target.net.bytes self.old.owners.entries ≡ Some asker.number
+            → SpendsAt result asker.number conn (ams_header_of h.now) self.new b s }
+        ensures places { places_of self.new ≡ places_of self.old }
     {
-        let Some(i) = self.place_near(near, asker) else {
-            return None;
+        let Some(at) = answered_at(&self.peers[asker.place].asked, conn, h) else {
+            return false;
         };
-        self.spend_at(i, asker, conn, h)
+        take_at(&mut self.peers[asker.place].asked, at);
+        true
     }
 
-    // The same, at its place.
-    fn spend_at(&mut self, i: usize, asker: u32, conn: u32, h: &Header) -> Option<u32>
-        requires { IsPlace self.old.peers.entries asker i }
-        ensures spends { (b : List ℕ) (s : RelayState) (k : RelayConnection) → Holds self.old b s → IsHeardAt conn k s → IsSwept s
-            → owner_in h.now.target.net.bytes self.old.owners.entries ≡ Some asker → Spends result conn (ams_header_of h.now) self.new b s }
-        ensures streams { KeepsStreams self.old.peers.entries self.new.peers.entries }
-    {
-        let Some(at) = answered_at(&self.peers[i].asked, conn, h) else {
-            return None;
-        };
-        take_at(&mut self.peers[i].asked, at);
-        Some(asker)
-    }
-
-    /// A request that was passed on waits for its response; a notification for none. Of one asker, which stood at a place,
-    /// the last 4,096 wait.
+    /// A request that was passed on waits for its response; a notification for none. Of one asker the last 4,096 wait.
     pub(crate) fn remember(
         &mut self,
         alloc: Global,
-        conn: u32,
-        at: usize,
+        from: Seat,
         target: u32,
         h: &Header,
     ) -> Result<(), NoMemory>
-        ensures follows { OnOk result ((b : List ℕ) (s : RelayState) (k : RelayConnection) → Holds self.old b s → IsHeardAt conn k s → IsSwept s
-            → k.client ≡ Some h.now.source.net.bytes → IsOpenedAt target s → Holds self.new b (with_request_of conn target (ams_header_of h.now) s)) }
-        ensures streams { KeepsStreams self.old.peers.entries self.new.peers.entries }
+        requires { IsSeat self.old from }
+        ensures follows { OnOk result ((b : List ℕ) (s : RelayState) (k : RelayConnection) → Holds self.old b s → IsHeardAt from.number k s → IsSwept s
+            → k.client ≡ Some h.now.source.net.bytes → IsOpenedAt target s
+            → Holds self.new b (with_request_of from.number target (ams_header_of h.now) s)) }
+        ensures places { places_of self.new ≡ places_of self.old }
     {
         if h.command == DEVICE_NOTIFICATION {
             return Ok(());
         }
-        let Some(i) = self.place_near(at, conn) else {
-            return Ok(());
-        };
-        self.remember_at(alloc, i, conn, target, h)
-    }
-
-    // The same of a request, whose asker stands at a place.
-    fn remember_at(
-        &mut self,
-        alloc: Global,
-        i: usize,
-        conn: u32,
-        target: u32,
-        h: &Header,
-    ) -> Result<(), NoMemory>
-        requires { IsPlace self.old.peers.entries conn i }
-        ensures follows { OnOk result ((b : List ℕ) (s : RelayState) (k : RelayConnection) → Holds self.old b s → IsHeardAt conn k s → IsSwept s
-            → k.client ≡ Some h.now.source.net.bytes → IsOpenedAt target s → (h.now.command == DEVICE_NOTIFICATION) ≡ false
-            → Holds self.new b (with_request_of conn target (ams_header_of h.now) s)) }
-        ensures streams { KeepsStreams self.old.peers.entries self.new.peers.entries }
-    {
-        if self.has_room(i) {
-            return self.push_asked(i, conn, target, h);
+        if self.has_room(from.place) {
+            return self.push_asked(from, target, h);
         }
-        self.push_among_heard(alloc, i, conn, target, h)
+        self.push_among_heard(alloc, from, target, h)
     }
 
     // Whether there is room for one more.
-    fn has_room(&self, i: usize) -> bool
-        requires { i < length self.now.peers.entries }
-        ensures { (p : Peer) → slice_get (values_of self.now.peers.entries) i ≡ Some p → IsTrue result → length p.asked.items < MOST }
+    fn has_room(&self, place: usize) -> bool
+        requires { place < length self.now.peers.items }
+        ensures { (p : Peer) → slice_get self.now.peers.items place ≡ Some p → IsTrue result → length p.asked.items < MOST }
     {
-        self.peers[i].asked.len() < MAX_REQUESTS
+        self.peers[place].asked.len() < MAX_REQUESTS
     }
 
-    fn push_asked(&mut self, i: usize, conn: u32, target: u32, h: &Header) -> Result<(), NoMemory>
-        requires { IsPlace self.old.peers.entries conn i }
-        ensures follows { OnOk result ((b : List ℕ) (s : RelayState) (k : RelayConnection) → Holds self.old b s → IsHeardAt conn k s → IsSwept s
+    fn push_asked(&mut self, from: Seat, target: u32, h: &Header) -> Result<(), NoMemory>
+        requires { IsSeat self.old from }
+        ensures follows { OnOk result ((b : List ℕ) (s : RelayState) (k : RelayConnection) → Holds self.old b s → IsHeardAt from.number k s → IsSwept s
             → k.client ≡ Some h.now.source.net.bytes → IsOpenedAt target s → (h.now.command == DEVICE_NOTIFICATION) ≡ false
-            → ((p : Peer) → peer_in conn self.old.peers.entries ≡ Some p → length p.asked.items < MOST)
-            → Holds self.new b (with_request_of conn target (ams_header_of h.now) s)) }
-        ensures streams { KeepsStreams self.old.peers.entries self.new.peers.entries }
+            → ((p : Peer) → slice_get self.old.peers.items from.place ≡ Some p → length p.asked.items < MOST)
+            → Holds self.new b (with_request_of from.number target (ams_header_of h.now) s)) }
+        ensures places { places_of self.new ≡ places_of self.old }
     {
-        self.peers[i].asked.push_back(asked_by(target, h))?;
+        self.peers[from.place]
+            .asked
+            .push_back(asked_by(target, h))?;
         Ok(())
     }
 
@@ -133,27 +107,26 @@ impl Router {
     fn push_among_heard(
         &mut self,
         alloc: Global,
-        i: usize,
-        conn: u32,
+        from: Seat,
         target: u32,
         h: &Header,
     ) -> Result<(), NoMemory>
-        requires { IsPlace self.old.peers.entries conn i }
-        ensures follows { OnOk result ((b : List ℕ) (s : RelayState) (k : RelayConnection) → Holds self.old b s → IsHeardAt conn k s → IsSwept s
+        requires { IsSeat self.old from }
+        ensures follows { OnOk result ((b : List ℕ) (s : RelayState) (k : RelayConnection) → Holds self.old b s → IsHeardAt from.number k s → IsSwept s
             → k.client ≡ Some h.now.source.net.bytes → IsOpenedAt target s → (h.now.command == DEVICE_NOTIFICATION) ≡ false
-            → Holds self.new b (with_request_of conn target (ams_header_of h.now) s)) }
-        ensures streams { KeepsStreams self.old.peers.entries self.new.peers.entries }
+            → Holds self.new b (with_request_of from.number target (ams_header_of h.now) s)) }
+        ensures places { places_of self.new ≡ places_of self.old }
     {
-        let mut kept = self.heard_of(alloc, &self.peers[i].asked)?;
+        let mut kept = self.heard_of(alloc, &self.peers[from.place].asked)?;
         drop_oldest(&mut kept);
         kept.push_back(asked_by(target, h))?;
-        self.peers[i].asked = kept;
+        self.peers[from.place].asked = kept;
         Ok(())
     }
 
     // Those of connections that are closing or gone are let go.
     fn heard_of(&self, alloc: Global, asked: &VecDeque<Asked>) -> Result<VecDeque<Asked>, NoMemory>
-        ensures { IfOk result (λ kept. kept.items ≡ filter (is_asked_heard self.now.peers.entries) asked.now.items) }
+        ensures { IfOk result (λ kept. kept.items ≡ filter (is_asked_heard self.now.outlets) asked.now.items) }
     {
         let mut kept = VecDeque::new(alloc);
         for i in 0..asked.len() {
@@ -165,7 +138,7 @@ impl Router {
     // One more, where its asked is there and not closing.
     fn keep_heard(&self, a: Asked, kept: &mut VecDeque<Asked>) -> Result<(), NoMemory>
         ensures { OnOk result (kept.new.items
-            ≡ (if is_asked_heard self.now.peers.entries a then kept.old.items ++ a ∷ [] else kept.old.items)) }
+            ≡ (if is_asked_heard self.now.outlets a then kept.old.items ++ a ∷ [] else kept.old.items)) }
     {
         if !self.is_open(a.asked) {
             return Ok(());
@@ -176,10 +149,10 @@ impl Router {
 
     // Whether a connection is there and not closing.
     fn is_open(&self, number: u32) -> bool
-        ensures { result ≡ read_in is_open false (peer_in number self.now.peers.entries) }
+        ensures { result ≡ is_open self.now.outlets number }
     {
-        match self.place_of(number) {
-            Some(i) => !self.peers[i].closing,
+        match self.outlets.place_of(number) {
+            Some(place) => !self.outlets.is_closing(place),
             None => false,
         }
     }

@@ -9,55 +9,53 @@ ghost use Rattle.spec_relay.specs.Ways.{is_closed_by, way_of_response, way_of_re
 ghost use Rattle.spec_relay.specs.Routing.{after_header, after_way, with_passed, with_request_of};
 ghost use Rattle.ams_header.specs.Header.{ams_header_of};
 ghost use Rattle.ams_relay.specs.Holds.{Holds};
-ghost use Rattle.ams_relay.specs.Taking.{IsHeardAt, IsOpenedAt, IsSwept, KeepsStreams, is_refused, number_of};
+ghost use Rattle.ams_relay.specs.Peers.{IsSeat, places_of};
+ghost use Rattle.ams_relay.specs.Taking.{IsHeardAt, IsOpenedAt, IsSwept, is_refused, number_of};
 
 use crate::router::Router;
+use crate::seat::Seat;
 use ads_base::NoMemory;
 use ams_header::{Header, read};
 use std::alloc::Global;
 
 impl Router {
-    /// A packet of a connection, which is there and not closing, goes its way. The connection stands at a place.
-    pub(crate) fn pass(
-        &mut self,
-        alloc: Global,
-        conn: u32,
-        at: usize,
-        packet: &[u8],
-    ) -> Result<(), NoMemory>
-        requires { IsAmsPacket packet.now }
-        ensures follows { OnOk result ((b : List ℕ) (s : RelayState) (k : RelayConnection) → Holds self.old b s → IsHeardAt conn k s → IsSwept s
-            → Holds self.new b (after_header conn packet.now k s (header_of packet.now))) }
-        ensures streams { KeepsStreams self.old.peers.entries self.new.peers.entries }
+    /// A packet of a connection, which is there and not closing, goes its way.
+    pub(crate) fn pass(&mut self, alloc: Global, from: Seat, packet: &[u8]) -> Result<(), NoMemory>
+        requires packet { IsAmsPacket packet.now }
+        requires seat { IsSeat self.old from }
+        ensures follows { OnOk result ((b : List ℕ) (s : RelayState) (k : RelayConnection) → Holds self.old b s → IsHeardAt from.number k s → IsSwept s
+            → Holds self.new b (after_header from.number packet.now k s (header_of packet.now))) }
+        ensures places { places_of self.new ≡ places_of self.old }
     {
         let Some((h, payload)) = read(packet) else {
             return Ok(());
         };
-        if self.is_closed_by(conn, at, &h, payload) {
-            self.close(conn);
+        if self.is_closed_by(from, &h, payload) {
+            self.close(from);
             return Ok(());
         }
-        self.own(alloc, conn, at, h.source.net)?;
+        self.own(alloc, from, h.source.net)?;
         if is_response(&h) {
-            self.pass_response(alloc, conn, at, &h, packet)
+            self.pass_response(alloc, from, &h, packet)
         } else {
-            self.pass_request(alloc, conn, at, &h, packet)
+            self.pass_request(alloc, from, &h, packet)
         }
     }
 
     // The first three checks: the data length, the route of the source, and its owner.
-    fn is_closed_by(&self, conn: u32, at: usize, h: &Header, payload: &[u8]) -> bool
-        ensures { (b : List ℕ) (s : RelayState) (k : RelayConnection) → Holds self.now b s → IsHeardAt conn k s
+    fn is_closed_by(&self, from: Seat, h: &Header, payload: &[u8]) -> bool
+        requires { IsSeat self.now from }
+        ensures { (b : List ℕ) (s : RelayState) (k : RelayConnection) → Holds self.now b s → IsHeardAt from.number k s
             → result ≡ is_closed_by payload.now (ams_header_of h.now) k s }
     {
         // Whoever owns a NetId has a route, which a relay never loses; so routes are asked at its first frame alone.
-        if self.owns(conn, at, h.source.net) {
+        if self.owns(from, h.source.net) {
             return h.len as usize != payload.len();
         }
         if self.is_refused(h, payload) {
             return true;
         }
-        self.is_taken(conn, at, h.source.net)
+        self.is_taken(from, h.source.net)
     }
 
     // The first two: the data length and the route of the source.
@@ -71,22 +69,21 @@ impl Router {
     fn pass_response(
         &mut self,
         alloc: Global,
-        conn: u32,
-        at: usize,
+        from: Seat,
         h: &Header,
         packet: &[u8],
     ) -> Result<(), NoMemory>
-        requires { IsAmsPacket packet.now }
-        ensures follows { OnOk result ((b : List ℕ) (s : RelayState) (k : RelayConnection) → Holds self.old b s → IsHeardAt conn k s → IsSwept s
-            → Holds self.new b (after_way conn (ams_header_of h.now) packet.now
-            (way_of_response (request_answered conn (ams_header_of h.now) s.world.requests)) s)) }
-        ensures streams { KeepsStreams self.old.peers.entries self.new.peers.entries }
+        requires packet { IsAmsPacket packet.now }
+        requires seat { IsSeat self.old from }
+        ensures follows { OnOk result ((b : List ℕ) (s : RelayState) (k : RelayConnection) → Holds self.old b s → IsHeardAt from.number k s → IsSwept s
+            → Holds self.new b (after_way from.number (ams_header_of h.now) packet.now
+            (way_of_response (request_answered from.number (ams_header_of h.now) s.world.requests)) s)) }
+        ensures places { places_of self.new ≡ places_of self.old }
     {
-        let near = self.near_of(at);
-        let Some(asker) = self.spend(conn, near, h) else {
+        let Some(asker) = self.spend(from, h) else {
             return Ok(());
         };
-        let fitted = self.give(alloc, asker, near, at, packet)?;
+        let fitted = self.give(alloc, asker, from.place, packet)?;
         if fitted {
             self.counts.count_passed();
         }
@@ -97,20 +94,21 @@ impl Router {
     fn pass_request(
         &mut self,
         alloc: Global,
-        conn: u32,
-        at: usize,
+        from: Seat,
         h: &Header,
         packet: &[u8],
     ) -> Result<(), NoMemory>
-        requires { IsAmsPacket packet.now }
-        ensures follows { OnOk result ((b : List ℕ) (s : RelayState) (k : RelayConnection) → Holds self.old b s → IsHeardAt conn k s → IsSwept s
+        requires packet { IsAmsPacket packet.now }
+        requires seat { IsSeat self.old from }
+        ensures follows { OnOk result ((b : List ℕ) (s : RelayState) (k : RelayConnection) → Holds self.old b s → IsHeardAt from.number k s → IsSwept s
             → k.client ≡ Some h.now.source.net.bytes
-            → Holds self.new b (after_way conn (ams_header_of h.now) packet.now (way_of_request (owner_of h.now.target.net.bytes s.connections)) s)) }
-        ensures streams { KeepsStreams self.old.peers.entries self.new.peers.entries }
+            → Holds self.new b (after_way from.number (ams_header_of h.now) packet.now
+            (way_of_request (owner_of h.now.target.net.bytes s.connections)) s)) }
+        ensures places { places_of self.new ≡ places_of self.old }
     {
-        match self.owner_near(self.near_of(at), h.target.net) {
-            Some(target) => self.pass_to(alloc, conn, at, target, h, packet),
-            None => self.tell_unknown(alloc, conn, at, h),
+        match self.owner_near(self.near_of(from.place), h.target.net) {
+            Some(target) => self.pass_to(alloc, from, target, h, packet),
+            None => self.tell_unknown(alloc, from, h),
         }
     }
 
@@ -118,51 +116,49 @@ impl Router {
     fn pass_to(
         &mut self,
         alloc: Global,
-        conn: u32,
-        at: usize,
-        target: u32,
+        from: Seat,
+        target: Seat,
         h: &Header,
         packet: &[u8],
     ) -> Result<(), NoMemory>
-        requires { IsAmsPacket packet.now }
-        ensures follows { OnOk result ((b : List ℕ) (s : RelayState) (k : RelayConnection) → Holds self.old b s → IsHeardAt conn k s → IsSwept s
-            → k.client ≡ Some h.now.source.net.bytes → Some target ≡ option_map number_of (owner_of h.now.target.net.bytes s.connections)
-            → Holds self.new b (after_way conn (ams_header_of h.now) packet.now (way_of_request (owner_of h.now.target.net.bytes s.connections)) s)) }
-        ensures streams { KeepsStreams self.old.peers.entries self.new.peers.entries }
+        requires packet { IsAmsPacket packet.now }
+        requires seat { IsSeat self.old from }
+        requires target { IsSeat self.old target }
+        ensures follows { OnOk result ((b : List ℕ) (s : RelayState) (k : RelayConnection) → Holds self.old b s → IsHeardAt from.number k s → IsSwept s
+            → k.client ≡ Some h.now.source.net.bytes → Some target.number ≡ option_map number_of (owner_of h.now.target.net.bytes s.connections)
+            → Holds self.new b (after_way from.number (ams_header_of h.now) packet.now
+            (way_of_request (owner_of h.now.target.net.bytes s.connections)) s)) }
+        ensures places { places_of self.new ≡ places_of self.old }
     {
-        let near = self.near_of(at);
-        let fitted = self.give(alloc, target, near, at, packet)?;
+        let fitted = self.give(alloc, target, from.place, packet)?;
         if fitted {
-            return self.ask(alloc, conn, at, target, h);
+            return self.ask(alloc, from, target.number, h);
         }
-        self.tell_unknown(alloc, conn, at, h)
+        self.tell_unknown(alloc, from, h)
     }
 
     // It was passed on, and its response is waited for.
     fn ask(
         &mut self,
         alloc: Global,
-        conn: u32,
-        at: usize,
+        from: Seat,
         target: u32,
         h: &Header,
     ) -> Result<(), NoMemory>
-        ensures follows { OnOk result ((b : List ℕ) (s : RelayState) (k : RelayConnection) → Holds self.old b s → IsHeardAt conn k s → IsSwept s
+        requires { IsSeat self.old from }
+        ensures follows { OnOk result ((b : List ℕ) (s : RelayState) (k : RelayConnection) → Holds self.old b s → IsHeardAt from.number k s → IsSwept s
             → k.client ≡ Some h.now.source.net.bytes → IsOpenedAt target s
-            → Holds self.new b (with_passed (with_request_of conn target (ams_header_of h.now) s))) }
-        ensures streams { KeepsStreams self.old.peers.entries self.new.peers.entries }
+            → Holds self.new b (with_passed (with_request_of from.number target (ams_header_of h.now) s))) }
+        ensures places { places_of self.new ≡ places_of self.old }
     {
-        self.remember(alloc, conn, at, target, h)?;
+        self.remember(alloc, from, target, h)?;
         self.counts.count_passed();
         Ok(())
     }
 
-    // Where the connection stood that gave a frame last to the one at a place: it is asked first. No clause speaks of it.
-    fn near_of(&self, at: usize) -> usize {
-        match self.peers.get_index(at) {
-            Some((_, peer)) => peer.near,
-            None => 0,
-        }
+    /// Where the connection stood that gave a frame last to the one at a place: it is asked first. No clause speaks of it.
+    pub(crate) fn near_of(&self, place: usize) -> usize {
+        self.nears.get(place).copied().unwrap_or(0)
     }
 }
 

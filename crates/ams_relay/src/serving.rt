@@ -1,15 +1,12 @@
 //! The relay as what a loop serves.
 
-ghost use Rattle.std.specs.Prelude.{◌≡◌, ℕ, List, OnOk};
+ghost use Rattle.std.specs.Prelude.{◌≡◌, OnOk};
 ghost use Rattle.ads_outside.specs.declared.moves.Move.TheVariants as move;
 ghost use Rattle.spec_machine.specs.Running.{OpensNew};
-ghost use Rattle.ams_relay.specs.Peers.{AreHere};
-ghost use Rattle.ams_relay.specs.Relays.{RelayRunning, HoldsRunning, running_after_event};
-ghost use Rattle.ams_relay.specs.Touched.{AreDue};
+ghost use Rattle.ams_relay.specs.Relays.{RelayRunning, StandsRunning, running_after_event};
 
 use crate::Relay;
-use crate::router::Router;
-use ads_base::{ListOf, NoMemory};
+use ads_base::NoMemory;
 use ads_outside::Event;
 use ads_served::Served;
 use std::alloc::Global;
@@ -48,7 +45,7 @@ impl Served for Relay {
         if self.failed {
             return Err(NoMemory);
         }
-        match self.router.take_event(alloc, event) {
+        match self.take_event(alloc, event) {
             Ok(()) => Ok(()),
             Err(NoMemory) => {
                 self.failed = true;
@@ -57,9 +54,9 @@ impl Served for Relay {
         }
     }
 
-    fn due(&mut self, alloc: Global) -> Result<ListOf<u32>, NoMemory> {
-        match self.router.due(alloc) {
-            Ok(numbers) => Ok(numbers),
+    fn due(&mut self, alloc: Global, numbers: &mut Vec<u32>) -> Result<(), NoMemory> {
+        match self.router.outlets.due(alloc, numbers) {
+            Ok(()) => Ok(()),
             Err(NoMemory) => {
                 self.failed = true;
                 Err(NoMemory)
@@ -68,52 +65,43 @@ impl Served for Relay {
     }
 
     fn offer_of(&self, conn: u32) -> Option<&[u8]> {
-        self.router.offer_of(conn)
+        self.router.outlets.offer_of(conn)
     }
 
     fn took(&mut self, conn: u32, n: u32) {
-        self.router.took(conn, n);
+        self.router.outlets.took(conn, n);
     }
 
     fn run_of(&self, conn: u32) -> Option<&[u8]> {
-        self.router.run_of(conn)
+        self.router.outlets.run_of(conn)
     }
 
     fn took_run(&mut self, conn: u32) {
-        self.router.took_run(conn);
+        self.router.outlets.took_run(conn);
     }
 
     fn closing(&self, conn: u32) -> bool {
-        self.router.closing(conn)
+        self.router.outlets.is_to_be_shut(conn)
     }
 
     fn remove(&mut self, conn: u32) {
-        self.router.end(conn);
+        self.end(conn);
     }
 
-    ghost apart = { λ m x s. s.holds.peers.apart };
+    ghost apart = { λ m x s. s.holds.outlets.apart };
 
     ghost opens_alone = { relay_opens_alone };
 }
 
-impl Router {
-    // An event is taken. A tick and a reload change nothing.
+impl Relay {
+    // An event is taken. A tick and a reload change nothing. First those are forgotten that were touched and are idle by now:
+    // an event costs what it touches, and not what was served before it.
     fn take_event(&mut self, alloc: Global, event: &Event) -> Result<(), NoMemory>
-        ensures follows { OnOk result ((x : RelayRunning) → AreHere self.old.peers.entries → HoldsRunning self.old x → OpensNew x event.now
-            → HoldsRunning self.new (running_after_event x event.now)) }
-        ensures here { OnOk result (AreHere self.old.peers.entries → AreHere self.new.peers.entries) }
+        ensures follows { OnOk result ((x : RelayRunning) → StandsRunning self.old x → OpensNew x event.now
+            → StandsRunning self.new (running_after_event x event.now)) }
+        ensures failed { self.new.failed ≡ self.old.failed }
     {
-        self.settle();
-        self.take_settled(alloc, event)
-    }
-
-    // The same, once it is known which connections are idle: an event costs what it touches, and not what was served before it.
-    fn take_settled(&mut self, alloc: Global, event: &Event) -> Result<(), NoMemory>
-        requires settled { AreDue self.old.touched self.old.peers.entries }
-        ensures follows { OnOk result ((x : RelayRunning) → AreHere self.old.peers.entries → HoldsRunning self.old x → OpensNew x event.now
-            → HoldsRunning self.new (running_after_event x event.now)) }
-        ensures here { OnOk result (AreHere self.old.peers.entries → AreHere self.new.peers.entries) }
-    {
+        self.router.outlets.settle();
         match event {
             Event::Opened(number) => self.open(alloc, *number),
             Event::Piece(number, bytes) => self.piece(alloc, *number, bytes.as_slice()),
@@ -122,7 +110,7 @@ impl Router {
                 Ok(())
             }
             Event::Writable(number) => {
-                self.writable(*number);
+                self.router.outlets.free(*number);
                 Ok(())
             }
             Event::Tick(_) => Ok(()),

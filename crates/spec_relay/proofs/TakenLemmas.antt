@@ -294,6 +294,24 @@ piece-own c piece s f = go (connection_of c s.connections) refl
           })
     ]
 
+-- a piece of another connection leaves what came of one, and how many of its frames were taken
+piece-leaves : (n d : ℕ) (piece : List ℕ) (k : RelayConnection) (s : RelayState) → n ≢ d
+    → progress_at d (at_connection n after_rest (after_frames n (packets_left (with_received piece k)) (at_connection n (with_received piece) s)))
+    ≡ progress_at d s
+piece-leaves n d piece k s ne =
+    let packets = packets_left (with_received piece k) in
+    let u = at_connection n (with_received piece) s in
+    change-keeps progress n d after_rest rest-number rest-progress (after_frames n packets u) ∙ (frames-other n d packets u ne).0
+    ∙ ap progress (changed-other n d (with_received piece) (λ l. refl) ne s)
+
+pub piece-progress : (n d : ℕ) (piece : List ℕ) (s : RelayState) → n ≢ d
+    → progress_at d (after_piece_of n piece s (connection_of n s.connections)) ≡ progress_at d s
+piece-progress n d piece s ne = go (connection_of n s.connections)
+  where
+    go : (o : Option RelayConnection) → progress_at d (after_piece_of n piece s o) ≡ progress_at d s
+    go None = refl
+    go (Some k) = elim (cases_Bool (is_deaf k)) [ inl t ↦ rw t refl | inr t ↦ rw t (piece-leaves n d piece k s ne) ]
+
 piece-other : (n c : ℕ) (piece : List ℕ) (s : RelayState) → n ≢ c → Fits (progress_at c s)
     → Takes c s (after_piece_of n piece s (connection_of n s.connections)) (passages_of_piece n piece s (connection_of n s.connections))
 piece-other n c piece s ne f = go (connection_of n s.connections)
@@ -306,10 +324,7 @@ piece-other n c piece s ne f = go (connection_of n s.connections)
           let packets = packets_left (with_received piece k) in
           let u = at_connection n (with_received piece) s in
           let v = after_frames n packets u in
-          let others = frames-other n c packets u ne in
-          rw t (takes-same c s (at_connection n after_rest v) (passages_of_frames n packets u)
-          (change-keeps progress n c after_rest rest-number rest-progress v ∙ others.0
-          ∙ ap progress (changed-other n c (with_received piece) (λ k. refl) ne s)) (others.1) f)
+          rw t (takes-same c s (at_connection n after_rest v) (passages_of_frames n packets u) (piece-leaves n c piece k s ne) (frames-other n c packets u ne).1 f)
     ]
 
 opened-takes : (c n : ℕ) (s : RelayState) → Fits (progress_at c s) → Takes c s (record s { connections = s.connections ++ fresh_connection None n ∷ [] }) []

@@ -8,5 +8,5 @@ pub returns-clause-follows : goal.returns-clause-follows
 returns-clause-follows c = λ b s k h heard swept client opened.
     let mid = c.remember.new.self in
     passed_counted mid (record mid { counts = c.count_passed.new.self }) b
-    (with_request_of c.args.conn c.args.target (ams_header_of c.args.h.now) s) refl c.count_passed.ensures
+    (with_request_of c.args.from.number c.args.target (ams_header_of c.args.h.now) s) refl c.count_passed.ensures
     (c.in_ok-remember.ensures.follows b s k h heard swept client opened)

@@ -1,27 +1,34 @@
-use Rattle.std.proofs.Common.{◌≡◌, true, refl, sym, ◌∙◌, ap}
-use Rattle.std.specs.Prelude.{Some}
-use Rattle.ams_relay.specs.declared.peer.Peer.{Peer}
-use Rattle.ams_relay.specs.Peers.{peer_in}
-use Rattle.ams_relay.proofs.EndLemmas.{closes, closed_already, closed_absent}
-use Rattle.ams_relay.proofs.IdleLemmas.{idle_touched}
-use Rattle.ams_relay.proofs.OwnerLemmas.{some_same}
+use Rattle.std.proofs.Common.{◌≡◌, length, refl, sym, ap, ◌∙◌, subst}
+use Rattle.std.specs.Map.{keys_of}
+use Rattle.spec_machine.specs.Connection.{with_closing}
+use Rattle.spec_relay.specs.Routing.{at_connection}
+use Rattle.connections.specs.Carries.{Carries}
+use Rattle.connections.specs.Outlets.{closed}
+use Rattle.connections.proofs.OutletLemmas.{keys_changed}
+use Rattle.ams_relay.specs.Peers.{places_of}
+use Rattle.ams_relay.proofs.CarryLemmas.{carry_closed}
+use Rattle.ams_relay.proofs.EndLemmas.{closed_already, closes_at}
+use Rattle.ams_relay.proofs.OwnLemmas.{value_at}
 use Rattle.ams_relay.proofs.router.Router.close.Goals as goal
 
-pub returns-in_default-clause-follows : goal.returns-in_default-clause-follows
-returns-in_default-clause-follows c = λ b s h. closed_absent c.args.number b c.args.self.now s h c.in_default.ensures.absent
-
-pub returns-then-index-clause-follows : goal.returns-then-index-clause-follows
-returns-then-index-clause-follows c = λ b s h.
-    closed_already c.args.number b c.index.result.now c.args.self.now s h (c.in-Some.ensures.found.value ∙ c.index.ensures) c.if-index.true
+pub returns-then-is_closing-clause-follows : goal.returns-then-is_closing-clause-follows
+returns-then-is_closing-clause-follows c = λ b s h.
+    closed_already c.args.at.number c.args.at.place b c.args.self.now s h c.requires.entry (sym c.is_closing.ensures ∙ c.if-is_closing.true)
 
 pub returns-clause-follows : goal.returns-clause-follows
 returns-clause-follows c = λ b s h.
     let old = c.args.self.now in
-    let n = c.args.number in
-    let p = c.index_mut-peer.result.now in
-    let place = c.in-Some.ensures.found in
-    let was : peer_in n old.peers.entries ≡ Some p = place.value ∙ c.index_mut-peer.ensures.value in
-    let same = some_same c.index.result.now p (sym c.index.ensures ∙ c.index_mut-peer.ensures.value) in
-    let sets = place.sets (record p { closing = true }) in
-    closes n b p old _ c.disown.new.self s h was (sym (ap (λ (x : Peer). x.closing) same) ∙ c.if-index.false) sets refl refl refl c.disown.ensures
-    (idle_touched n (record p { closing = true }) old.peers.entries _ old.touched c.with-self.result sets c.with-self.ensures h.idle)
+    let seat = c.args.at in
+    let p = c.index.result.now in
+    let mid = record old { outlets = c.close.new.self } in
+    let value = value_at old.peers.items seat.place p c.requires.within c.index.ensures in
+    closes_at seat.number seat.place b p old mid c.disown.new.self s h c.requires.entry value (sym c.is_closing.ensures ∙ c.if-is_closing.false) refl
+    (ap keys_of c.close.ensures ∙ keys_changed closed old.outlets seat.place)
+    (subst (λ es. Carries es b (at_connection seat.number with_closing s).connections) (sym c.close.ensures)
+    (carry_closed seat.number seat.place b old.outlets s c.requires.entry h.outlets)) c.disown.ensures
+
+pub returns-clause-places : goal.returns-clause-places
+returns-clause-places c =
+    let old = c.args.self.now in
+    ap places_of c.disown.ensures.same
+    ∙ (λ j. ((ap keys_of c.close.ensures ∙ keys_changed closed old.outlets c.args.at.place) j, length old.peers.items))

@@ -8,7 +8,8 @@ pub returns-then-owns : goal.returns-then-owns
 returns-then-owns c = λ b s k h heard.
     let head = ams_header_of c.args.h.now in
     let client = c.owns.ensures b s k h heard c.if-owns.true in
-    closed_owned c.args.payload.now head k s (taken_own head.source.net k s.connections client) (h.routed c.args.conn k head.source.net heard.found client)
+    closed_owned c.args.payload.now head k s (taken_own head.source.net k s.connections client)
+    (h.known.routed c.args.from.number k head.source.net heard.found client)
 
 pub returns-then-is_refused : goal.returns-then-is_refused
 returns-then-is_refused c = λ b s k h heard.

@@ -1,9 +1,7 @@
-use Rattle.std.proofs.Common.{◌∙◌, ap}
-use Rattle.ams_relay.specs.Holds.{owner_in}
-use Rattle.ams_relay.proofs.OwnerLemmas.{owner_is}
+use Rattle.ams_relay.proofs.OwnLemmas.{owner_seated}
+use Rattle.std.proofs.Common.{sym, ◌∙◌}
 use Rattle.ams_relay.proofs.router.Router.owner_of.Goals as goal
 
-pub returns-clause-machine : goal.returns-clause-machine
-returns-clause-machine c = λ b s h.
-    c.copied.ensures ∙ c.get.ensures.value ∙ ap (λ net. owner_in net c.args.self.now.owners.entries) c.as_slice.ensures
-    ∙ owner_is c.args.net.bytes c.args.self.now.owners.entries s.connections h.peers.apart h.owners
+pub returns-in_default-place_of-clause-entry : goal.returns-in_default-place_of-clause-entry
+returns-in_default-place_of-clause-entry c = λ b s h. absurd
+    (owner_seated c.args.net.bytes c.in-Some.number b c.args.self.now s h (sym c.owner_number.ensures ∙ c.in-Some.is) c.in_default-place_of.ensures.absent)

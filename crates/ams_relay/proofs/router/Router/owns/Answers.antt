@@ -1,10 +1,11 @@
-use Rattle.std.proofs.Common.{List, ℕ, sym, ap, ◌∙◌}
-use Rattle.std.specs.Prelude.{Some}
-use Rattle.ams_relay.specs.Holds.{net_of}
-use Rattle.ams_relay.proofs.OwnerLemmas.{bytes_same}
+use Rattle.std.proofs.Common.{sym, ◌∙◌}
+use Rattle.ams_relay.proofs.OwnLemmas.{value_at, owned_is}
 use Rattle.ams_relay.proofs.router.Router.owns.Goals as goal
 
-pub returns-in-Some : goal.returns-in-Some
-returns-in-Some c = λ b s k h heard same.
-    sym (c.owned_by.ensures b s k h heard) ∙ ap net_of c.in-Some.is
-    ∙ ap (λ (x : List ℕ). Some x) (bytes_same c.in-Some.owned.bytes c.args.net.bytes (sym c.is.ensures ∙ same))
+pub returns : goal.returns
+returns c = λ b s k h heard same.
+    let r = c.args.self.now in
+    let seat = c.args.from in
+    let p = c.index.result.now in
+    let value = value_at r.peers.items seat.place p c.requires.within c.index.ensures in
+    sym (owned_is seat.number seat.place b k p r s h c.requires.entry value heard) ∙ c.owns.ensures same

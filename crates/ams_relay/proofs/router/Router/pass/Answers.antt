@@ -6,6 +6,7 @@ use Rattle.spec_relay.specs.Ways.{is_closed_by, way_of_response, way_of_request}
 use Rattle.spec_relay.specs.Routing.{after_way, with_owner}
 use Rattle.ams_header.specs.Header.{ams_header_of}
 use Rattle.ams_relay.specs.Holds.{Holds}
+use Rattle.ams_relay.proofs.OwnLemmas.{seat_kept}
 use Rattle.ams_relay.proofs.PromiseLemmas.{on_ok}
 use Rattle.ams_relay.proofs.WayLemmas.{header_closes, header_goes, way_by_mark, not_taken, has_route, after_owned}
 use Rattle.ams_relay.proofs.router.Router.pass.Goals as goal
@@ -15,12 +16,18 @@ returns-then-is_closed_by-clause-follows c = λ b s k h heard swept.
     let head = ams_header_of c.in-Some.h in
     let closes = ap (λ (p : List ℕ). is_closed_by p head k s) (sym c.in-Some.ensures.payload)
     ∙ sym (c.is_closed_by.ensures b s k h heard) ∙ c.if-is_closed_by.true in
-    header_closes c.args.conn c.args.packet.now k head c.close.new.self b s c.in-Some.ensures.header closes (c.close.ensures.follows b s h)
+    header_closes c.args.from.number c.args.packet.now k head c.close.new.self b s c.in-Some.ensures.header closes (c.close.ensures.follows b s h)
+
+pub pass_response-requires-clause-seat : goal.pass_response-requires-clause-seat
+pass_response-requires-clause-seat c = seat_kept c.args.self.now c.own.new.self c.args.from c.own.ensures.places c.requires.seat
+
+pub pass_request-requires-clause-seat : goal.pass_request-requires-clause-seat
+pass_request-requires-clause-seat c = seat_kept c.args.self.now c.own.new.self c.args.from c.own.ensures.places c.requires.seat
 
 pub returns-then-is_response-clause-follows : goal.returns-then-is_response-clause-follows
 returns-then-is_response-clause-follows c = on_ok c.pass_response.result (λ e b s k h heard swept.
     let head = ams_header_of c.in-Some.h in
-    let conn = c.args.conn in
+    let conn = c.args.from.number in
     let packet = c.args.packet.now in
     let opens = ap (λ (p : List ℕ). is_closed_by p head k s) (sym c.in-Some.ensures.payload)
     ∙ sym (c.is_closed_by.ensures b s k h heard) ∙ c.if-is_closed_by.false in
@@ -38,7 +45,7 @@ returns-then-is_response-clause-follows c = on_ok c.pass_response.result (λ e b
 pub returns-else-is_response-clause-follows : goal.returns-else-is_response-clause-follows
 returns-else-is_response-clause-follows c = on_ok c.pass_request.result (λ e b s k h heard swept.
     let head = ams_header_of c.in-Some.h in
-    let conn = c.args.conn in
+    let conn = c.args.from.number in
     let packet = c.args.packet.now in
     let opens = ap (λ (p : List ℕ). is_closed_by p head k s) (sym c.in-Some.ensures.payload)
     ∙ sym (c.is_closed_by.ensures b s k h heard) ∙ c.if-is_closed_by.false in

@@ -12,9 +12,9 @@ returns-then-fitted-clause-follows c =
     let packet = c.args.packet.now in
     let g = c.in_ok-fitted.ensures.follows b s h in
     let room = sym g.0 ∙ c.if-fitted.true in
-    let after = after_given c.args.conn c.args.target packet k s heard swept room in
-    way_asked c.args.conn c.args.target head packet c.ask.new.self b s target room
-    (e b (given_to c.args.target packet s) after.connection g.1 after.heard after.swept (after.client ∙ client) after.opened)) c.ask.ensures.follows
+    let after = after_given c.args.from.number c.args.target.number packet k s heard swept room in
+    way_asked c.args.from.number c.args.target.number head packet c.ask.new.self b s target room
+    (e b (given_to c.args.target.number packet s) after.connection g.1 after.heard after.swept (after.client ∙ client) after.opened)) c.ask.ensures.follows
 
 pub returns-clause-follows : goal.returns-clause-follows
 returns-clause-follows c =
@@ -22,5 +22,5 @@ returns-clause-follows c =
     let head = ams_header_of c.args.h.now in
     let packet = c.args.packet.now in
     let g = c.in_ok-fitted.ensures.follows b s h in
-    way_refused c.args.conn c.args.target head packet c.tell_unknown.new.self b s target
-    (sym g.0 ∙ c.if-fitted.false) (e b (given_to c.args.target packet s) g.1)) c.tell_unknown.ensures.follows
+    way_refused c.args.from.number c.args.target.number head packet c.tell_unknown.new.self b s target
+    (sym g.0 ∙ c.if-fitted.false) (e b (given_to c.args.target.number packet s) g.1)) c.tell_unknown.ensures.follows
