@@ -44,7 +44,7 @@ use Rattle.ams_relay.proofs.ListLemmas.{filter-yes, filter-no}
 use Rattle.ams_relay.proofs.OwnerLemmas.{IsUnheard, some_same, owners_unheard, owners_ended, owners_disowned, owners_opened, fresh_client}
 use Rattle.ams_relay.proofs.RequestLemmas.{Hearing, hearing, AreSame, same_narrower, heard_found, heard_none}
 use Rattle.ams_relay.proofs.RequestLemmas.{heard_there, heard_of_parts, deaf_closing, deaf_gone}
-use Rattle.ams_relay.proofs.StateLemmas.{Stays, changed-none, changed-nothing, as_gone, with_fresh, opened_own, opened_other, frames_in, frames-cons}
+use Rattle.ams_relay.proofs.StateLemmas.{Stays, changed-none, changed-nothing, as_gone, with_fresh, opened_other, frames_in, frames-cons}
 
 closing_stays : Stays with_closing
 closing_stays = record { number = λ k. refl; gone = λ k. refl }

@@ -1,8 +1,8 @@
 -- What a router keeps stands for the state after a change of one connection.
-use Rattle.std.proofs.Common.{◌≡◌, ◌≢◌, ℕ, List, [], ◌∷◌, Bool, true, false, refl, sym, ap, ◌∙◌, subst, inl, inr}
+use Rattle.std.proofs.Common.{◌≡◌, ℕ, List, [], ◌∷◌, Bool, true, refl, sym, ap, ◌∙◌, subst, inl, inr}
 use Rattle.std.specs.Prelude.{Option, Some, None, is_some, filter}
 use Rattle.std.specs.Map.{keys_of}
-use Rattle.std.proofs.lemmas.Bool.{cases_Bool, cases_eq, true≢false}
+use Rattle.std.proofs.lemmas.Bool.{cases_Bool, cases_eq}
 use Rattle.spec_machine.specs.Connection.{connection_of}
 use Rattle.spec_machine.specs.Summary.{count_of}
 use Rattle.spec_plant.specs.Rights.{rights_of}
@@ -18,7 +18,7 @@ use Rattle.ams_relay.specs.declared.peer.Peer.{Peer}
 use Rattle.ams_relay.specs.declared.router.Router.{Router}
 use Rattle.ams_relay.specs.Asking.{requests_of}
 use Rattle.ams_relay.specs.Counts.{counts_in}
-use Rattle.ams_relay.specs.Holds.{AreBeside, IsPeerOf, AreOwn, HoldsAsked, AreNamed, HoldsRequests, HoldsOwners, AreRouted, Knows, Holds}
+use Rattle.ams_relay.specs.Holds.{AreBeside, IsPeerOf, AreOwn, HoldsAsked, AreNamed, HoldsRequests, HoldsOwners, AreRouted, Knows}
 use Rattle.ams_relay.specs.Peers.{Peers, peers_in}
 use Rattle.ams_relay.proofs.BesideLemmas.{beside_keys, beside_same, beside_changed}
 use Rattle.ams_relay.proofs.OwnerLemmas.{some_same, before_change, before_number, owners_quiet, heard_quiet}

@@ -1,5 +1,5 @@
 -- What becomes of offers and of connections that are writable leaves all that is kept beside the outlets.
-use Rattle.std.proofs.Common.{◌≡◌, ℕ, ◌+◌, ◌≤◌, List, [], ◌∷◌, length, Bool, true, false, cond, refl, sym, ap, ◌∙◌, subst, inl, inr, append-nil}
+use Rattle.std.proofs.Common.{◌≡◌, ℕ, ◌+◌, ◌≤◌, List, [], ◌∷◌, length, false, cond, refl, sym, ap, ◌∙◌, subst, inl, inr, append-nil}
 use Rattle.std.specs.Prelude.{Option, Some, None}
 use Rattle.std.specs.Map.{keys_of}
 use Rattle.std.proofs.lemmas.Bool.{cases_Bool, cond-true, cond-false}
@@ -7,8 +7,8 @@ use Rattle.ads_outside.specs.declared.event.Event.TheVariants as event
 use Rattle.ads_outside.specs.declared.moves.Move.TheVariants as move
 use Rattle.ads_outside.specs.Wholes.{wholes}
 use Rattle.ads_served.specs.Standing.{running_after_all, standing_after, standing_after_all}
-use Rattle.spec_machine.specs.Connection.{connection_of, put_back}
-use Rattle.spec_machine.specs.MachineState.{exchange_of, after_exchange}
+use Rattle.spec_machine.specs.Connection.{connection_of}
+use Rattle.spec_machine.specs.MachineState.{after_exchange}
 use Rattle.spec_machine.specs.Moves.{with_took, state_after_move, state_after}
 use Rattle.spec_machine.specs.Offers.{blocked_after_move, blocked_after}
 use Rattle.spec_machine.specs.Running.{running_after}
@@ -25,7 +25,7 @@ use Rattle.ams_relay.specs.Holds.{AreBeside, Knows}
 use Rattle.ams_relay.specs.Relays.{RelayStanding, RelayRunning, StandsRunning, StandsFor, StandsAt, nothing_noted}
 use Rattle.ams_relay.proofs.BesideLemmas.{beside_changed, beside_same}
 use Rattle.ams_relay.proofs.CarryLemmas.{numbers_of, carry_took}
-use Rattle.ams_relay.proofs.HoldLemmas.{SameBeside, knows_changed, knows_same}
+use Rattle.ams_relay.proofs.HoldLemmas.{knows_changed, knows_same}
 use Rattle.ams_relay.proofs.StateLemmas.{Quiet}
 
 -- bytes of one that is there are taken

@@ -4,7 +4,7 @@ use Rattle.std.specs.Prelude.{Option, Some, None, option_map, is_some, bytes_eq,
 use Rattle.std.specs.Map.{keys_of}
 use Rattle.std.proofs.lemmas.List.{length-set}
 use Rattle.std.proofs.lemmas.Option.{slice_get-get_or}
-use Rattle.std.proofs.lemmas.Bool.{cases_Bool, cases_eq, true≢false, cond-true, cond-false}
+use Rattle.std.proofs.lemmas.Bool.{cases_eq, true≢false}
 use Rattle.ads_base.specs.declared.net_id.NetId.{NetId}
 use Rattle.spec_plant.specs.Rights.{rights_of}
 use Rattle.spec_machine.specs.Connection.{connection_of}
@@ -24,8 +24,8 @@ use Rattle.ams_relay.specs.declared.router.Router.{Router}
 use Rattle.ams_relay.specs.declared.seat.Seat.{Seat}
 use Rattle.ams_relay.specs.Asking.{requests_of}
 use Rattle.ams_relay.specs.Counts.{counts_in}
-use Rattle.ams_relay.specs.Holds.{AreBeside, IsPeerOf, AreOwn, HoldsAsked, HoldsRequests, Knows, Holds, owner_in}
-use Rattle.ams_relay.specs.Peers.{Peers, peers_in, IsSeat, Sets, net_of, owned_of, owned_at, places_of}
+use Rattle.ams_relay.specs.Holds.{AreBeside, IsPeerOf, AreOwn, HoldsAsked, HoldsRequests, Holds, owner_in}
+use Rattle.ams_relay.specs.Peers.{Peers, peers_in, IsSeat, Sets, net_of, owned_of, places_of}
 use Rattle.ams_relay.specs.Taking.{IsHeardAt, IsOwnerSeat, number_of}
 use Rattle.ams_relay.proofs.BesideLemmas.{beside_set, count_same, sets_at}
 use Rattle.ams_relay.proofs.CarryLemmas.{closing_is, unseated, has_seat, value_there, carry_quiet}

@@ -1,7 +1,7 @@
 -- A request that was passed on waits for its response: of its asker the last ones do.
 use Rattle.std.proofs.Common.{◌≡◌, ◌≢◌, ℕ, ◌+◌, ◌<◌, ◌≤◌, ◌⊎◌, List, [], ◌∷◌, ◌++◌, length, map, get_or, Bool}
 use Rattle.std.proofs.Common.{true, false, cond, refl, sym, ap, ◌∙◌, subst, inl, inr, arith}
-use Rattle.std.specs.Prelude.{Option, Some, None, filter, drop, take, set, slice_get, ◌&&◌, not, ◌||◌, ◌==◌, nat_lt, nat_le, if◌then◌else◌}
+use Rattle.std.specs.Prelude.{Option, Some, None, filter, drop, take, set, slice_get, ◌&&◌, ◌==◌, nat_lt, nat_le, if◌then◌else◌}
 use Rattle.std.proofs.lemmas.Bool.{cases_Bool, cases_eq, cases_lt, true≢false, eqb-true, lt-ltb, le-ltb, le-leb, lt-leb, cond-true, cond-false}
 use Rattle.std.proofs.lemmas.List.{length-map, map-append, length-append, length-drop, take_more}
 use Rattle.spec_plant.specs.Rights.{rights_of}
@@ -9,7 +9,7 @@ use Rattle.spec_formats.specs.Commands.{DEVICE_NOTIFICATION}
 use Rattle.spec_formats.specs.Header.{AmsHeader}
 use Rattle.spec_machine.specs.Connection.{connection_of}
 use Rattle.spec_machine.proofs.Find.{test_same, test_other}
-use Rattle.spec_relay.specs.RelayState.{Request, RelayConnection, RelayState, is_heard_among}
+use Rattle.spec_relay.specs.RelayState.{Request, RelayConnection, RelayState}
 use Rattle.spec_relay.specs.Requests.{requests_heard, without_first, is_asked_by, with_request, MAX_REQUESTS}
 use Rattle.spec_relay.specs.Routing.{with_requests, request_from, with_request_of}
 use Rattle.ams_relay.specs.declared.asked.Asked.{Asked}
@@ -21,7 +21,7 @@ use Rattle.connections.specs.Carries.{Carries}
 use Rattle.connections.specs.Entries.{IsEntry}
 use Rattle.connections.specs.Outlets.{Outlets}
 use Rattle.ams_relay.specs.Holds.{HoldsOwners, IsOwn, AreOwn, HoldsAsked, IsNamed, AreNamed, Holds}
-use Rattle.ams_relay.specs.Peers.{peers_in, is_open}
+use Rattle.ams_relay.specs.Peers.{peers_in}
 use Rattle.ams_relay.specs.Taking.{IsHeardAt, IsOpenedAt, IsSwept, is_asked_heard}
 use Rattle.ams_relay.proofs.CarryLemmas.{open_is}
 use Rattle.ams_relay.proofs.OwnLemmas.{peer_at, peers_after}
@@ -29,7 +29,7 @@ use Rattle.ams_relay.proofs.ListLemmas.{Among, all-pass, filter-yes, filter-no, 
 use Rattle.ams_relay.proofs.ListLemmas.{filter-map, map-drop, filtered-among, length-filter, filter-without}
 use Rattle.ams_relay.proofs.ListLemmas.{filter-without-other, without-all, without-among}
 use Rattle.ams_relay.proofs.OwnerLemmas.{some_same}
-use Rattle.ams_relay.proofs.RequestLemmas.{hearing, is_heard_in, is_asked_in, heard_found, heard_none, deaf_gone}
+use Rattle.ams_relay.proofs.RequestLemmas.{hearing, is_heard_in, is_asked_in, heard_found}
 
 -- the machine's request of one asker more
 module _ (s : RelayState) (swept : IsSwept s) (c d : ℕ) (k : RelayConnection) (heard : IsHeardAt c k s) (head : AmsHeader) where

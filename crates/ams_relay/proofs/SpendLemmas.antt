@@ -6,7 +6,7 @@ use Rattle.std.proofs.lemmas.List.Quantifiers.{position-Some}
 use Rattle.spec_formats.specs.Header.{AmsHeader, is_same_address}
 use Rattle.spec_machine.specs.Connection.{connection_of}
 use Rattle.spec_machine.proofs.Find.{test_same, test_other}
-use Rattle.spec_relay.specs.RelayState.{Request, RelayConnection, RelayState, is_heard, is_heard_among}
+use Rattle.spec_relay.specs.RelayState.{Request, RelayConnection, RelayState, is_heard_among}
 use Rattle.spec_relay.specs.Requests.{requests_heard, is_answered_by, request_answered, without_first, is_asked_by}
 use Rattle.spec_relay.specs.Routing.{with_requests}
 use Rattle.ams_relay.specs.declared.asked.Asked.{Asked}
@@ -20,7 +20,7 @@ use Rattle.connections.specs.Entries.{IsEntry}
 use Rattle.ams_relay.specs.Holds.{IsOwner, AreOwn, HoldsAsked, AreNamed, HoldsOwners, Holds, owner_in}
 use Rattle.ams_relay.specs.Peers.{peers_in}
 use Rattle.ams_relay.specs.Taking.{IsHeardAt, IsSwept, SpendsOne}
-use Rattle.ams_relay.proofs.OwnLemmas.{Kept, peer_kept, peer_at, peers_after}
+use Rattle.ams_relay.proofs.OwnLemmas.{peer_kept, peer_at, peers_after}
 use Rattle.ams_relay.proofs.ListLemmas.{Among, all-pass, among-filtered, filtered-among, filter-all}
 use Rattle.ams_relay.proofs.ListLemmas.{filter-without, filter-without-other, find-found, find-filter}
 use Rattle.ams_relay.proofs.ListLemmas.{find-none, find-position, find-nowhere, without-among}

@@ -14,27 +14,27 @@ use Rattle.spec_machine.specs.Summary.{count_of}
 use Rattle.ams_tcp.specs.Held.{Held}
 use Rattle.ams_tcp.specs.History.{History, Represents, after_feed, answer_of, after_next}
 use Rattle.ams_tcp.specs.declared.cut.Cut.TheVariants as cut
-use Rattle.spec_relay.specs.RelayState.{RelayWorld, Owned, RelayConnection, RelayState, is_heard, is_heard_among}
+use Rattle.spec_relay.specs.RelayState.{RelayWorld, Owned, RelayConnection, RelayState, is_heard_among}
 use Rattle.spec_relay.specs.RelayMoves.{after_frames, after_piece_of, relay_after_event}
 use Rattle.spec_relay.specs.RelaySummary.{RelaySummary as CountsOfState, relay_summary_of}
 use Rattle.spec_relay.specs.Requests.{with_requests_heard}
 use Rattle.spec_relay.specs.Routing.{at_connection, with_frame_taken, after_header, after_frame_of, after_frame}
-use Rattle.spec_relay.proofs.ChangeLemmas.{changed-own, changed-other, world-change}
+use Rattle.spec_relay.proofs.ChangeLemmas.{changed-own, world-change}
 use Rattle.spec_relay.proofs.RelayDelivered.{gone_of, gone-kept, frame-seen, piece-seen}
 use Rattle.spec_relay.proofs.TakenLemmas.{progress, frame-own, piece-progress}
-use Rattle.connections.specs.Carries.{Carries, IsStreamOf}
+use Rattle.connections.specs.Carries.{IsStreamOf}
 use Rattle.connections.specs.Entries.{IsEntry}
-use Rattle.connections.specs.Outlets.{Outlets, beside, closing_at}
+use Rattle.connections.specs.Outlets.{beside, closing_at}
 use Rattle.connections.proofs.BesideLemmas.{beside_at}
 use Rattle.connections.proofs.CarryLemmas.{KeepsOutput, at_number}
 use Rattle.connections.proofs.StreamLemmas.{packet_is_next, rest_is_open, rest_is_broken, own_mark, after_frame as one_given}
 use Rattle.ams_relay.specs.declared.router.Router.{Router}
 use Rattle.ams_relay.specs.Counts.{counts_in}
-use Rattle.ams_relay.specs.Holds.{AreBeside, Knows, Holds}
+use Rattle.ams_relay.specs.Holds.{AreBeside, Holds}
 use Rattle.ams_relay.specs.Taking.{IsHeardAt, IsSwept, packets_of, end_of_piece, HoldsWith, TakesOne}
 use Rattle.ams_relay.proofs.BesideLemmas.{beside_keys, count_same, sets_at}
 use Rattle.ams_relay.proofs.CarryLemmas.{closing_is, carry_quiet}
-use Rattle.ams_relay.proofs.HoldLemmas.{SameBeside, knows_changed, knows_counted, knows_swept}
+use Rattle.ams_relay.proofs.HoldLemmas.{knows_changed, knows_counted, knows_swept}
 use Rattle.ams_relay.proofs.ListLemmas.{filter-finer}
 use Rattle.ams_relay.proofs.OwnerLemmas.{some_same}
 use Rattle.ams_relay.proofs.RequestLemmas.{is_heard_in, hearing, heard_found, heard_of_parts}

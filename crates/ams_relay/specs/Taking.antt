@@ -1,6 +1,5 @@
 -- How a router takes the frames of a connection. No public clause cites this file.
 use Rattle.std.specs.Prelude.{◌≡◌, ◌≢◌, ◌<◌, ℕ, List, [], length, Bool, true, false, not, ◌||◌, ◌==◌, is_some, Option, Some, None, option_map}
-use Rattle.std.specs.Prelude.{IsSomeAnd}
 use Rattle.spec_plant.specs.Rights.{rights_of}
 use Rattle.ams_tcp.specs.Held.{Held}
 use Rattle.ads_base.specs.declared.net_id.NetId.{NetId}

@@ -97,9 +97,7 @@ impl Router {
             → Holds self.new b (with_request_of from.number target (ams_header_of h.now) s)) }
         ensures places { places_of self.new ≡ places_of self.old }
     {
-        self.peers[from.place]
-            .asked
-            .push_back(asked_by(target, h))?;
+        self.peers[from.place].asked.push_back(asked_by(target, h))?;
         Ok(())
     }
 

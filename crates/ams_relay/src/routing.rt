@@ -138,13 +138,7 @@ impl Router {
     }
 
     // It was passed on, and its response is waited for.
-    fn ask(
-        &mut self,
-        alloc: Global,
-        from: Seat,
-        target: u32,
-        h: &Header,
-    ) -> Result<(), NoMemory>
+    fn ask(&mut self, alloc: Global, from: Seat, target: u32, h: &Header) -> Result<(), NoMemory>
         requires { IsSeat self.old from }
         ensures follows { OnOk result ((b : List ℕ) (s : RelayState) (k : RelayConnection) → Holds self.old b s → IsHeardAt from.number k s → IsSwept s
             → k.client ≡ Some h.now.source.net.bytes → IsOpenedAt target s

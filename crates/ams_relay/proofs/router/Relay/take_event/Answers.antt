@@ -3,7 +3,6 @@ use Rattle.ads_outside.specs.declared.event.Event.TheVariants as event
 use Rattle.spec_machine.specs.Running.{OpensNew}
 use Rattle.spec_relay.specs.RelayMoves.{relay_after_event}
 use Rattle.connections.specs.Outlets.{change_of, freed}
-use Rattle.ams_relay.specs.declared.router.Relay.{Relay}
 use Rattle.ams_relay.specs.Relays.{StandsFor}
 use Rattle.ams_relay.proofs.EventLemmas.{Taken, settled, opened_taken, piece_done, closed_taken, writable_taken, tick_taken, reload_taken}
 use Rattle.ams_relay.proofs.MoveLemmas.{writable_stands}

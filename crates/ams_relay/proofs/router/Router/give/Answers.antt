@@ -1,4 +1,4 @@
-use Rattle.std.proofs.Common.{◌≡◌, List, ℕ, ◌++◌, length, refl, sym, ap, ◌∙◌, subst}
+use Rattle.std.proofs.Common.{◌≡◌, List, ℕ, ◌++◌, length, refl, sym, ap, ◌∙◌}
 use Rattle.std.specs.Map.{keys_of}
 use Rattle.spec_frames.specs.Frame.{frame_bytes}
 use Rattle.connections.specs.Outlets.{change_at, given, is_fitting, test_in, outlet_at}

@@ -1,4 +1,4 @@
-use Rattle.std.proofs.Common.{arith, ◌∙◌}
+use Rattle.std.proofs.Common.{arith}
 use Rattle.ams_relay.specs.Taking.{is_asked_heard}
 use Rattle.ams_relay.proofs.RememberLemmas.{kept_more}
 use Rattle.ams_relay.proofs.router.Router.heard_of.Goals as goal

@@ -1,4 +1,4 @@
-use Rattle.std.proofs.Common.{◌≡◌, ◌<◌, ◌++◌, ◌∷◌, [], List, sym, ap, refl, inl, inr, ◌∙◌}
+use Rattle.std.proofs.Common.{◌++◌, ◌∷◌, [], List, sym, ap, refl, inr, ◌∙◌}
 use Rattle.std.specs.Prelude.{filter}
 use Rattle.ams_header.specs.Header.{ams_header_of}
 use Rattle.spec_relay.specs.RelayState.{Request}

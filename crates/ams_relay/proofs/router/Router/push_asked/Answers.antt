@@ -1,13 +1,8 @@
-use Rattle.std.proofs.Common.{◌≡◌, ◌<◌, ◌++◌, ◌∷◌, [], List, sym, ap, refl, inl, inr, ◌∙◌}
-use Rattle.std.specs.Prelude.{filter}
+use Rattle.std.proofs.Common.{ap, refl, inl}
 use Rattle.ams_header.specs.Header.{ams_header_of}
 use Rattle.spec_relay.specs.RelayState.{Request}
-use Rattle.ams_relay.specs.declared.asked.Asked.{Asked}
 use Rattle.ams_relay.specs.declared.peer.Peer.{Peer}
-use Rattle.ams_relay.specs.Asking.{with_room}
-use Rattle.ams_relay.specs.Taking.{is_asked_heard}
 use Rattle.ams_relay.proofs.OwnLemmas.{value_at}
-use Rattle.ams_relay.proofs.OwnerLemmas.{some_same}
 use Rattle.ams_relay.proofs.RememberLemmas.{remembers}
 use Rattle.ams_relay.proofs.router.Router.push_asked.Goals as goal
 

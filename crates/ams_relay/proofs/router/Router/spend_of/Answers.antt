@@ -1,5 +1,4 @@
-use Rattle.std.proofs.Common.{◌≡◌, refl, sym, ap, ◌∙◌}
-use Rattle.std.specs.Prelude.{Some}
+use Rattle.std.proofs.Common.{refl, sym, ap, ◌∙◌}
 use Rattle.ams_header.specs.Header.{ams_header_of}
 use Rattle.spec_relay.specs.Requests.{is_answered_by}
 use Rattle.ams_relay.specs.declared.asked.Asked.{Asked}
