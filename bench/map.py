@@ -141,18 +141,20 @@ PARTS = {
     "the relay": ("spec_relay", "ams_relay"),
     "the local link": ("local_link",),
     "samples": ("sample_store", "sqlite_samples"),
+    "cases": ("spec_examples", "run_examples"),
 }
 # (from the left, to the right, from the top row, to the bottom row)
 PLACES = {
-    "cases": (16, 424, 0, 0), "the daemon": (440, 856, 0, 0),
-    "the program": (16, 856, 1, 1),
-    "stores": (16, 196, 2, 2), "the relay": (212, 376, 2, 2), "the local link": (392, 556, 2, 2), "the client": (590, 856, 2, 3),
-    "the server": (16, 556, 3, 3),
-    "one client": (16, 556, 4, 4), "samples": (706, 856, 4, 4),
-    "the device": (16, 676, 5, 5),
-    "descriptions": (16, 330, 6, 6), "the wire": (346, 856, 6, 6),
-    "what is believed": (880, 1084, 1, 6),
-    "the ground": (16, 1084, 7, 7),
+    "cases": (16, 856, 0, 0),
+    "the daemon": (16, 856, 1, 1),
+    "the program": (16, 856, 2, 2),
+    "stores": (16, 196, 3, 3), "the relay": (212, 376, 3, 3), "the local link": (392, 556, 3, 3), "the client": (590, 856, 3, 4),
+    "the server": (16, 556, 4, 4),
+    "one client": (16, 556, 5, 5), "samples": (706, 856, 5, 5),
+    "the device": (16, 676, 6, 6),
+    "descriptions": (16, 330, 7, 7), "the wire": (346, 856, 7, 7),
+    "what is believed": (880, 1084, 0, 7),
+    "the ground": (16, 1084, 8, 8),
 }
 FILLS = {"what is believed": "#fdf3d8", "the ground": "#eeeeee", "cases": "#f5f5f5", "the client": "#e4f2e4", "samples": "#e4f2e4", "the local link": "#d9eef0"}
 FILL, SIDE, CHANNEL = "#e3ecf7", "what is believed", 36
