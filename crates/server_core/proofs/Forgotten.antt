@@ -6,15 +6,15 @@ use Rattle.spec_machine.specs.Connection.{connection_of}
 use Rattle.spec_machine.specs.Offers.{is_among}
 use Rattle.spec_machine.proofs.Find.{test_other}
 use Rattle.signals.specs.Wave.{Wave}
-use Rattle.spec_plant.specs.World.{Plant}
 use Rattle.ads_served.specs.Opened.{AreApart}
-use Rattle.server_core.specs.Conns.{Conn}
 use Rattle.server_core.specs.Served.{ServedConnection}
 use Rattle.server_core.specs.CoreState.{CoreState}
 use Rattle.server_core.specs.ServerView.{ServerView}
-use Rattle.server_core.specs.Serves.{CoreView, EachStands, EachMarked, StandsEach, ServesEach, Serves, conns_in, without_gone}
-use Rattle.spec_connections.specs.Present.{present}
-use Rattle.spec_connections.proofs.StateLemmas.{present-gone, present-there, connection_of-same, connection_of-other, none_behind, number_differs}
+use Rattle.server_core.specs.Serves.{CoreView, EachClient, ServesEach, Serves, without_gone}
+use Rattle.connections.specs.Carries.{Carries, EachMarked, EachOutlet, EachStream}
+use Rattle.connections.specs.Outlets.{Outlets}
+use Rattle.connections.specs.Present.{present}
+use Rattle.connections.proofs.StateLemmas.{present-gone, present-there, connection_of-same, connection_of-other, none_behind, number_differs}
 
 present-twice : (ks : List ServedConnection) → present (present ks) ≡ present ks
 present-twice [] = refl
@@ -78,34 +78,36 @@ among_dropped p n (b ∷ bs) e = elim (cases_Bool (p b)) [
   | inr no_ ↦ ap (is_among n) (cond-false (p b) (b ∷ filter p bs) (filter p bs) no_) ∙ among_dropped p n bs e
 ]
 
-marked_kept : (plant : Plant) (p : ℕ → Bool) (bs : List ℕ) (conns : List Conn) (ps : List ServedConnection) → EachStands plant conns ps
+marked_kept : (p : ℕ → Bool) (bs : List ℕ) (es : Outlets) (ps : List ServedConnection) → EachOutlet es ps
     → (all : List ServedConnection) → AreFound all ps → ((n : ℕ) → is_some (connection_of n all) ≡ true → p n ≡ true)
-    → EachMarked bs conns → EachMarked (filter p bs) conns
-marked_kept plant p bs [] [] each all found keeps marks = marks
-marked_kept plant p bs [] (k ∷ ks) each all found keeps marks = absurd each
-marked_kept plant p bs (c ∷ cs) [] each all found keeps marks = absurd each
-marked_kept plant p bs (c ∷ cs) (k ∷ ks) each all found keeps marks = (
-  marks.0 ∙ sym (among_kept p c.number bs (ap p each.0.number ∙ keeps k.number found.0)),
-  marked_kept plant p bs cs ks each.1 all found.1 keeps marks.1,
+    → EachMarked bs es → EachMarked (filter p bs) es
+marked_kept p bs [] [] each all found keeps marks = marks
+marked_kept p bs [] (k ∷ ks) each all found keeps marks = absurd each
+marked_kept p bs (e ∷ es) [] each all found keeps marks = absurd each
+marked_kept p bs (e ∷ es) (k ∷ ks) each all found keeps marks = (
+  marks.0 ∙ sym (among_kept p e.0 bs (ap p each.0.number ∙ keeps k.number found.0)),
+  marked_kept p bs es ks each.1 all found.1 keeps marks.1,
 )
 
-pub stands_present : (plant : Plant) (conns : List Conn) (x : CoreState) → StandsEach plant conns x → StandsEach plant conns (without_gone x)
-stands_present plant conns x s =
+carries_present : (es : Outlets) (x : CoreState) → Carries es x.blocked x.state.connections
+    → Carries es (without_gone x).blocked (without_gone x).state.connections
+carries_present es x s =
     let ks = x.state.connections in
     let ps = present ks in
     let is_kept : ℕ → Bool = λ b. is_some (connection_of b ps) in
     record {
-      each = subst (λ qs. EachStands plant conns qs) (sym (present-twice ks)) s.each;
+      each = subst (λ qs. EachOutlet es qs) (sym (present-twice ks)) s.each;
       apart = apart_present ks s.apart;
-      marked = marked_kept plant is_kept x.blocked conns ps s.each ps (all_found ps) (λ n e. e) s.marked;
+      marked = marked_kept is_kept x.blocked es ps s.each ps (all_found ps) (λ n e. e) s.marked;
       known = λ m none. among_dropped is_kept m x.blocked (ap is_some none);
     }
 
 pub serves_present : (v : ServerView) (waves : List Wave) (x : CoreState) → ServesEach v waves x → ServesEach v waves (without_gone x)
 serves_present v waves x s = record {
   device = record { world = s.device.world; signals = s.device.signals; count = s.device.count; few = s.device.few; moment = s.device.moment };
-  aligned = s.aligned;
-  connections = stands_present x.state.world.plant (conns_in v) x s.connections;
+  outlets = carries_present v.outlets x s.outlets;
+  streams = subst (λ qs. EachStream v.streams qs) (sym (present-twice x.state.connections)) s.streams;
+  clients = subst (λ qs. EachClient x.state.world.plant v.sessions qs) (sym (present-twice x.state.connections)) s.clients;
 }
 
 pub forgets : (core : CoreView) (x : CoreState) → Serves core x → Serves core (without_gone x)

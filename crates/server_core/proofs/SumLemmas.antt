@@ -11,7 +11,7 @@ use Rattle.server_core.specs.declared.summary.Summary.{Summary}
 use Rattle.server_core.specs.Served.{served, ServedConnection, ServedState, ServedExchange}
 use Rattle.server_core.specs.Counts.{counts_in, Counts, replies_of, samples_of}
 use Rattle.spec_machine.specs.MachineState.{with_exchange}
-use Rattle.spec_connections.proofs.StateLemmas.{connection_of-same, connection_of-other, put_back-same, put_back-other, none_of_nil}
+use Rattle.connections.proofs.StateLemmas.{connection_of-same, connection_of-other, put_back-same, put_back-other, none_of_nil}
 
 -- six counts make a summary
 pub same_counts_of : (a b : CountsOfState) → a.connections ≡ b.connections → a.requests ≡ b.requests → a.replies ≡ b.replies → a.samples ≡ b.samples

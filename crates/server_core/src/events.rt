@@ -4,7 +4,6 @@ ghost use Rattle.std.specs.Prelude.{IfOk};
 ghost use Rattle.server_core.specs.ServerView.{view_of};
 ghost use Rattle.server_core.specs.Serves.{ServesSome};
 ghost use Rattle.server_core.specs.Outcomes.{TakesEvent};
-ghost use Rattle.server_core.specs.Touched.{BeginsDue};
 
 use crate::Outcome;
 use crate::server::Server;
@@ -26,22 +25,8 @@ pub(crate) fn take_event<T: Threads + Sync, S: Sources>(
     requires { ServesSome (view_of server.old) (S.waves signals.old) }
     ensures { IfOk result (TakesEvent (view_of server.old) (view_of server.new) (S.waves signals.old) (S.waves signals.new) event.now) }
 {
-    server.settle();
-    take_settled(rt, alloc, server, signals, event)
-}
-
-// The same, once it is known which connections are idle: an event costs what it touches, and not what was served before it.
-fn take_settled<T: Threads + Sync, S: Sources>(
-    rt: &T,
-    alloc: Global,
-    server: &mut Server,
-    signals: &mut S,
-    event: &Event,
-) -> Result<Outcome, NoMemory>
-    requires serves { ServesSome (view_of server.old) (S.waves signals.old) }
-    requires settled { BeginsDue server.old.clients.touched server.old.clients.sessions.items server.old.clients.waiting.entries }
-    ensures { IfOk result (TakesEvent (view_of server.old) (view_of server.new) (S.waves signals.old) (S.waves signals.new) event.now) }
-{
+    // An event costs what it touches, and not what was served before it.
+    server.clients.outlets.settle();
     match event {
         Event::Opened(connection) => {
             server.open(alloc, *connection)?;
