@@ -1,7 +1,7 @@
 -- What is known of a connection: how far it has come, and what waits for its peer.
 use Rattle.std.specs.Prelude.{ℕ, ◌≡◌, ◌≤◌, ◌-◌, List, [], drop, length, vec_len, Bool, true, false, not, ◌==◌, ◌&&◌, ◌||◌, nat_lt, if◌then◌else◌}
-use Rattle.ads_edge.specs.declared.came.Came.{Came}
-use Rattle.ads_edge.specs.declared.came.Came.TheVariants as came
+use Rattle.ads_edge.specs.declared.arrived.Arrived.{Arrived}
+use Rattle.ads_edge.specs.declared.arrived.Arrived.TheVariants as arrived
 use Rattle.ads_edge.specs.declared.connection.Connection.{Connection}
 use Rattle.ads_edge.specs.declared.connection.TheConstants.{STALLED_TICKS, PARTING_TICKS}
 use Rattle.ads_edge.specs.declared.out_buffer.TheConstants.{OUT_ROOM}
@@ -61,8 +61,8 @@ abbrev pub MaySend : Connection → Connection → Type 0
 MaySend before now = now ≡ record before { out = now.out; patience = now.patience; alive = now.alive }
 
 -- the beat of the last sign of life after a reading: this one where bytes came
-abbrev pub alive_after : Came → ℕ → ℕ → ℕ
-alive_after (came.Bytes n) now before = now
-alive_after came.Nothing now before = before
-alive_after came.End now before = before
-alive_after came.Failed now before = before
+abbrev pub alive_after : Arrived → ℕ → ℕ → ℕ
+alive_after (arrived.Bytes n) now before = now
+alive_after arrived.Nothing now before = before
+alive_after arrived.End now before = before
+alive_after arrived.Failed now before = before

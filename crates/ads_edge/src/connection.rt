@@ -1,10 +1,10 @@
 //! One connection over a socket.
 
 ghost use Rattle.std.specs.Prelude.{false, ◌≡◌, ◌≤◌, ◌<◌, ◌++◌, length, take, drop, IfOk, IfSome, IsTrue};
-ghost use Rattle.ads_edge.specs.Came.{CameWithin};
+ghost use Rattle.ads_edge.specs.Arrived.{ArrivedWithin};
 ghost use Rattle.ads_edge.specs.Written.{WrittenWithin, alive_after as written_alive, is_there, taken_of};
 
-use crate::came::Came;
+use crate::arrived::Arrived;
 use crate::out_buffer::OutBuffer;
 use crate::stage::Stage;
 use crate::written::Written;
@@ -73,15 +73,15 @@ impl Connection {
     }
 
     /// Reads once in its turn; bytes that come are a sign of life.
-    pub(crate) fn read(&mut self, buffer: &mut [u8], now: u64) -> Came
-        ensures within { CameWithin result (length buffer.new) }
+    pub(crate) fn read(&mut self, buffer: &mut [u8], now: u64) -> Arrived
+        ensures within { ArrivedWithin result (length buffer.new) }
         ensures same { self.new ≡ record self.old { to_read = false; alive = alive_after result now self.old.alive } }
     {
         self.to_read = false;
         let came = came_over(&mut self.stream, buffer);
         match came {
-            Came::Bytes(_) => self.alive = now,
-            Came::Nothing | Came::End | Came::Failed => {}
+            Arrived::Bytes(_) => self.alive = now,
+            Arrived::Nothing | Arrived::End | Arrived::Failed => {}
         }
         came
     }
@@ -196,25 +196,25 @@ impl Connection {
 }
 
 // Reads once.
-fn came_over(stream: &mut TcpStream, buffer: &mut [u8]) -> Came
-    ensures within { CameWithin result (length buffer.new) }
+fn came_over(stream: &mut TcpStream, buffer: &mut [u8]) -> Arrived
+    ensures within { ArrivedWithin result (length buffer.new) }
     ensures same { stream.new ≡ stream.old }
 {
     for _ in 0..u64::MAX {
         match stream.read(buffer) {
-            Ok(0) => return Came::End,
-            Ok(n) => return Came::Bytes(n),
+            Ok(0) => return Arrived::End,
+            Ok(n) => return Arrived::Bytes(n),
             Err(error) => {
                 if error.kind() == ErrorKind::WouldBlock {
-                    return Came::Nothing;
+                    return Arrived::Nothing;
                 }
                 if error.kind() != ErrorKind::Interrupted {
-                    return Came::Failed;
+                    return Arrived::Failed;
                 }
             }
         }
     }
-    Came::Failed
+    Arrived::Failed
 }
 
 // Writes once.

@@ -2,15 +2,15 @@
 #![tactic(auto)]
 
 mod allowed_net;
+mod arrived;
 mod beats;
-mod came;
 mod connection;
 mod description_watch;
 mod door_plan;
 mod doors;
 mod given;
 mod guest;
-mod heard;
+mod happened;
 mod link_clock;
 mod listening_at;
 mod out_buffer;
@@ -26,7 +26,7 @@ mod sockets;
 mod stage;
 mod standard;
 mod tick_clock;
-mod turn;
+mod told;
 mod vanished;
 mod wall_clock;
 mod words;

@@ -3,14 +3,14 @@
 ghost use Rattle.std.specs.Prelude.{◌≡◌, ◌≤◌, ◌<◌, ◌^◌, ◌∷◌, ◌++◌, ◌+◌, [], length, vec_len, nat_lt};
 ghost use Rattle.std.specs.Prelude.{true, false, IfOk, OnOk, IfSome, OnSome, IfNone, if◌then◌else◌};
 ghost use Rattle.std.specs.List.{HoldsAt, list_any, remove};
-ghost use Rattle.ads_edge.specs.Came.{CameWithin};
+ghost use Rattle.ads_edge.specs.Arrived.{ArrivedWithin};
 ghost use Rattle.ads_edge.specs.declared.connection.Connection.{Connection};
 
-use crate::came::Came;
+use crate::arrived::Arrived;
 use crate::connection::Connection;
+use crate::happened::Happened;
 use crate::silence::longest_silent;
 use crate::stage::Stage;
-use crate::turn::Turn;
 use ads_base::{NoMemory, Octets};
 use mio::event::Event;
 use mio::net::TcpStream;
@@ -46,7 +46,7 @@ impl Peers {
     ghost use Rattle.ads_edge.specs.Peers.{ClosesSilent, IsEmpty, IsLongerBy, IsPeerOf, KeepsQueues, NoneIsSilent, is_busy};
     ghost use Rattle.std.specs.VecDeque.{deque_len};
     ghost use Rattle.ads_edge.specs.Connection.{has_waiting};
-    ghost use Rattle.ads_edge.specs.Turn.{IsTold, TellsOf};
+    ghost use Rattle.ads_edge.specs.Happened.{IsTold, TellsOf};
 
     /// No connection.
     pub(crate) fn new(alloc: Global) -> Peers
@@ -121,7 +121,7 @@ impl Peers {
     }
 
     /// What came on the next connection that brings something in its turn.
-    pub(crate) fn next_piece(&mut self, buffer: &mut [u8]) -> Option<Turn>
+    pub(crate) fn next_piece(&mut self, buffer: &mut [u8]) -> Option<Happened>
         ensures turn { OnSome result (self.new.turns < self.old.turns) }
     {
         for _ in 0..u64::MAX {
@@ -138,7 +138,7 @@ impl Peers {
     }
 
     /// The next thing that is to be told of a connection.
-    pub(crate) fn next_told(&mut self) -> Option<Turn>
+    pub(crate) fn next_told(&mut self) -> Option<Happened>
         ensures { IfSome result IsTold }
     {
         for _ in 0..u64::MAX {
@@ -261,7 +261,7 @@ impl Peers {
 
     /// The connection that is silent longest loses its place, if that is for five minutes at least.
     #[tactic(auto, using(crate::proofs::SilenceLemmas::closes_silent))]
-    pub(crate) fn close_silent(&mut self) -> Option<Turn>
+    pub(crate) fn close_silent(&mut self) -> Option<Happened>
         ensures closes { OnSome result (ClosesSilent self.old self.new) }
     {
         let place = longest_silent(self.connections.as_slice(), self.beat)?;
@@ -372,22 +372,28 @@ impl Peers {
     }
 
     // Reads a connection in its turn.
-    fn read_from(&mut self, number: u32, buffer: &mut [u8]) -> Option<Turn>
+    fn read_from(&mut self, number: u32, buffer: &mut [u8]) -> Option<Happened>
         ensures own { IfSome result (TellsOf number) }
         ensures turns { self.new.turns ≡ self.old.turns }
     {
         let place = self.place_of(number)?;
         let room = buffer.len();
         match read_at(&mut self.connections, place, buffer, self.beat) {
-            Came::Bytes(n) => self.take_piece(place, number, &buffer[..n], n == room),
-            Came::Nothing => None,
-            Came::End => self.end(place, number),
-            Came::Failed => self.fail(place, number),
+            Arrived::Bytes(n) => self.take_piece(place, number, &buffer[..n], n == room),
+            Arrived::Nothing => None,
+            Arrived::End => self.end(place, number),
+            Arrived::Failed => self.fail(place, number),
         }
     }
 
     // A piece came; where it filled the buffer or the peer sends no more, there is something left to read.
-    fn take_piece(&mut self, place: usize, number: u32, bytes: &[u8], full: bool) -> Option<Turn>
+    fn take_piece(
+        &mut self,
+        place: usize,
+        number: u32,
+        bytes: &[u8],
+        full: bool,
+    ) -> Option<Happened>
         ensures own { IfSome result (TellsOf number) }
         ensures turns { self.new.turns ≡ self.old.turns }
     {
@@ -395,20 +401,20 @@ impl Peers {
         let served = connection.stage == Stage::Served;
         if full || connection.hung {
             if self.list_to_read(place, false).is_err() {
-                return Some(Turn::Memory);
+                return Some(Happened::Memory);
             }
         }
         if !served {
             return None;
         }
         match copied_in(self.alloc, &mut self.spare, bytes) {
-            Ok(piece) => Some(Turn::Piece(number, piece)),
-            Err(NoMemory) => Some(Turn::Memory),
+            Ok(piece) => Some(Happened::Piece(number, piece)),
+            Err(NoMemory) => Some(Happened::Memory),
         }
     }
 
     // The peer sends no more. That is told once all is taken that waits for it in the server.
-    fn end(&mut self, place: usize, number: u32) -> Option<Turn>
+    fn end(&mut self, place: usize, number: u32) -> Option<Happened>
         ensures own { IfSome result (TellsOf number) }
         ensures turns { self.new.turns ≡ self.old.turns }
     {
@@ -417,7 +423,7 @@ impl Peers {
         match connection.stage {
             Stage::Served => match self.to_tell.push_back(number) {
                 Ok(()) => None,
-                Err(_) => Some(Turn::Memory),
+                Err(_) => Some(Happened::Memory),
             },
             Stage::Failed | Stage::Leaving => None,
             Stage::Parting => {
@@ -428,21 +434,21 @@ impl Peers {
     }
 
     // The connection failed when it was read, or its peer is taken for vanished.
-    fn fail(&mut self, place: usize, number: u32) -> Option<Turn>
-        ensures closed { IfSome result (λ turn. turn ≡ Turn.Closed number) }
+    fn fail(&mut self, place: usize, number: u32) -> Option<Happened>
+        ensures closed { IfSome result (λ turn. turn ≡ Happened.Closed number) }
         ensures gone { place < vec_len self.old.connections → self.new.connections.items ≡ remove self.old.connections.items place }
         ensures turns { self.new.turns ≡ self.old.turns }
     {
         let stage = self.connections.get(place)?.stage;
         self.remove(place);
         match stage {
-            Stage::Served | Stage::Failed => Some(Turn::Closed(number)),
+            Stage::Served | Stage::Failed => Some(Happened::Closed(number)),
             Stage::Leaving | Stage::Parting => None,
         }
     }
 
     // Tells what is to be told of a connection.
-    fn tell(&mut self, number: u32) -> Option<Turn>
+    fn tell(&mut self, number: u32) -> Option<Happened>
         ensures own { IfSome result (TellsOf number) }
         ensures told { IfSome result IsTold }
     {
@@ -452,7 +458,7 @@ impl Peers {
             Stage::Served => {}
             Stage::Failed => {
                 self.remove(place);
-                return Some(Turn::Closed(number));
+                return Some(Happened::Closed(number));
             }
             Stage::Leaving | Stage::Parting => return None,
         }
@@ -460,16 +466,16 @@ impl Peers {
             connection.short = false;
             // Where its peer sends no more, that is told behind what the server still offers.
             if connection.ended && self.to_tell.push_back(number).is_err() {
-                return Some(Turn::Memory);
+                return Some(Happened::Memory);
             }
-            return Some(Turn::Writable(number));
+            return Some(Happened::Writable(number));
         }
         if !connection.ended || connection.short {
             return None;
         }
         match self.leave(place) {
-            Ok(()) => Some(Turn::Closed(number)),
-            Err(NoMemory) => Some(Turn::Memory),
+            Ok(()) => Some(Happened::Closed(number)),
+            Err(NoMemory) => Some(Happened::Memory),
         }
     }
 
@@ -540,13 +546,13 @@ impl Peers {
 }
 
 // Reads a connection in its turn.
-fn read_at(connections: &mut Vec<Connection>, place: usize, buffer: &mut [u8], now: u64) -> Came
-    ensures within { CameWithin result (length buffer.new) }
+fn read_at(connections: &mut Vec<Connection>, place: usize, buffer: &mut [u8], now: u64) -> Arrived
+    ensures within { ArrivedWithin result (length buffer.new) }
     ensures same { vec_len connections.new ≡ vec_len connections.old }
 {
     match connections.get_mut(place) {
         Some(connection) => connection.read(buffer, now),
-        None => Came::Nothing,
+        None => Arrived::Nothing,
     }
 }
 

@@ -1,13 +1,13 @@
 //! A client's connection to a server.
 
 ghost use Rattle.std.specs.Prelude.{◌≡◌, ◌≤◌, ◌<◌, length, IfSome};
-ghost use Rattle.ads_edge.specs.Heard.{HeardWithin};
+ghost use Rattle.ads_edge.specs.Told.{ToldWithin};
 ghost use Rattle.ads_edge.specs.LinkClock.{IsSteady};
 
-use crate::heard::Heard;
 use crate::link_clock::LinkClock;
 use crate::listening_at::address_of;
 use crate::refusal::{PROGRAM, Refusal, tell};
+use crate::told::Told;
 use crate::wall_clock::moment;
 use ads_outside::{Connected, Link, LinkCounts, Received, Sent};
 use std::io::{self, ErrorKind, Read, Write};
@@ -92,7 +92,7 @@ impl<R: Net + Clock + Eprint + Drop> Link for RealLink<R> {
     fn recv(&mut self, buf: &mut [u8]) -> Received {
         let came = match &mut self.stream {
             Some(stream) => came_over(stream, buf),
-            None => Heard::Failed,
+            None => Told::Failed,
         };
         let Some(now) = later_moment(&self.rt, self.clock, self.counts.moment()) else {
             self.faults = self.faults.saturating_add(1);
@@ -100,19 +100,19 @@ impl<R: Net + Clock + Eprint + Drop> Link for RealLink<R> {
             return Received::Failed;
         };
         match came {
-            Heard::Bytes(n) => {
+            Told::Bytes(n) => {
                 self.counts.bytes(now);
                 Received::Bytes(n, now)
             }
-            Heard::Nothing => {
+            Told::Nothing => {
                 self.counts.quiet(now);
                 Received::Quiet(now)
             }
-            Heard::End => {
+            Told::End => {
                 self.counts.close(now);
                 Received::Closed(now)
             }
-            Heard::Failed => {
+            Told::Failed => {
                 self.faults = self.faults.saturating_add(1);
                 self.counts.break_off();
                 Received::Failed
@@ -180,24 +180,24 @@ fn later_moment<C: Clock>(rt: &C, clock: Option<LinkClock>, last: u64) -> Option
 }
 
 // Reads once.
-fn came_over<S: Read>(stream: &mut S, buf: &mut [u8]) -> Heard
-    ensures { HeardWithin result (length buf.new) }
+fn came_over<S: Read>(stream: &mut S, buf: &mut [u8]) -> Told
+    ensures { ToldWithin result (length buf.new) }
 {
     let room = buf.len().min(AT_ONCE);
     for _ in 0..u64::MAX {
         match stream.read(&mut buf[..room]) {
-            Ok(0) => return Heard::End,
-            Ok(n) => return Heard::Bytes(n as u32),
+            Ok(0) => return Told::End,
+            Ok(n) => return Told::Bytes(n as u32),
             Err(error) => {
                 let kind = error.kind();
                 if kind == ErrorKind::WouldBlock || kind == ErrorKind::TimedOut {
-                    return Heard::Nothing;
+                    return Told::Nothing;
                 }
                 if kind != ErrorKind::Interrupted {
-                    return Heard::Failed;
+                    return Told::Failed;
                 }
             }
         }
     }
-    Heard::Failed
+    Told::Failed
 }

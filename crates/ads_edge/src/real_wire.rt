@@ -4,8 +4,8 @@ ghost use Rattle.std.specs.Prelude.{◌≡◌, ◌<◌, ◌^◌, IfSome, length}
 
 use crate::AllowedNet;
 use crate::door_plan::DoorPlan;
+use crate::happened::Happened;
 use crate::sockets::Sockets;
-use crate::turn::Turn;
 use ads_base::NoMemory;
 use ads_outside::{Event, Next, Offer, Shut, Started, Wire};
 use std::alloc::Global;
@@ -158,10 +158,10 @@ impl<R: Net + Clock + SystemFiles + Eprint + Drop> Wire for RealWire<R> {
         let number = self.last.checked_add(1);
         let turn = match &mut self.sockets {
             Some(sockets) => sockets.turn(&self.rt, number, self.buffer.as_mut_slice()),
-            None => Turn::Failed,
+            None => Happened::Failed,
         };
         match turn {
-            Turn::Opened => match number {
+            Happened::Opened => match number {
                 Some(number) => {
                     self.last = number;
                     self.events = self.events.saturating_add(1);
@@ -173,32 +173,32 @@ impl<R: Net + Clock + SystemFiles + Eprint + Drop> Wire for RealWire<R> {
                     Next::Failed
                 }
             },
-            Turn::Piece(conn, bytes) => {
+            Happened::Piece(conn, bytes) => {
                 self.events = self.events.saturating_add(1);
                 Next::Event(Event::Piece(conn, bytes))
             }
-            Turn::Closed(conn) => {
+            Happened::Closed(conn) => {
                 self.events = self.events.saturating_add(1);
                 Next::Event(Event::Closed(conn))
             }
-            Turn::Writable(conn) => {
+            Happened::Writable(conn) => {
                 self.events = self.events.saturating_add(1);
                 Next::Event(Event::Writable(conn))
             }
-            Turn::Tick(moment) => {
+            Happened::Tick(moment) => {
                 self.events = self.events.saturating_add(1);
                 Next::Event(Event::Tick(moment))
             }
-            Turn::Reload(bytes) => {
+            Happened::Reload(bytes) => {
                 self.events = self.events.saturating_add(1);
                 Next::Event(Event::Reload(bytes))
             }
-            Turn::Failed => {
+            Happened::Failed => {
                 self.faults = self.faults.saturating_add(1);
                 self.stops = self.stops.saturating_add(1);
                 Next::Failed
             }
-            Turn::Memory => {
+            Happened::Memory => {
                 self.wants = self.wants.saturating_add(1);
                 Next::Memory
             }

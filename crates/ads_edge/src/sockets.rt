@@ -5,16 +5,16 @@ ghost use Rattle.std.specs.Option.{ForSome};
 ghost use Rattle.std.specs.Net.Socket.{socket_ip};
 ghost use Rattle.ads_edge.specs.AllowedNet.{allows as is_let_in};
 ghost use Rattle.ads_edge.specs.declared.guest.Guest.{Guest};
-ghost use Rattle.ads_edge.specs.Turn.{IsFault, IsOfTime, IsTick, OpensBy};
+ghost use Rattle.ads_edge.specs.Happened.{IsFault, IsOfTime, IsTick, OpensBy};
 
 use crate::description_watch::DescriptionWatch;
 use crate::door_plan::DoorPlan;
 use crate::doors::Doors;
 use crate::guest::Guest;
+use crate::happened::Happened;
 use crate::peers::Peers;
 use crate::refusal::{Refusal, tell};
 use crate::tick_clock::TickClock;
-use crate::turn::Turn;
 use crate::vanished::watch_over;
 use crate::wall_clock::moment;
 use ads_base::{NoMemory, Octets};
@@ -92,7 +92,7 @@ impl Sockets {
         rt: &R,
         number: Option<u32>,
         buffer: &mut [u8],
-    ) -> Turn {
+    ) -> Happened {
         for _ in 0..u64::MAX {
             if let Some(turn) = self.look(rt, number, buffer) {
                 return turn;
@@ -101,7 +101,7 @@ impl Sockets {
                 return turn;
             }
         }
-        Turn::Failed
+        Happened::Failed
     }
 
     /// Offers bytes to a connection: how many were taken; None where it is not there or its peer is gone.
@@ -135,7 +135,7 @@ impl Sockets {
         rt: &R,
         number: Option<u32>,
         buffer: &mut [u8],
-    ) -> Option<Turn> {
+    ) -> Option<Happened> {
         if let Some(turn) = self.time_turn(rt, buffer) {
             return Some(turn);
         }
@@ -147,7 +147,7 @@ impl Sockets {
             return Some(turn);
         }
         if self.peers.send_all().is_err() {
-            return Some(Turn::Memory);
+            return Some(Happened::Memory);
         }
         if let Some(turn) = self.peers.next_told() {
             return Some(turn);
@@ -156,17 +156,17 @@ impl Sockets {
     }
 
     // A tick or a reload, if one is due. Behind a tick something else has its turn, if there is anything.
-    fn time_turn<R: Clock + SystemFiles>(&mut self, rt: &R, buffer: &mut [u8]) -> Option<Turn>
+    fn time_turn<R: Clock + SystemFiles>(&mut self, rt: &R, buffer: &mut [u8]) -> Option<Happened>
         ensures { IfSome result IsOfTime }
     {
         if self.struck {
             return None;
         }
         let Ok(now) = Instant::now(rt) else {
-            return Some(Turn::Failed);
+            return Some(Happened::Failed);
         };
         if let Some(bytes) = self.watch.changed(self.alloc, rt, now, buffer) {
-            return Some(Turn::Reload(bytes));
+            return Some(Happened::Reload(bytes));
         }
         if !self.clock.is_due(now) {
             return None;
@@ -176,21 +176,21 @@ impl Sockets {
         self.peers.pass_tick(self.clock.beat_at(now));
         match moment(rt) {
             Some(wall) => self.tick(now, wall),
-            None => Some(Turn::Failed),
+            None => Some(Happened::Failed),
         }
     }
 
     // The tick of a beat, where it gives one.
-    fn tick(&mut self, now: Instant, wall: u64) -> Option<Turn>
+    fn tick(&mut self, now: Instant, wall: u64) -> Option<Happened>
         ensures { IfSome result IsTick }
     {
         let moment = self.clock.strike(now, wall)?;
-        Some(Turn::Tick(moment))
+        Some(Happened::Tick(moment))
     }
 
     // Accepts a connection, if one waits and there is a place for it. Behind guarded doors it is asked in without a place too, so
     // that who is not let in is refused at once.
-    fn accept(&mut self, number: Option<u32>) -> Option<Turn> {
+    fn accept(&mut self, number: Option<u32>) -> Option<Happened> {
         if self.peers.has_room() {
             let guest = self.next_guest()?;
             return self.welcome(number, guest);
@@ -223,13 +223,13 @@ impl Sockets {
     }
 
     // A connection was accepted. Where it can't be watched it is dropped.
-    fn welcome(&mut self, number: Option<u32>, guest: Guest) -> Option<Turn>
+    fn welcome(&mut self, number: Option<u32>, guest: Guest) -> Option<Happened>
         requires few { vec_len self.old.peers.connections < 64 }
         requires let_in { IsTrue (is_let_in self.old.doors.allowed.items (socket_ip guest.peer)) }
         ensures { IfSome result (OpensBy number) }
     {
         let Some(number) = number else {
-            return Some(Turn::Failed);
+            return Some(Happened::Failed);
         };
         let Guest { mut stream, peer } = guest;
         let _ = stream.set_nodelay(true);
@@ -240,17 +240,17 @@ impl Sockets {
             .register(&mut stream, Token(number as usize), both)
             .ok()?;
         match self.peers.open(number, stream, peer) {
-            Ok(()) => Some(Turn::Opened),
-            Err(NoMemory) => Some(Turn::Memory),
+            Ok(()) => Some(Happened::Opened),
+            Err(NoMemory) => Some(Happened::Memory),
         }
     }
 
     // Waits until a socket is ready or a tick is due.
-    fn wait<R: Clock>(&mut self, rt: &R) -> Option<Turn>
+    fn wait<R: Clock>(&mut self, rt: &R) -> Option<Happened>
         ensures { IfSome result IsFault }
     {
         let Ok(now) = Instant::now(rt) else {
-            return Some(Turn::Failed);
+            return Some(Happened::Failed);
         };
         let left = if self.is_busy() {
             Duration::ZERO
@@ -292,16 +292,16 @@ impl Sockets {
     }
 
     // Polls for so long, and notes what is ready.
-    fn poll_for(&mut self, left: Duration) -> Option<Turn>
+    fn poll_for(&mut self, left: Duration) -> Option<Happened>
         ensures { IfSome result IsFault }
     {
         if self.poll.poll(&mut self.events, Some(left)).is_err() {
-            return Some(Turn::Failed);
+            return Some(Happened::Failed);
         }
         match note_all(&self.events, &mut self.peers) {
             Ok(true) => self.doors.knock(),
             Ok(false) => {}
-            Err(NoMemory) => return Some(Turn::Memory),
+            Err(NoMemory) => return Some(Happened::Memory),
         }
         self.peers.begin_turns();
         None

@@ -1,7 +1,7 @@
 //! A machine that is served.
 
 ghost use denote.Param.Send.{IsSync};
-ghost use Rattle.std.specs.Prelude.{◌≡◌, ◌≤◌, ◌<◌, ℕ, List, length, Option, Some, None, OnOk, OnErr, IfOk, IfSome, IsSome, IsErr};
+ghost use Rattle.std.specs.Prelude.{◌≡◌, ◌≤◌, ◌<◌, ℕ, List, length, Option, Some, None, OnOk, OnErr, IfSome, IsSome, IsErr};
 ghost use Rattle.std.specs.Prelude.{option_copied, option_map};
 ghost use Rattle.std.specs.List.{concat};
 ghost use Rattle.ads_outside.specs.declared.event.Event.{Event as EventOf};
@@ -17,7 +17,7 @@ ghost use Rattle.ads_served.specs.Standing.{Standing, standing_after, standing_a
 ghost use Rattle.ads_served.specs.Due.{LeavesOutIdle, FitsOffer, IsRun};
 ghost use Rattle.ads_served.specs.Opened.{AreApart, OpensAlone};
 
-use ads_base::{ListOf, NoMemory};
+use ads_base::NoMemory;
 use ads_outside::Event;
 use std::alloc::Global;
 use std::thread::Threads;
@@ -63,11 +63,11 @@ pub trait Served {
         ensures no_memory { OnErr result (has_failed self.new) }
         ensures from_then_on { has_failed self.old → IsErr result };
 
-    /// The connections that have something to be offered or are to be shut, in the order of opening. Others may
-    /// stand among them, and none is left out that is to be served. After want of memory `step` answers want of memory
-    /// from then on.
-    fn due(&mut self, alloc: Global) -> Result<ListOf<u32>, NoMemory>
-        ensures due { IfOk result (λ numbers. (x : Standing World Client) → serves self.new x → LeavesOutIdle x.running numbers) }
+    /// The connections that have something to be offered or are to be shut, in the order of opening, in place of what
+    /// `numbers` held. Others may stand among them, and none is left out that is to be served. After want of memory `step`
+    /// answers want of memory from then on.
+    fn due(&mut self, alloc: Global, numbers: &mut Vec<u32>) -> Result<(), NoMemory>
+        ensures due { OnOk result ((x : Standing World Client) → serves self.new x → LeavesOutIdle x.running numbers.new.items) }
         ensures stays { OnOk result ((x : Standing World Client) → serves self.old x → serves self.new x) }
         ensures no_memory { OnErr result (has_failed self.new) };
 

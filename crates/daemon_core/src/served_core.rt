@@ -1,7 +1,7 @@
 //! The core and its board as what a loop serves.
 
 use crate::{Board, PostedCore};
-use ads_base::{ListOf, NoMemory};
+use ads_base::NoMemory;
 use ads_outside::Event;
 use ads_served::Served;
 use server_core::{Core, Sources};
@@ -41,8 +41,8 @@ impl<S: Sources, B: Board + Drop> Served for PostedCore<S, B> {
         self.take(rt, alloc, event)
     }
 
-    fn due(&mut self, alloc: Global) -> Result<ListOf<u32>, NoMemory> {
-        <Core<S> as Served>::due(&mut self.core, alloc)
+    fn due(&mut self, alloc: Global, numbers: &mut Vec<u32>) -> Result<(), NoMemory> {
+        <Core<S> as Served>::due(&mut self.core, alloc, numbers)
     }
 
     fn offer_of(&self, conn: u32) -> Option<&[u8]> {

@@ -8,7 +8,8 @@ ghost use Rattle.serve_loop.specs.ToldStreams.{StreamsOfTurns};
 ghost use Rattle.serve_loop.specs.TurnTaken.{StandsOver, AfterServe, GaveEvents};
 ghost use Rattle.serve_loop.specs.Wanting.{WasWanting};
 
-use crate::{Turn, turn};
+use crate::Turn;
+use crate::turning::turn_with;
 use ads_outside::{End, Wire};
 use ads_served::Served;
 use std::alloc::Global;
@@ -62,8 +63,9 @@ fn take_turns<T: Threads + Sync, W: Wire, M: Served>(
     ensures wanted { (W.state wire.old).wants ≤ (W.state wire.new).wants }
     ensures memory { result ≡ End.Memory → WasWanting (M.has_failed served.new) (W.state wire.old) (W.state wire.new) }
 {
+    let mut numbers = Vec::new(alloc);
     for _taken in 0..limit {
-        match turn(rt, alloc, served, wire) {
+        match turn_with(rt, alloc, served, wire, &mut numbers) {
             Turn::Tick | Turn::Other => {}
             Turn::End => return End::Done,
             Turn::LinkFault => return End::LinkFault,

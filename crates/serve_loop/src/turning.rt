@@ -29,13 +29,31 @@ pub fn turn<T: Threads + Sync, W: Wire, M: Served>(
     ensures wanted { (W.state wire.old).wants ≤ (W.state wire.new).wants }
     ensures memory { result ≡ Turn.Memory → WasWanting (M.has_failed served.new) (W.state wire.old) (W.state wire.new) }
 {
+    let mut numbers = Vec::new(alloc);
+    turn_with(rt, alloc, served, wire, &mut numbers)
+}
+
+// The same, with room for the numbers of the connections that are to be served.
+pub(crate) fn turn_with<T: Threads + Sync, W: Wire, M: Served>(
+    rt: &T,
+    alloc: Global,
+    served: &mut M,
+    wire: &mut W,
+    numbers: &mut Vec<u32>,
+) -> Turn
+    ensures turn { AfterTurn result M.steps M.noted (M.serves served.old) (M.serves served.new) (W.state wire.old) (W.state wire.new) }
+    ensures kept { W.kept wire.new ≡ W.kept wire.old }
+    ensures later { (W.state wire.old).faults ≤ (W.state wire.new).faults }
+    ensures wanted { (W.state wire.old).wants ≤ (W.state wire.new).wants }
+    ensures memory { result ≡ Turn.Memory → WasWanting (M.has_failed served.new) (W.state wire.old) (W.state wire.new) }
+{
     let event = match wire.next() {
         Next::Event(event) => event,
         Next::End => return Turn::End,
         Next::Failed => return Turn::LinkFault,
         Next::Memory => return Turn::Memory,
     };
-    match take_event(rt, alloc, served, wire, &event) {
+    match take_event(rt, alloc, served, wire, &event, numbers) {
         Ok(()) => give_back(wire, event),
         Err(NoMemory) => Turn::Memory,
     }
@@ -73,6 +91,7 @@ fn take_event<T: Threads + Sync, W: Wire, M: Served>(
     served: &mut M,
     wire: &mut W,
     event: &Event,
+    numbers: &mut Vec<u32>,
 ) -> Result<(), NoMemory>
     ensures ok { OnOk result (Leads M.steps M.noted (ComesBy M.steps M.noted (M.serves served.old) event.now)
         (M.serves served.new) (W.state wire.old).history (W.state wire.new).history 0 (ServesAll M.steps)) }
@@ -84,7 +103,7 @@ fn take_event<T: Threads + Sync, W: Wire, M: Served>(
     ensures memory { OnErr result (WasWanting (M.has_failed served.new) (W.state wire.old) (W.state wire.new)) }
 {
     served.step(rt, alloc, event)?;
-    let numbers = served.due(alloc)?;
+    served.due(alloc, numbers)?;
     serve_each(served, wire, numbers.as_slice())?;
     Ok(())
 }

@@ -18,7 +18,7 @@ returns-in-LinkFault-clause-serve g c =
     let kept = stops_kept _ _ _ _ _ _ _ turns in
     ends_before _ _ _ _ _ _ _ _ _ _ turns c.loop-taken-test.true c.in-LinkFault.ensures.turn.1
     (stops_later (g.W.Wire.state c.args.wire.now) (g.W.Wire.state c.loop-taken.wire)
-    (g.W.Wire.state c.turn.new.wire) kept c.loop-taken.invariant.later c.in-LinkFault.ensures.turn.0)
+    (g.W.Wire.state c.turn_with.new.wire) kept c.loop-taken.invariant.later c.in-LinkFault.ensures.turn.0)
 
 pub returns-in-Memory-clause-serve : goal.returns-in-Memory-clause-serve
 returns-in-Memory-clause-serve g c =
@@ -26,16 +26,16 @@ returns-in-Memory-clause-serve g c =
 
 pub returns-in-Memory-clause-memory : goal.returns-in-Memory-clause-memory
 returns-in-Memory-clause-memory g c = λ is.
-    wanting_later _ (g.W.Wire.state c.args.wire.now) (g.W.Wire.state c.loop-taken.wire) (g.W.Wire.state c.turn.new.wire)
+    wanting_later _ (g.W.Wire.state c.args.wire.now) (g.W.Wire.state c.loop-taken.wire) (g.W.Wire.state c.turn_with.new.wire)
     c.loop-taken.invariant.wanted (c.in-Memory.ensures.memory refl)
 
 pub loop-taken-preserved : goal.loop-taken-preserved
 loop-taken-preserved g c = record {
   turns = elim c.in-Tick.is [
-    | inl e ↦ one_more _ _ _ _ _ _ _ _ _ _ c.loop-taken.invariant.turns (rw e at c.turn.ensures.turn)
-    | inr e ↦ one_more _ _ _ _ _ _ _ _ _ _ c.loop-taken.invariant.turns (rw e at c.turn.ensures.turn)
+    | inl e ↦ one_more _ _ _ _ _ _ _ _ _ _ c.loop-taken.invariant.turns (rw e at c.turn_with.ensures.turn)
+    | inr e ↦ one_more _ _ _ _ _ _ _ _ _ _ c.loop-taken.invariant.turns (rw e at c.turn_with.ensures.turn)
   ];
-  kept = c.turn.ensures.kept ∙ c.loop-taken.invariant.kept;
-  later = le_trans c.loop-taken.invariant.later c.turn.ensures.later;
-  wanted = le_trans c.loop-taken.invariant.wanted c.turn.ensures.wanted;
+  kept = c.turn_with.ensures.kept ∙ c.loop-taken.invariant.kept;
+  later = le_trans c.loop-taken.invariant.later c.turn_with.ensures.later;
+  wanted = le_trans c.loop-taken.invariant.wanted c.turn_with.ensures.wanted;
 }

@@ -10,16 +10,16 @@ returns-in_err-step-clause-no_memory g c = on_err _ (breaks_nowhere _ _ _ _ _ re
 pub returns-in_err-step-clause-memory : goal.returns-in_err-step-clause-memory
 returns-in_err-step-clause-memory g c = on_err _ (inr c.in_err-step.ensures.no_memory)
 
-pub returns-in_err-numbers-clause-no_memory : goal.returns-in_err-numbers-clause-no_memory
-returns-in_err-numbers-clause-no_memory g c = on_err _ (breaks_nowhere _ _ _ _ _ refl)
+pub returns-in_err-due-clause-no_memory : goal.returns-in_err-due-clause-no_memory
+returns-in_err-due-clause-no_memory g c = on_err _ (breaks_nowhere _ _ _ _ _ refl)
 
-pub returns-in_err-numbers-clause-memory : goal.returns-in_err-numbers-clause-memory
-returns-in_err-numbers-clause-memory g c = on_err _ (inr c.in_err-numbers.ensures.no_memory)
+pub returns-in_err-due-clause-memory : goal.returns-in_err-due-clause-memory
+returns-in_err-due-clause-memory g c = on_err _ (inr c.in_err-due.ensures.no_memory)
 
 pub returns-in_err-serve_each-clause-no_memory : goal.returns-in_err-serve_each-clause-no_memory
 returns-in_err-serve_each-clause-no_memory g c =
     on_err _ (leads_from _ _ _ _ _ _ _ _ _ _
-    (λ y comes. c.in_ok-numbers.ensures.stays y (comes_to _ _ _ (g.M.Served.serves c.step.new.self) _ c.in_ok-step.ensures.follows y comes))
+    (λ y comes. c.in_ok-due.ensures.stays y (comes_to _ _ _ (g.M.Served.serves c.step.new.self) _ c.in_ok-step.ensures.follows y comes))
     (λ y ms serves offers. offers) c.in_err-serve_each.ensures.no_memory)
 
 pub returns-in_err-serve_each-clause-memory : goal.returns-in_err-serve_each-clause-memory
@@ -28,6 +28,6 @@ returns-in_err-serve_each-clause-memory g c = on_err _ (inl c.in_err-serve_each.
 pub returns-clause-ok : goal.returns-clause-ok
 returns-clause-ok g c =
     leads_from _ _ _ _ _ _ _ _ _ _
-    (λ y comes. c.in_ok-numbers.ensures.stays y (comes_to _ _ _ (g.M.Served.serves c.step.new.self) _ c.in_ok-step.ensures.follows y comes))
-    (λ y ms serves all. all (rw c.as_slice.ensures (c.in_ok-numbers.ensures.due y serves)) (g.met.M.Served.apart c.due.new.self y serves))
+    (λ y comes. c.in_ok-due.ensures.stays y (comes_to _ _ _ (g.M.Served.serves c.step.new.self) _ c.in_ok-step.ensures.follows y comes))
+    (λ y ms serves all. all (rw c.as_slice.ensures.value (c.in_ok-due.ensures.due y serves)) (g.met.M.Served.apart c.due.new.self y serves))
     c.in_ok-serve_each.ensures.ok

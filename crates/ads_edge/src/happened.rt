@@ -4,7 +4,7 @@ use ads_base::Octets;
 
 /// The next thing that happens on real sockets. A connection that is accepted has the number that was asked for.
 #[derive(Drop)]
-pub(crate) enum Turn {
+pub(crate) enum Happened {
     /// A connection was accepted.
     Opened,
     /// Bytes that came on a connection.

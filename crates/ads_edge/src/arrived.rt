@@ -2,7 +2,7 @@
 
 /// What came on a connection when it was read.
 #[derive(Clone, Copy)]
-pub(crate) enum Came {
+pub(crate) enum Arrived {
     /// So many bytes, which stand at the front of the buffer.
     Bytes(usize),
     /// No bytes are there now.

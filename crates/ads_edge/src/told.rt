@@ -2,7 +2,7 @@
 
 /// What came over a link.
 #[derive(Clone, Copy)]
-pub(crate) enum Heard {
+pub(crate) enum Told {
     /// So many bytes, at least one.
     Bytes(u32),
     /// Nothing for 10 ms.

@@ -2,7 +2,7 @@
 use Rattle.std.proofs.Common.{sym, ◌∙◌, inl}
 use Rattle.serve_loop.proofs.TurnLemmas.{takes_event, breaks_event, breaks_none, told_after}
 use Rattle.serve_loop.proofs.WantLemmas.{wanting_later, event_is_told}
-use Rattle.serve_loop.proofs.turning.turn.Goals as goal
+use Rattle.serve_loop.proofs.turning.turn_with.Goals as goal
 
 pub returns-in-Memory-clause-turn : goal.returns-in-Memory-clause-turn
 returns-in-Memory-clause-turn g c = breaks_none _ _ _ _ _ c.in-Memory.ensures.gives.same
