@@ -17,6 +17,7 @@ use Rattle.ams_tcp.specs.Held.{Held}
 use Rattle.connections.specs.Carries.{Carries, EachBeside, EachMarked, EachOutlet, EachStream, IsEntryOf, IsStreamOf}
 use Rattle.connections.specs.Outlets.{Outlets}
 use Rattle.connections.specs.Present.{present}
+use Rattle.connections.proofs.ColumnLemmas.{each_length}
 use Rattle.connections.proofs.StateLemmas.{present-gone, present-there}
 use Rattle.session.specs.StandsFor.{StandsFor}
 use Rattle.server_core.specs.declared.summary.Summary.{Summary}
@@ -158,12 +159,6 @@ given_all old_plant plant outcome (t ∷ ts) (u ∷ us) (k ∷ ks) asked marks c
 )
 
 -- as many are asked as there are outlets
-pub each_length : {X : Type 0} (R : X → ServedConnection → Type 0) (xs : List X) (ks : List ServedConnection) → EachBeside R xs ks → length xs ≡ length ks
-each_length R [] [] each = refl
-each_length R [] (k ∷ ks) each = absurd each
-each_length R (x ∷ xs) [] each = absurd each
-each_length R (x ∷ xs) (k ∷ ks) each = ap suc (each_length R xs ks each.1)
-
 asked_length : (a b : Plant) (outcome : Outcomes) (ts us : List Turned) → EachAsked a b outcome ts us → length us ≡ length ts
 asked_length a b outcome [] [] each = refl
 asked_length a b outcome [] (u ∷ us) each = absurd each
@@ -175,11 +170,15 @@ skipped_length es [] = refl
 skipped_length [] (t ∷ ts) = ap suc (skipped_length [] ts)
 skipped_length (e ∷ es) (t ∷ ts) = ap suc (skipped_length es ts)
 
+pub aligned : (es : Outlets) (plant : Plant) (ts : List Turned) (ps : List ServedConnection)
+    → EachOutlet es ps → EachClient plant (sessions_of ts) ps → length (skipped es ts) ≡ length es
+aligned es plant ts ps each clients =
+    skipped_length es ts ∙ each_length (IsClientOf plant) (sessions_of ts) ps clients ∙ sym (each_length IsEntryOf es ps each)
+
 pub all_asked : (es : Outlets) (old_plant plant : Plant) (outcome : Outcomes) (ts us : List Turned) (ps : List ServedConnection)
     → EachOutlet es ps → EachClient old_plant (sessions_of ts) ps → EachAsked old_plant plant outcome (skipped es ts) us → length us ≡ length es
 all_asked es old_plant plant outcome ts us ps each clients asked =
-    asked_length old_plant plant outcome (skipped es ts) us asked ∙ skipped_length es ts
-    ∙ each_length (IsClientOf old_plant) (sessions_of ts) ps clients ∙ sym (each_length IsEntryOf es ps each)
+    asked_length old_plant plant outcome (skipped es ts) us asked ∙ aligned es old_plant ts ps each clients
 
 all_there : (ks : List ServedConnection) → AreThere (present ks)
 all_there [] = tt

@@ -7,8 +7,7 @@ use Rattle.ads_outside.specs.declared.event.Event.TheVariants as event
 use Rattle.spec_machine.specs.Connection.{connection_of}
 use Rattle.spec_machine.specs.Summary.{count_of}
 use Rattle.connections.specs.Entries.{IsEntry, IsNoEntry}
-use Rattle.connections.specs.Present.{present}
-use Rattle.connections.proofs.CarriesLemmas.{none_present_at}
+use Rattle.connections.proofs.CarriesLemmas.{not_present}
 use Rattle.server_core.specs.declared.server.Server.{Server}
 use Rattle.server_core.specs.declared.turned.Turned.{Turned}
 use Rattle.server_core.specs.Columns.{Opens}
@@ -44,7 +43,7 @@ opened_some old new n waves none opens device counts s =
     let v = view_of old in
     let x = without_gone s.state in
     let here = serves_present v waves s.state s.serves in
-    let is_new = not_present v.outlets n (present s.state.state.connections) s.serves.outlets.each none in
+    let is_new = not_present v.outlets s.state.blocked s.state.state.connections n s.serves.outlets none in
     record {
       state = after_event x (event.Opened n);
       serves = (opens_new old new n waves x opens device counts here is_new).serves;

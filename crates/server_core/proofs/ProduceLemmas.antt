@@ -19,7 +19,7 @@ use Rattle.server_core.specs.declared.summary.Summary.{Summary}
 use Rattle.server_core.specs.Served.{ServedConnection}
 use Rattle.server_core.specs.Stands.{IsClientOf}
 use Rattle.server_core.specs.Counts.{Counts, replies_of, samples_of}
-use Rattle.server_core.proofs.CountLemmas.{same_count, same_counts}
+use Rattle.server_core.proofs.CountLemmas.{same_count, same_counts, more}
 
 pub produce-closing : (frame : Produced) (k : ServedConnection) → k.closing ≡ true → produce frame k ≡ k
 unfolding produce

@@ -1,5 +1,5 @@
 -- What all that is kept stands for, after each kind of move of one connection.
-use Rattle.std.proofs.Common.{◌≡◌, ℕ, ◌+◌, List, [], ◌∷◌, ◌++◌, length, set, Bool, true, false, refl, sym, ap, ◌∙◌, subst, inl, inr}
+use Rattle.std.proofs.Common.{◌≡◌, ℕ, zero, suc, ◌+◌, List, [], ◌∷◌, ◌++◌, length, set, Bool, true, false, refl, sym, ap, ◌∙◌, subst, inl, inr}
 use Rattle.std.specs.Prelude.{◌||◌, remove, slice_get, option_map, Option, Some, None}
 use Rattle.std.proofs.lemmas.Bool.{cond-true, or_left, or_right}
 use Rattle.signals.specs.Wave.{Wave}
@@ -16,7 +16,7 @@ use Rattle.spec_machine.specs.Events.{state_after_event}
 use Rattle.spec_machine.specs.Summary.{count_of, summary_of}
 use Rattle.connections.specs.Carries.{Carries, EachBeside, EachStream, IsOutlet, IsStreamOf}
 use Rattle.connections.specs.Entries.{IsEntry, IsNoEntry}
-use Rattle.connections.specs.Outlets.{Outlets, change_at, closing_at, fresh_outlet, frames_at, holding, is_closing, test_in, with_nothing, without_number}
+use Rattle.connections.specs.Outlets.{Outlets, change_at, closing_at, fresh_outlet, frames_at, holding, is_closing, outlet_at, test_in, with_nothing, without_number}
 use Rattle.connections.specs.Present.{present}
 use Rattle.connections.specs.declared.outlet.Outlet.{Outlet}
 use Rattle.connections.proofs.CarriesLemmas.{AtNumber, IsNotThere, at_number, changed, ended, not_there, opened}
@@ -156,6 +156,14 @@ stands_out v waves x n i conn serves at stream session frames closing =
     }
 
 -- it comes back with what the piece left
+put_back_queue : (es : Outlets) (i : ℕ) (o : Outlet) (frames : List (List ℕ)) (closes : Bool) → outlet_at es i ≡ Some o
+    → change_at (holding frames closes) i (change_at with_nothing i es) ≡ change_at (λ _. holding frames closes (with_nothing o)) i es
+put_back_queue [] i o frames closes there = refl
+put_back_queue (e ∷ es) zero o frames closes there =
+    let same : e.1 ≡ o = cc in
+    ap (λ (p : Outlet). (e.0, holding frames closes (with_nothing p)) ∷ es) same
+put_back_queue (e ∷ es) (suc i) o frames closes there = ap (λ fs. e ∷ fs) (put_back_queue es i o frames closes there)
+
 pub piece_follows : (v w : ServerView) (waves : List Wave) (x : CoreState) (n i : ℕ) (conn new : Conn) (piece : List ℕ)
     → ServesEach v waves x → IsEntry v.outlets n i
     → slice_get v.streams i ≡ Some conn.stream → slice_get v.sessions i ≡ Some conn.session
@@ -186,7 +194,7 @@ piece_follows v w waves x n i conn new piece serves place stream session frames 
       closing = ap (λ b. b || new.outlet.closing) closes ∙ go.stands.outlet.closing;
     } in
     let put : w.outlets ≡ change_at (λ _. p) i v.outlets =
-    outlets ∙ changed_there_twice v.outlets i at.o with_nothing (holding new.outlet.out new.outlet.closing) at.outlet in
+    outlets ∙ put_back_queue v.outlets i at.o new.outlet.out new.outlet.closing at.outlet in
     let carries = changed v.outlets x.blocked ks n i at.o p l serves.outlets place at.outlet back number there refl in
     let here : present (put_back l ks) ≡ set ps i l = at.place.put l (number ∙ sym at.number) there in
     subst (λ (o : Option ServedConnection). FollowsEach v w waves x

@@ -25,8 +25,21 @@ pub(crate) fn take_event<T: Threads + Sync, S: Sources>(
     requires { ServesSome (view_of server.old) (S.waves signals.old) }
     ensures { IfOk result (TakesEvent (view_of server.old) (view_of server.new) (S.waves signals.old) (S.waves signals.new) event.now) }
 {
-    // An event costs what it touches, and not what was served before it.
-    server.clients.outlets.settle();
+    server.settle();
+    take_settled(rt, alloc, server, signals, event)
+}
+
+// The same, once it is known which connections are idle: an event costs what it touches, and not what was served before it.
+fn take_settled<T: Threads + Sync, S: Sources>(
+    rt: &T,
+    alloc: Global,
+    server: &mut Server,
+    signals: &mut S,
+    event: &Event,
+) -> Result<Outcome, NoMemory>
+    requires { ServesSome (view_of server.old) (S.waves signals.old) }
+    ensures { IfOk result (TakesEvent (view_of server.old) (view_of server.new) (S.waves signals.old) (S.waves signals.new) event.now) }
+{
     match event {
         Event::Opened(connection) => {
             server.open(alloc, *connection)?;

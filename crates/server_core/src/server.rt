@@ -33,6 +33,13 @@ impl Server {
     ghost use Rattle.server_core.specs.ServerView.{view_of};
     ghost use Rattle.server_core.specs.Serves.{ServesEach, ServesSome, IsServing, FollowsEach};
 
+    /// Connections that are idle by now are forgotten among those that were touched.
+    pub(crate) fn settle(&mut self)
+        ensures view { view_of self.new ≡ view_of self.old }
+    {
+        self.clients.outlets.settle();
+    }
+
     /// A connection is opened; nothing changes where its number is there.
     pub(crate) fn open(&mut self, alloc: Global, connection: u32) -> Result<(), NoMemory>
         ensures follows { OnOk result ((waves : List Wave) (x : CoreState) → ServesEach (view_of self.old) waves x
