@@ -17,8 +17,8 @@ use Rattle.ams_relay.specs.declared.router.Router.{Router}
 use Rattle.ams_relay.specs.Holds.{Holds}
 use Rattle.ams_relay.specs.Touched.{AreDistinct, IsSomeDue, is_due_peer, due_in, OthersIdle, AreIdleBut, number_if_due, numbers_due}
 use Rattle.ams_relay.proofs.EntryLemmas.{value_there}
-use Rattle.spec_connections.specs.Entries.{IsEntry}
-use Rattle.spec_connections.proofs.EntryLemmas.{entry_of_key, keys_length}
+use Rattle.connections.specs.Entries.{IsEntry}
+use Rattle.connections.proofs.EntryLemmas.{entry_of_key, keys_length}
 use Rattle.ams_relay.proofs.ListLemmas.{filter-append}
 use Rattle.ams_relay.proofs.MoveLemmas.{offer_is, closing_there, closing_absent}
 use Rattle.ams_relay.proofs.StateLemmas.{numbers-distinct}

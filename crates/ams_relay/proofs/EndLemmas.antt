@@ -36,8 +36,8 @@ use Rattle.ams_relay.proofs.PeerLemmas.{closing_stands, fresh_stands}
 use Rattle.ams_relay.proofs.RequestLemmas.{Hearing, hearing, AreSame, same_narrower, heard_found, heard_none}
 use Rattle.ams_relay.proofs.RequestLemmas.{heard_there, heard_of_parts, deaf_closing, deaf_gone}
 use Rattle.ams_relay.proofs.StateLemmas.{Stays, number_of, numbers-ended}
-use Rattle.spec_connections.proofs.StateLemmas.{present-append, AreApart-append, was_none_append}
-use Rattle.spec_connections.specs.Present.{present}
+use Rattle.connections.proofs.StateLemmas.{present-append, AreApart-append, was_none_append}
+use Rattle.connections.specs.Present.{present}
 use Rattle.ams_relay.proofs.StateLemmas.{changed-apart, changed-none, changed-nothing}
 use Rattle.ams_relay.proofs.StateLemmas.{frames_in, frames-cons}
 

@@ -5,8 +5,8 @@ use Rattle.std.specs.Map.{keys_of, values_of}
 use Rattle.std.proofs.lemmas.Bool.{cases_eq, cond-true, cond-false}
 use Rattle.indexmap.specs.IndexMap.{set_value_at}
 use Rattle.spec_machine.proofs.Find.{test_same, test_other}
-use Rattle.spec_connections.specs.Entries.{IsEntry}
-use Rattle.spec_connections.proofs.EntryLemmas.{found_at, entry_behind, keys_set}
+use Rattle.connections.specs.Entries.{IsEntry}
+use Rattle.connections.proofs.EntryLemmas.{found_at, entry_behind, keys_set}
 use Rattle.ams_tcp.specs.Held.{Held}
 use Rattle.ams_tcp.specs.History.{Represents, nothing_fed}
 use Rattle.ams_relay.specs.declared.peer.Peer.{Peer}

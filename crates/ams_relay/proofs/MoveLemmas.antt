@@ -14,7 +14,7 @@ use Rattle.spec_machine.specs.Offers.{is_among, left_after, waiting_of, waiting_
 use Rattle.spec_machine.specs.Running.{Running, first_frame, offer_at, is_to_be_shut}
 use Rattle.spec_machine.proofs.Find.{test_same, test_other}
 use Rattle.out_queue.specs.Queue.{queued, front_of, frames_after}
-use Rattle.spec_connections.proofs.OfferLemmas.{is_offer, fits_first}
+use Rattle.connections.proofs.OfferLemmas.{is_offer, fits_first}
 use Rattle.spec_relay.specs.RelayState.{RelayWorld, Owned, RelayConnection, RelayState}
 use Rattle.spec_relay.specs.RelayMoves.{relay_after_event}
 use Rattle.spec_relay.specs.Routing.{at_connection, framed, has_room, delivered, given_to}
@@ -22,7 +22,7 @@ use Rattle.ams_relay.specs.declared.peer.Peer.{Peer}
 use Rattle.ams_relay.specs.declared.router.Router.{Router}
 use Rattle.ams_relay.specs.Holds.{Stands, HoldsPeers, HoldsOwners, HoldsRequests, Holds}
 use Rattle.ams_relay.specs.Peers.{peer_in, read_in, Sets, offer_of_peer}
-use Rattle.spec_connections.specs.Offering.{FitsFirst, first_left}
+use Rattle.connections.specs.Offering.{FitsFirst, first_left}
 use Rattle.ams_relay.specs.Touched.{OthersIdle}
 use Rattle.ams_relay.specs.Counts.{counts_in}
 use Rattle.spec_plant.specs.Rights.{rights_of}

@@ -14,7 +14,7 @@ use Rattle.ams_relay.specs.Taking.{number_of, Frees}
 use Rattle.std.specs.Global.{Vec}
 use Rattle.std.specs.Map.{lookup, KeepsOthers}
 use Rattle.ams_relay.proofs.StateLemmas.{Stays, Quiet}
-use Rattle.spec_connections.proofs.StateLemmas.{connection_of-same, connection_of-other}
+use Rattle.connections.proofs.StateLemmas.{connection_of-same, connection_of-other}
 
 pub bytes_same : (xs ys : List ℕ) → bytes_eq xs ys ≡ true → xs ≡ ys
 bytes_same xs ys = (bytes_eq-Decides xs ys).0

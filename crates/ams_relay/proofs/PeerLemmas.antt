@@ -16,9 +16,9 @@ use Rattle.spec_relay.specs.RelayState.{RelayConnection}
 use Rattle.ams_relay.specs.declared.peer.Peer.{Peer}
 use Rattle.ams_relay.specs.Holds.{IsStreamOf, net_of, Stands}
 use Rattle.ams_relay.specs.Peers.{IsFresh}
-use Rattle.spec_connections.specs.Offering.{FitsFirst}
-use Rattle.spec_connections.proofs.QueueLemmas.{left_after-push, queued-left_after, left_after-took, took_fits, fits_front}
-use Rattle.spec_connections.proofs.StreamLemmas.{own_mark}
+use Rattle.connections.specs.Offering.{FitsFirst}
+use Rattle.connections.proofs.QueueLemmas.{left_after-push, queued-left_after, left_after-took, took_fits, fits_front}
+use Rattle.connections.proofs.StreamLemmas.{own_mark}
 
 -- a new one
 fresh_stream : (n : ℕ) (o : Option Held) → IsSomeAnd o (λ held. Represents held nothing_fed) → IfSome o (IsStreamOf (fresh_connection None n))

@@ -14,13 +14,13 @@ use Rattle.spec_machine.specs.Moves.{state_after}
 use Rattle.spec_machine.specs.Offers.{blocked_after, is_among, left_after, waiting_of, waiting_at}
 use Rattle.spec_machine.specs.Running.{running_after}
 use Rattle.out_queue.specs.Queue.{front_of, frames_after}
-use Rattle.spec_connections.proofs.LentLemmas.{IsLent, is_lent, whole_after, not_short}
+use Rattle.connections.proofs.LentLemmas.{IsLent, is_lent, whole_after, not_short}
 use Rattle.spec_relay.specs.RelayMoves.{relay_after_event}
 use Rattle.ams_relay.specs.declared.peer.Peer.{Peer}
 use Rattle.ams_relay.specs.declared.router.Relay.{Relay}
 use Rattle.ams_relay.specs.declared.router.Router.{Router}
 use Rattle.ams_relay.specs.Peers.{Peers, AreHere, peer_in, read_in, Sets, IsPlace, offer_of_peer, run_of_peer}
-use Rattle.spec_connections.specs.Offering.{first_left}
+use Rattle.connections.specs.Offering.{first_left}
 use Rattle.ams_relay.specs.Relays.{RelayRunning, RelayStanding, HoldsRunning, nothing_noted, StandsAt}
 use Rattle.ams_relay.specs.Touched.{IsUntouched, OthersIdle}
 use Rattle.ams_relay.proofs.HoldLemmas.{peer_found}

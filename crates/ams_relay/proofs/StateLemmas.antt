@@ -9,9 +9,9 @@ use Rattle.spec_machine.specs.Connection.{connection_of, put_back, with_frame}
 use Rattle.spec_machine.specs.MachineState.{present_numbers, after_exchange}
 use Rattle.spec_machine.proofs.Find.{test_same, test_other, number_of_found}
 use Rattle.ads_served.specs.Opened.{AreApart}
-use Rattle.spec_connections.specs.Present.{present}
-use Rattle.spec_connections.proofs.StateLemmas.{present-gone, present-there, connection_of-same, connection_of-other, number_differs, none_behind}
-use Rattle.spec_connections.proofs.StateLemmas.{put_back-same, put_back-other, put_back-itself, none_of_nil, was_none, AreApart-put_back}
+use Rattle.connections.specs.Present.{present}
+use Rattle.connections.proofs.StateLemmas.{present-gone, present-there, connection_of-same, connection_of-other, number_differs, none_behind}
+use Rattle.connections.proofs.StateLemmas.{put_back-same, put_back-other, put_back-itself, none_of_nil, was_none, AreApart-put_back}
 use Rattle.spec_relay.specs.RelayState.{RelayConnection, RelayState}
 use Rattle.spec_relay.specs.Routing.{at_connection, framed}
 use Rattle.ams_relay.specs.Peers.{Peers}

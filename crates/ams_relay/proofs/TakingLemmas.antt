@@ -36,7 +36,7 @@ use Rattle.ams_relay.proofs.OwnerLemmas.{some_same}
 use Rattle.ams_relay.proofs.PeerLemmas.{received_stands, taken_stands, stream_stands}
 use Rattle.ams_relay.proofs.RequestLemmas.{is_heard_in, hearing, heard_of_parts}
 use Rattle.ams_relay.proofs.StateLemmas.{Quiet, changed-nothing, changed-length, changed-more-frames, frames_in}
-use Rattle.spec_connections.proofs.StreamLemmas.{packet_is_next, rest_is_open, rest_is_broken, own_mark, after_frame as one_given}
+use Rattle.connections.proofs.StreamLemmas.{packet_is_next, rest_is_open, rest_is_broken, own_mark, after_frame as one_given}
 
 -- nothing more is taken of a connection that is closing
 frames-closing : (c : ℕ) (k : RelayConnection) (packets : List (List ℕ)) (s : RelayState)

@@ -4,7 +4,7 @@ use Rattle.std.specs.Prelude.{Option, Some, None, IsSomeAnd, is_some}
 use Rattle.std.specs.Map.{keys_of, values_of, lookup}
 use Rattle.indexmap.specs.IndexMap.{set_value_at}
 use Rattle.ams_tcp.specs.History.{Represents, nothing_fed}
-use Rattle.spec_connections.specs.Offering.{offer_of, offers_of, run_of}
+use Rattle.connections.specs.Offering.{offer_of, offers_of, run_of}
 use Rattle.ams_relay.specs.declared.peer.Peer.{Peer}
 
 abbrev pub Peers : Type 0

@@ -5,7 +5,7 @@ ghost use Rattle.std.specs.List.{concat};
 ghost use Rattle.spec_frames.specs.Frame.{IsAmsPacket, header_bytes, frame_bytes};
 ghost use Rattle.out_queue.specs.Queue.{QUEUE_LIMIT, queued, frames_after};
 ghost use Rattle.ams_relay.specs.Peers.{IsFresh, is_offered, run_of_peer};
-ghost use Rattle.spec_connections.specs.Offering.{FitsFirst, first_left};
+ghost use Rattle.connections.specs.Offering.{FitsFirst, first_left};
 ghost use Rattle.ams_relay.specs.Touched.{is_due_peer};
 ghost use Rattle.ams_relay.specs.Taking.{OwnsPeer};
 

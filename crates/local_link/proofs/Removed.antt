@@ -13,8 +13,8 @@ use Rattle.spec_local.specs.LinkLog.{without_connection}
 use Rattle.ads_served.specs.Opened.{AreApart}
 use Rattle.server_core.specs.CoreState.{CoreState, after_event, after_move, OpensNew}
 use Rattle.server_core.specs.Served.{ServedState, ServedConnection, served_step}
-use Rattle.spec_connections.specs.Present.{present}
-use Rattle.spec_connections.proofs.StateLemmas.{present-gone, present-there, connection_of-other, put_back-same, put_back-other}
+use Rattle.connections.specs.Present.{present}
+use Rattle.connections.proofs.StateLemmas.{present-gone, present-there, connection_of-other, put_back-same, put_back-other}
 use Rattle.server_core.specs.Serves.{CoreView, Serves, without_gone}
 use Rattle.server_core.proofs.Forgotten.{none_present}
 use Rattle.local_link.specs.Link.{unblocked}

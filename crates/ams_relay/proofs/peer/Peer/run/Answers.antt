@@ -2,8 +2,8 @@ use Rattle.std.proofs.Common.{None, sym, ap, ◌∙◌}
 use Rattle.std.specs.List.{concat}
 use Rattle.std.specs.Prelude.{option_map}
 use Rattle.std.proofs.lemmas.Bool.{cond-true, cond-false}
-use Rattle.spec_connections.specs.Offering.{some_frames}
-use Rattle.spec_connections.proofs.LentLemmas.{run_is}
+use Rattle.connections.specs.Offering.{some_frames}
+use Rattle.connections.proofs.LentLemmas.{run_is}
 use Rattle.ams_relay.proofs.peer.Peer.run.Goals as goal
 
 pub returns-then-self-clause-run : goal.returns-then-self-clause-run

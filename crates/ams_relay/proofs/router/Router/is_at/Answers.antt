@@ -1,7 +1,7 @@
 use Rattle.std.proofs.Common.{sym, ◌∙◌, ap}
 use Rattle.std.specs.Prelude.{Some}
 use Rattle.std.proofs.lemmas.Bool.{eqb-true}
-use Rattle.spec_connections.proofs.EntryLemmas.{entry_of_key}
+use Rattle.connections.proofs.EntryLemmas.{entry_of_key}
 use Rattle.ams_relay.proofs.EntryLemmas.{place_of_entry}
 use Rattle.ams_relay.proofs.router.Router.is_at.Goals as goal
 

@@ -1,0 +1,19 @@
+pub mod StreamLemmas
+pub mod StateLemmas
+pub mod QueueLemmas
+pub mod OfferLemmas
+pub mod LentLemmas
+pub mod EntryLemmas
+pub mod OutletLemmas
+pub mod TouchedLemmas
+pub mod DueLemmas
+pub mod ColumnLemmas
+pub mod PlaceLemmas
+pub mod BesideLemmas
+pub mod CarryLemmas
+pub mod GivenLemmas
+pub mod OutputLemmas
+pub mod MoveLemmas
+pub mod ReadLemmas
+pub mod ForgottenLemmas
+mod Examples

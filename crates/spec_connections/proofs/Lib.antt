@@ -1,6 +1,0 @@
-pub mod StreamLemmas
-pub mod StateLemmas
-pub mod QueueLemmas
-pub mod OfferLemmas
-pub mod LentLemmas
-pub mod EntryLemmas
