@@ -11,13 +11,12 @@ use Rattle.spec_machine.specs.Device.{Produced}
 use Rattle.spec_machine.specs.Connection.{connection_of, is_deaf, produce, produce_all}
 use Rattle.spec_machine.specs.Piece.{with_client}
 use Rattle.spec_machine.specs.Summary.{Summary as CountsOfState, count_of, replies_in, samples_in, summary_of}
-use Rattle.spec_machine.proofs.Find.{connection_of-map}
-use Rattle.ads_served.specs.Opened.{AreApart}
 use Rattle.ams_tcp.specs.Held.{Held}
 use Rattle.connections.specs.Carries.{Carries, EachBeside, EachMarked, EachOutlet, EachStream, IsEntryOf, IsStreamOf}
 use Rattle.connections.specs.Outlets.{Outlets}
 use Rattle.connections.specs.Present.{present}
 use Rattle.connections.proofs.ColumnLemmas.{each_length}
+use Rattle.connections.proofs.ForgottenLemmas.{mapped, present-map}
 use Rattle.connections.proofs.StateLemmas.{present-gone, present-there}
 use Rattle.session.specs.StandsFor.{StandsFor}
 use Rattle.server_core.specs.declared.summary.Summary.{Summary}
@@ -34,40 +33,11 @@ use Rattle.server_core.specs.Serves.{EachClient, ServesEach}
 use Rattle.server_core.specs.Stands.{IsClientOf}
 use Rattle.server_core.proofs.DeliverLemmas.{AreThere, CountsAll, IsGivenBy, all_done, given_closing, given_keeps, given_open}
 use Rattle.server_core.proofs.ProduceLemmas.{SameStream, produce-stream, stream_on}
+use Rattle.server_core.proofs.SkipLemmas.{skipped_length}
 use Rattle.server_core.proofs.SumLemmas.{same_counts_of, produced_sum}
 
 pub given_gone : (outcome : Outcomes) (k : ServedConnection) → k.gone ≡ true → after_given outcome k ≡ k
 given_gone outcome k gone = cond-true (is_deaf k) k _ (or_right k.closing k.gone gone)
-
-present-given : (outcome : Outcomes) (ks : List ServedConnection) → present (map (after_given outcome) ks) ≡ map (after_given outcome) (present ks)
-present-given outcome [] = refl
-present-given outcome (k ∷ ks) =
-    let f : ServedConnection → ServedConnection = after_given outcome in
-    let keeps = given_keeps outcome k in
-    elim (cases_Bool k.gone) [
-      | inl gone ↦ present-gone (f k) (map f ks) (keeps.gone ∙ gone) ∙ present-given outcome ks ∙ ap (map f) (sym (present-gone k ks gone))
-      | inr there ↦ present-there (f k) (map f ks) (keeps.gone ∙ there)
-          ∙ ap (λ ls. f k ∷ ls) (present-given outcome ks) ∙ ap (map f) (sym (present-there k ks there))
-    ]
-
-found-given : (outcome : Outcomes) (n : ℕ) (ks : List ServedConnection)
-    → connection_of n (map (after_given outcome) ks) ≡ option_map (after_given outcome) (connection_of n ks)
-found-given outcome n ks = connection_of-map n (after_given outcome) (λ k. (given_keeps outcome k).number) ks
-
-apart-given : (outcome : Outcomes) (ks : List ServedConnection) → AreApart ks → AreApart (map (after_given outcome) ks)
-apart-given outcome [] apart = apart
-apart-given outcome (k ∷ ks) apart = (
-  ap (λ n. connection_of n (map (after_given outcome) ks)) (given_keeps outcome k).number
-      ∙ found-given outcome k.number ks ∙ ap (option_map (after_given outcome)) apart.0,
-  apart-given outcome ks apart.1,
-)
-
-none-given : (outcome : Outcomes) (n : ℕ) (ks : List ServedConnection) → connection_of n (map (after_given outcome) ks) ≡ None → connection_of n ks ≡ None
-none-given outcome n ks e = by (connection_of n ks) (sym (found-given outcome n ks) ∙ e)
-  where
-    by : (o : Option ServedConnection) → option_map (after_given outcome) o ≡ None → o ≡ None
-    by None e = refl
-    by (Some k) e = cc
 
 -- what a connection has received and taken stays
 streams_on : (frames : List Produced) (k : ServedConnection) → SameStream k (produce_all frames k)
@@ -165,15 +135,10 @@ asked_length a b outcome [] (u ∷ us) each = absurd each
 asked_length a b outcome (t ∷ ts) [] each = absurd each
 asked_length a b outcome (t ∷ ts) (u ∷ us) each = ap suc (asked_length a b outcome ts us each.1)
 
-skipped_length : (es : Outlets) (ts : List Turned) → length (skipped es ts) ≡ length (sessions_of ts)
-skipped_length es [] = refl
-skipped_length [] (t ∷ ts) = ap suc (skipped_length [] ts)
-skipped_length (e ∷ es) (t ∷ ts) = ap suc (skipped_length es ts)
-
 pub aligned : (es : Outlets) (plant : Plant) (ts : List Turned) (ps : List ServedConnection)
     → EachOutlet es ps → EachClient plant (sessions_of ts) ps → length (skipped es ts) ≡ length es
 aligned es plant ts ps each clients =
-    skipped_length es ts ∙ each_length (IsClientOf plant) (sessions_of ts) ps clients ∙ sym (each_length IsEntryOf es ps each)
+    skipped_length es ts ∙ sym (length-map ts (λ (t : Turned). t.session)) ∙ each_length (IsClientOf plant) (sessions_of ts) ps clients ∙ sym (each_length IsEntryOf es ps each)
 
 pub all_asked : (es : Outlets) (old_plant plant : Plant) (outcome : Outcomes) (ts us : List Turned) (ps : List ServedConnection)
     → EachOutlet es ps → EachClient old_plant (sessions_of ts) ps → EachAsked old_plant plant outcome (skipped es ts) us → length us ≡ length es
@@ -232,7 +197,7 @@ grows_all : (outcome : Outcomes) (g : ServedConnection → ℕ) (p q : ℕ) (ks 
 grows_all outcome g p q ks grows e =
     let before = sum_present g ks in
     let after = sum_present g (map (after_given outcome) ks) in
-    let here = ap (sum_by g) (present-given outcome ks) in
+    let here = ap (sum_by g) (present-map (after_given outcome) (λ k. (given_keeps outcome k).gone) ks) in
     let gone = ap (sum_by g) (gone-given outcome ks) in
     grows (sum_by g (gone_ones ks)) (e ∙ ap count_of (omega (arith, before))) ∙ ap count_of (omega (arith, after, here, gone))
 
@@ -283,18 +248,14 @@ all_follow v w s waves ws x outcome y ts us zs serves sessions asked delivers st
     (subst (λ ss. EachClient old_plant ss ps) (sym (sessions_skipped v.outlets ts)) clients) in
     let there = all_there ks in
     let done = all_done plant x.blocked outcome us v.outlets s ps given serves.outlets.each there serves.outlets.marked in
-    let here : map f ps ≡ present y.connections = sym (present-given outcome ks) ∙ ap present (sym connections) in
+    let here : map f ps ≡ present y.connections = sym (present-map f (λ k. (given_keeps outcome k).gone) ks) ∙ ap present (sym connections) in
     record {
       serves = record {
         device = device;
-        outlets = record {
-          each = subst (λ es. EachOutlet es (present y.connections)) (sym delivers.outlets)
-              (subst (λ qs. EachOutlet (delivered_each (frames_given us) v.outlets s).0 qs) here done.each);
-          apart = subst AreApart (sym connections) (apart-given outcome ks serves.outlets.apart);
-          marked = subst (λ es. EachMarked x.blocked es) (sym delivers.outlets) done.marked;
-          known = λ n none. serves.outlets.known n
-              (none-given outcome n ks (ap (λ (js : List ServedConnection). connection_of n js) (sym connections) ∙ none));
-        };
+        outlets = subst (λ es. Carries es x.blocked y.connections) (sym delivers.outlets)
+            (subst (λ js. Carries (delivered_each (frames_given us) v.outlets s).0 x.blocked js) (sym connections)
+            (mapped f (λ k. (given_keeps outcome k).number) (λ k. (given_keeps outcome k).gone) v.outlets (delivered_each (frames_given us) v.outlets s).0
+            x.blocked ks serves.outlets done.each done.marked));
         streams = subst (λ hs. EachStream hs (present y.connections)) (sym streams)
             (subst (λ qs. EachStream v.streams qs) here (streams_given outcome v.streams ps there serves.streams));
         clients = subst (λ ss. EachClient plant ss (present y.connections)) (sym (new_sessions ∙ delivers.sessions))

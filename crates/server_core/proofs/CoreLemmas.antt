@@ -15,6 +15,7 @@ use Rattle.connections.specs.Outlets.{Outlets, offer_among}
 use Rattle.session.specs.SessionState.{SessionState}
 use Rattle.server_core.specs.CoreState.{CoreState, started_in, after_event, after_move}
 use Rattle.server_core.specs.HoldsWorld.{HoldsState}
+use Rattle.server_core.specs.Served.{Client}
 use Rattle.server_core.specs.ServerView.{ServerView}
 use Rattle.server_core.specs.Serves.{CoreView, EachClient, ServesEach, ServesSome, Serves, FollowsEach, Follows}
 
@@ -53,6 +54,6 @@ started_serves profile v waves d device outlets streams sessions =
       device = device;
       outlets = subst (λ (es : Outlets). Carries es x.blocked x.state.connections) (sym outlets)
           (record { each = tt; apart = tt; marked = tt; known = λ n e. refl });
-      streams = subst (λ (hs : List Held). EachStream hs []) (sym streams) tt;
+      streams = subst (λ (hs : List Held). EachStream {C = Client} hs []) (sym streams) tt;
       clients = subst (λ (ss : List SessionState). EachClient x.state.world.plant ss []) (sym sessions) tt;
     }

@@ -1,9 +1,13 @@
 -- Frames of samples that connections give, produced connection after connection.
-use Rattle.std.proofs.Common.{◌≡◌, ℕ, zero, suc, ◌+◌, ◌<◌, List, [], ◌∷◌, ◌++◌, length, take, map}
+use Rattle.std.proofs.Common.{◌≡◌, ℕ, zero, suc, ◌+◌, ◌<◌, List, [], ◌∷◌, ◌++◌, length, take, drop, map, set, get_or}
 use Rattle.std.proofs.Common.{Bool, true, false, not, cond, refl, sym, ap, ◌∙◌, subst, inl, inr, arith}
-use Rattle.std.specs.Prelude.{◌&&◌, sum_by, All, slice_get, Some}
+use Rattle.std.specs.Prelude.{◌&&◌, sum_by, All, slice_get, option_map, Some}
 use Rattle.std.proofs.lemmas.Bool.{cases_Bool, cond-true, cond-false, or_left, or_right, or_from}
+use Rattle.std.proofs.lemmas.Grind.{drop_more_same}
+use Rattle.std.proofs.lemmas.List.{drop-set-lt, map-set}
 use Rattle.std.proofs.lemmas.List.Elements.{All-head, All-tail}
+use Rattle.std.proofs.lemmas.Option.{slice_get-get_or, slice_get-map}
+use Rattle.std.proofs.Math.Seq.{map-set_same}
 use Rattle.std.proofs.lemmas.List.Sums.{sum_by-cons}
 use Rattle.spec_plant.specs.World.{Plant}
 use Rattle.spec_machine.specs.Device.{Produced}
@@ -12,13 +16,18 @@ use Rattle.spec_machine.specs.Offers.{is_among}
 use Rattle.spec_machine.specs.Piece.{with_client}
 use Rattle.spec_machine.specs.Summary.{count_of}
 use Rattle.connections.specs.Carries.{EachBeside, EachMarked, EachOutlet, IsEntryOf, IsOutlet}
-use Rattle.connections.specs.Outlets.{Outlets, change_at, closed, given, has_room, is_fitting, outlet_at, test_in}
+use Rattle.connections.specs.Outlets.{Outlets, change_at, given, has_room, is_fitting, outlet_at, test_in}
 use Rattle.connections.specs.declared.outlet.Outlet.{Outlet}
+use Rattle.connections.proofs.GivenLemmas.{given_closing as given_closing_outlet}
+use Rattle.connections.proofs.OutletLemmas.{change_same, change_twice, outlet_changed}
+use Rattle.connections.proofs.OutputLemmas.{given_mark}
 use Rattle.session.specs.NoteFrames.{produced_of, IsNoteFrame}
+use Rattle.session.specs.SessionState.{SessionState}
 use Rattle.session.specs.declared.notes.NoteFrame.{NoteFrame}
 use Rattle.server_core.specs.declared.summary.Summary.{Summary}
 use Rattle.server_core.specs.declared.turned.Turned.{Turned}
 use Rattle.server_core.specs.Served.{ServedConnection}
+use Rattle.server_core.specs.ServerView.{sessions_of}
 use Rattle.server_core.specs.Counts.{Counts, Grows, replies_of, samples_of}
 use Rattle.server_core.specs.Delivering.{Delivery, Gives, Outcomes, after_given, delivered, delivered_all, delivered_each, more_samples, frames_given, DeliversAt}
 use Rattle.server_core.proofs.CountLemmas.{same_count, same_counts, then_counts}
@@ -27,35 +36,23 @@ use Rattle.server_core.proofs.TakingLemmas.{counts_client}
 
 -- The code: one frame more, and one session more.
 
--- of the outlet at a place, what a change leaves there
-pub changed_there : (es : Outlets) (i : ℕ) (o : Outlet) (f : Outlet → Outlet) → outlet_at es i ≡ Some o → change_at f i es ≡ change_at (λ _. f o) i es
-changed_there [] i o f there = refl
-changed_there (e ∷ es) zero o f there = (let same : e.1 ≡ o = cc in ap (λ (p : Outlet). (e.0, f p) ∷ es) same)
-changed_there (e ∷ es) (suc i) o f there = ap (λ fs. e ∷ fs) (changed_there es i o f there)
-
-pub changed_twice : (es : Outlets) (i : ℕ) (o p : Outlet) → change_at (λ _. p) i (change_at (λ _. o) i es) ≡ change_at (λ _. p) i es
-changed_twice [] i o p = refl
-changed_twice (e ∷ es) zero o p = refl
-changed_twice (e ∷ es) (suc i) o p = ap (λ fs. e ∷ fs) (changed_twice es i o p)
-
-pub put_there : (es : Outlets) (i : ℕ) (o p : Outlet) → outlet_at es i ≡ Some o → outlet_at (change_at (λ _. p) i es) i ≡ Some p
-put_there [] i o p there = absurd (cc)
-put_there (e ∷ es) zero o p there = refl
-put_there (e ∷ es) (suc i) o p there = put_there es i o p there
-
-pub put_itself : (es : Outlets) (i : ℕ) (o : Outlet) → outlet_at es i ≡ Some o → es ≡ change_at (λ _. o) i es
+-- what stands at a place takes its own
+put_itself : (es : Outlets) (i : ℕ) (o : Outlet) → outlet_at es i ≡ Some o → es ≡ change_at (λ _. o) i es
 put_itself [] i o there = refl
 put_itself (e ∷ es) zero o there = (let same : e.1 ≡ o = cc in ap (λ (p : Outlet). (e.0, p) ∷ es) same)
 put_itself (e ∷ es) (suc i) o there = ap (λ fs. e ∷ fs) (put_itself es i o there)
 
 -- a frame was given
-pub delivers_one : (es fs : Outlets) (i : ℕ) (o : Outlet) (note : NoteFrame) (s t : Summary) (waits : Bool)
-    → fs ≡ change_at (given note.frame) i es → waits ≡ test_in (is_fitting note.frame) (outlet_at es i)
+pub delivers_one : (es fs : Outlets) (i : ℕ) (o : Outlet) (note : NoteFrame) (frame : List ℕ) (s t : Summary) (waits : Bool) → frame ≡ note.frame
+    → fs ≡ change_at (given frame) i es → waits ≡ test_in (is_fitting frame) (outlet_at es i)
     → t ≡ cond waits (more_samples note.samples s) s → outlet_at es i ≡ Some o → DeliversAt i (delivered note (o, s)) es fs t
-delivers_one es fs i o note s t waits put fitted counts there = record {
-  outlets = put ∙ changed_there es i o (given note.frame) there;
-  counted = counts ∙ ap (λ b. cond b (more_samples note.samples s) s) (fitted ∙ ap (test_in (is_fitting note.frame)) there);
-}
+delivers_one es fs i o note frame s t waits own put fitted counts there =
+    let fits : waits ≡ is_fitting note.frame o =
+    fitted ∙ ap (λ bs. test_in (is_fitting bs) (outlet_at es i)) own ∙ ap (test_in (is_fitting note.frame)) there in
+    record {
+      outlets = put ∙ ap (λ bs. change_at (given bs) i es) own ∙ change_same (given note.frame) (λ _. given note.frame o) es i o there refl;
+      counted = counts ∙ ap (λ b. cond b (more_samples note.samples s) s) fits;
+    }
 
 pub delivers_none : (es : Outlets) (i : ℕ) (o : Outlet) (s : Summary) → outlet_at es i ≡ Some o → DeliversAt i (o, s) es es s
 delivers_none es i o s there = record { outlets = put_itself es i o there; counted = refl }
@@ -70,12 +67,12 @@ pub delivers_more : (es fs gs : Outlets) (i : ℕ) (o : Outlet) (d : Delivery) (
     → DeliversAt i d es fs t → ((p : Outlet) → outlet_at fs i ≡ Some p → DeliversAt i (delivered note (p, t)) fs gs u)
     → DeliversAt i (delivered note d) es gs u
 delivers_more es fs gs i o d note t u there first second =
-    let here : outlet_at fs i ≡ Some d.0 = ap (λ xs. outlet_at xs i) first.outlets ∙ put_there es i o d.0 there in
+    let here : outlet_at fs i ≡ Some d.0 = ap (λ xs. outlet_at xs i) first.outlets ∙ outlet_changed (λ _. d.0) es i o there in
     let one = second d.0 here in
     let same : delivered note (d.0, t) ≡ delivered note d = ap (λ (s : Summary). delivered note (d.0, s)) first.counted in
     record {
       outlets = one.outlets ∙ ap (λ (e : Delivery). change_at (λ _. e.0) i fs) same
-          ∙ ap (λ xs. change_at (λ _. (delivered note d).0) i xs) first.outlets ∙ changed_twice es i d.0 (delivered note d).0;
+          ∙ ap (λ xs. change_at (λ _. (delivered note d).0) i xs) first.outlets ∙ change_twice (λ _. d.0) (λ _. (delivered note d).0) es i;
       counted = one.counted ∙ ap (λ (e : Delivery). e.1) same;
     }
 
@@ -125,6 +122,50 @@ delivers_each fss es fs gs s t u i f o frames there so_far counts delivers =
       one.counted ∙ ap (λ (x : Delivery). x.1) d ∙ sym more.counted,
     )
 
+-- the step of the loop over all sessions
+get_dropped : {X : Type 0} (xs : List X) (i : ℕ) → slice_get xs i ≡ slice_get (drop i xs) 0
+get_dropped [] zero = refl
+get_dropped [] (suc i) = refl
+get_dropped (x ∷ xs) zero = refl
+get_dropped (x ∷ xs) (suc i) = get_dropped xs i
+
+outlet_there : (es : Outlets) (i : ℕ) → i < length es → (o : Outlet) × (outlet_at es i ≡ Some o)
+outlet_there [] i below = absurd (omega (arith, below))
+outlet_there (e ∷ es) zero below = (e.1, refl)
+outlet_there (e ∷ es) (suc i) below = outlet_there es i (omega (arith, below))
+
+pub record DeliverStep (ts vs : List Turned) (es gs : Outlets) (s u : Summary) (i : ℕ) : Type 0 where
+  pub left : drop (i + 1) (frames_given vs) ≡ drop (i + 1) (frames_given ts)
+  pub sessions : sessions_of vs ≡ sessions_of ts
+  pub outlets : gs ≡ (delivered_each (take (i + 1) (frames_given ts)) es s).0
+  pub counted : u ≡ (delivered_each (take (i + 1) (frames_given ts)) es s).1
+
+pub deliver_step : (ts us : List Turned) (es fs gs : Outlets) (s t u : Summary) (i : ℕ) (a b : Turned) (frames : List NoteFrame)
+    → i < length us → length us ≡ length ts → length ts ≡ length es
+    → a ≡ get_or us i a → b.session ≡ a.session → frames ≡ a.out
+    → drop i (frames_given us) ≡ drop i (frames_given ts) → sessions_of us ≡ sessions_of ts
+    → fs ≡ (delivered_each (take i (frames_given ts)) es s).0 → t ≡ (delivered_each (take i (frames_given ts)) es s).1
+    → ((p : Outlet) → outlet_at fs i ≡ Some p → DeliversAt i (delivered_all frames (p, t)) fs gs u)
+    → DeliverStep ts (set us i b) es gs s u i
+deliver_step ts us es fs gs s t u i a b frames below many aligned read same own left sessions so_far counts delivers =
+    let out : Turned → List NoteFrame = λ x. x.out in
+    let session : Turned → SessionState = λ x. x.session in
+    let o = outlet_there es i (omega (arith, below, many, aligned)) in
+    let mine : slice_get (frames_given us) i ≡ Some frames =
+    slice_get-map out us i ∙ ap (option_map out) (slice_get-get_or us i a below) ∙ ap (λ (x : Turned). Some x.out) (sym read)
+    ∙ ap (λ (xs : List NoteFrame). Some xs) (sym own) in
+    let here : slice_get (frames_given ts) i ≡ Some frames =
+    get_dropped (frames_given ts) i ∙ sym (ap (λ (xs : List (List NoteFrame)). slice_get xs 0) left) ∙ sym (get_dropped (frames_given us) i) ∙ mine in
+    let each = delivers_each (frames_given ts) es fs gs s t u i frames o.0 here o.1 so_far counts delivers in
+    let next : suc i ≡ i + 1 = omega arith in
+    record {
+      left = ap (λ (xs : List (List NoteFrame)). drop (i + 1) xs) (map-set out us i b) ∙ drop-set-lt (i + 1) (frames_given us) i b.out (omega arith)
+          ∙ drop_more_same (frames_given us) (frames_given ts) i left;
+      sessions = map-set_same session us i b a (same ∙ ap session read) ∙ sessions;
+      outlets = subst (λ (n : ℕ). gs ≡ (delivered_each (take n (frames_given ts)) es s).0) next each.0;
+      counted = subst (λ (n : ℕ). u ≡ (delivered_each (take n (frames_given ts)) es s).1) next each.1;
+    }
+
 -- The machine: what the frames leave of one connection, and of all.
 
 -- frames that are produced one after another
@@ -147,16 +188,12 @@ delivered_stands (f ∷ fs) fit o s k st =
     }
 
 -- nothing waits of what is given to one that is closing
-given-closing : (frame : List ℕ) (o : Outlet) → o.closing ≡ true → given frame o ≡ o
-unfolding given
-given-closing frame o closing = cond-true o.closing o _ closing
-
 pub delivered-closing : (fs : List NoteFrame) (o : Outlet) (s : Summary) → o.closing ≡ true → delivered_all fs (o, s) ≡ (o, s)
 delivered-closing [] o s closing = refl
 delivered-closing (f ∷ fs) o s closing =
     let none : is_fitting f.frame o ≡ false = ap (λ b. not b && has_room f.frame o) closing in
     let same : delivered f (o, s) ≡ (o, s) =
-    ap (λ (p : Outlet). (p, cond (is_fitting f.frame o) (more_samples f.samples s) s)) (given-closing f.frame o closing)
+    ap (λ (p : Outlet). (p, cond (is_fitting f.frame o) (more_samples f.samples s) s)) (sym (given_closing_outlet f.frame o closing))
     ∙ ap (λ b. (o, cond b (more_samples f.samples s) s)) none in
     ap (λ d. delivered_all fs d) same ∙ delivered-closing fs o s closing
 
@@ -279,20 +316,9 @@ pub record AllDone (blocked : List ℕ) (outcome : Outcomes) (new : Outlets) (s 
   pub marked : EachMarked blocked new
   pub counted : CountsAll s t ks (map (after_given outcome) ks)
 
--- a frame that is given changes no mark
-given_mark : (frame : List ℕ) (o : Outlet) → (let p = given frame o in p.blocked) ≡ o.blocked
-unfolding given
-given_mark frame o = at_closing o.closing (has_room frame o)
-  where
-    at_closing : (closing room : Bool)
-        → (let p = cond closing o (cond room (record o { out = o.out ++ frame ∷ [] }) (closed o)) in p.blocked) ≡ o.blocked
-    at_closing true room = refl
-    at_closing false true = refl
-    at_closing false false = refl
-
 delivered_mark : (fs : List NoteFrame) (d : Delivery) → (let o = (delivered_all fs d).0 in o.blocked) ≡ (let p = d.0 in p.blocked)
 delivered_mark [] d = refl
-delivered_mark (f ∷ fs) d = delivered_mark fs (delivered f d) ∙ given_mark f.frame d.0
+delivered_mark (f ∷ fs) d = delivered_mark fs (delivered f d) ∙ given_mark d.0 f.frame
 
 pub all_done : (plant : Plant) (blocked : List ℕ) (outcome : Outcomes) (ts : List Turned) (es : Outlets) (s : Summary) (ks : List ServedConnection)
     → EachBeside (IsGivenBy plant outcome) ts ks → EachOutlet es ks → AreThere ks → EachMarked blocked es

@@ -7,6 +7,7 @@ pub mod TakingLemmas
 pub mod TookLemmas
 pub mod Forgotten
 pub mod OpenLemmas
+pub mod PieceLemmas
 pub mod DeliverLemmas
 pub mod CoreLemmas
 pub mod EventLemmas
@@ -14,4 +15,5 @@ pub mod AskedLemmas
 pub mod TickLemmas
 pub mod ReloadLemmas
 pub mod CheckLemmas
+pub mod SkipLemmas
 pub mod WrittenLemmas

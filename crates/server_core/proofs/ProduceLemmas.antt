@@ -14,7 +14,7 @@ use Rattle.session.specs.StandsFor.{StandsFor}
 use Rattle.connections.specs.Carries.{IsOutlet, IsStreamOf}
 use Rattle.connections.specs.Outlets.{given, is_fitting, has_room}
 use Rattle.connections.specs.declared.outlet.Outlet.{Outlet}
-use Rattle.connections.proofs.GivenLemmas.{given_stands, room_is}
+use Rattle.connections.proofs.OutputLemmas.{given_stands, room_is}
 use Rattle.server_core.specs.declared.summary.Summary.{Summary}
 use Rattle.server_core.specs.Served.{ServedConnection}
 use Rattle.server_core.specs.Stands.{IsClientOf}

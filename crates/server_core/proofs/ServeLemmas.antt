@@ -16,12 +16,14 @@ use Rattle.spec_machine.specs.Events.{state_after_event}
 use Rattle.spec_machine.specs.Summary.{count_of, summary_of}
 use Rattle.connections.specs.Carries.{Carries, EachBeside, EachStream, IsOutlet, IsStreamOf}
 use Rattle.connections.specs.Entries.{IsEntry, IsNoEntry}
-use Rattle.connections.specs.Outlets.{Outlets, change_at, closing_at, fresh_outlet, frames_at, holding, is_closing, outlet_at, test_in, with_nothing, without_number}
+use Rattle.connections.specs.Outlets.{Outlets, change_at, closing_at, fresh_outlet, frames_in, holding, is_closing, outlet_at, test_in, with_nothing, without_number}
 use Rattle.connections.specs.Present.{present}
 use Rattle.connections.specs.declared.outlet.Outlet.{Outlet}
-use Rattle.connections.proofs.CarriesLemmas.{AtNumber, IsNotThere, at_number, changed, ended, not_there, opened}
+use Rattle.connections.proofs.CarryLemmas.{AtNumber, absent_is, at_number, changed_by, ended, opened, present_opened}
 use Rattle.connections.proofs.ColumnLemmas.{each_added, each_read, each_removed, each_set}
-use Rattle.connections.proofs.StateLemmas.{put_back-itself, present-append, present-there}
+use Rattle.connections.proofs.MoveLemmas.{gone_twice, unmoved}
+use Rattle.connections.proofs.OutletLemmas.{change_twice}
+use Rattle.connections.proofs.StateLemmas.{put_back-itself}
 use Rattle.connections.proofs.StreamLemmas.{own_mark}
 use Rattle.session.specs.SessionState.{SessionState}
 use Rattle.session.specs.StandsFor.{StandsFor}
@@ -102,13 +104,6 @@ stays v waves x state e serves =
 itself : (n : ℕ) (s : ServedState) (k : ServedConnection) → connection_of n s.connections ≡ Some k → with_exchange (exchange_of s k) s ≡ s
 itself n s k found = ap (λ (ks : List ServedConnection). record s { connections = ks }) (put_back-itself n k s.connections found)
 
--- a change of a connection that is not there, or of one that leaves it as it is, is none
-pub unchanged : (n : ℕ) (f : ServedExchange → ServedExchange) (s : ServedState) → IsNotThere n s.connections
-    → ((k : ServedConnection) → k.gone ≡ true → f (exchange_of s k) ≡ exchange_of s k) → after_exchange (connection_of n s.connections) f s ≡ s
-unchanged n f s (inl none) keeps = ap (λ o. after_exchange o f s) none
-unchanged n f s (inr one) keeps =
-    ap (λ o. after_exchange o f s) one.found ∙ ap (λ e. with_exchange e s) (keeps one.k one.gone) ∙ itself n s one.k one.found
-
 deaf_takes_nothing : (piece : List ℕ) (s : ServedState) (k : ServedConnection)
     → is_deaf k ≡ true → after_piece served piece (exchange_of s k) ≡ exchange_of s k
 unfolding after_piece
@@ -119,7 +114,7 @@ pub piece_absent : (v : ServerView) (waves : List Wave) (x : CoreState) (n : ℕ
 unfolding state_after_move state_after_event
 piece_absent v waves x n piece serves none =
     stays v waves x (after_exchange (connection_of n x.state.connections) (after_piece served piece) x.state)
-    (unchanged n (after_piece served piece) x.state (not_there v.outlets x.blocked x.state.connections n serves.outlets none)
+    (unmoved n (after_piece served piece) x.state (absent_is v.outlets x.blocked x.state.connections n serves.outlets none)
     (λ k gone. deaf_takes_nothing piece x.state k (or_right k.closing k.gone gone))) serves
 
 -- one that is closing takes none
@@ -138,36 +133,27 @@ piece_closing v waves x n i piece serves place closing =
 pub stands_out : (v : ServerView) (waves : List Wave) (x : CoreState) (n i : ℕ) (conn : Conn) (serves : ServesEach v waves x)
     → (at : AtNumber v.outlets x.blocked x.state.connections n i)
     → slice_get v.streams i ≡ Some conn.stream → slice_get v.sessions i ≡ Some conn.session
-    → frames_at v.outlets i ≡ Some conn.outlet.out → closing_at v.outlets i ≡ conn.outlet.closing → Stands x.state.world.plant conn at.k
+    → conn.outlet.out ≡ frames_in (outlet_at v.outlets i) → closing_at v.outlets i ≡ conn.outlet.closing → Stands x.state.world.plant conn at.k
 stands_out v waves x n i conn serves at stream session frames closing =
     let plant = x.state.world.plant in
     let ps = present x.state.connections in
-    let out : (let o = at.o in o.out) ≡ conn.outlet.out =
-    (let both = sym (ap (option_map (λ (o : Outlet). o.out)) at.outlet) ∙ frames in cc) in
+    let out : conn.outlet.out ≡ (let o = at.o in o.out) = frames ∙ ap frames_in at.outlet in
     let closes : (let o = at.o in o.closing) ≡ conn.outlet.closing = sym (ap (test_in is_closing) at.outlet) ∙ closing in
     record {
       stream = each_read IsStreamOf v.streams ps i conn.stream at.k serves.streams stream at.machine;
       client = each_read (IsClientOf plant) v.sessions ps i conn.session at.k serves.clients session at.machine;
       outlet = record {
-        waiting = sym out ∙ at.stands.waiting;
+        waiting = out ∙ at.stands.waiting;
         bytes_taken = at.stands.bytes_taken;
         closing = sym closes ∙ at.stands.closing;
       };
     }
 
 -- it comes back with what the piece left
-put_back_queue : (es : Outlets) (i : ℕ) (o : Outlet) (frames : List (List ℕ)) (closes : Bool) → outlet_at es i ≡ Some o
-    → change_at (holding frames closes) i (change_at with_nothing i es) ≡ change_at (λ _. holding frames closes (with_nothing o)) i es
-put_back_queue [] i o frames closes there = refl
-put_back_queue (e ∷ es) zero o frames closes there =
-    let same : e.1 ≡ o = cc in
-    ap (λ (p : Outlet). (e.0, holding frames closes (with_nothing p)) ∷ es) same
-put_back_queue (e ∷ es) (suc i) o frames closes there = ap (λ fs. e ∷ fs) (put_back_queue es i o frames closes there)
-
 pub piece_follows : (v w : ServerView) (waves : List Wave) (x : CoreState) (n i : ℕ) (conn new : Conn) (piece : List ℕ)
     → ServesEach v waves x → IsEntry v.outlets n i
     → slice_get v.streams i ≡ Some conn.stream → slice_get v.sessions i ≡ Some conn.session
-    → frames_at v.outlets i ≡ Some conn.outlet.out → closing_at v.outlets i ≡ false → conn.outlet.closing ≡ false
+    → conn.outlet.out ≡ frames_in (outlet_at v.outlets i) → closing_at v.outlets i ≡ false → conn.outlet.closing ≡ false
     → ((e : ServedExchange) → HoldsWorld v.device e.world → Stands e.world.plant conn e.connection → e.connection.gone ≡ false
     → Goes new w.device v.summary w.summary e (after_piece served piece e))
     → KeepsDevice v.device w.device
@@ -193,10 +179,11 @@ piece_follows v w waves x n i conn new piece serves place stream session frames 
       bytes_taken = go.stands.outlet.bytes_taken;
       closing = ap (λ b. b || new.outlet.closing) closes ∙ go.stands.outlet.closing;
     } in
-    let put : w.outlets ≡ change_at (λ _. p) i v.outlets =
-    outlets ∙ put_back_queue v.outlets i at.o new.outlet.out new.outlet.closing at.outlet in
-    let carries = changed v.outlets x.blocked ks n i at.o p l serves.outlets place at.outlet back number there refl in
-    let here : present (put_back l ks) ≡ set ps i l = at.place.put l (number ∙ sym at.number) there in
+    let change : Outlet → Outlet = λ o. holding new.outlet.out new.outlet.closing (with_nothing o) in
+    let put : w.outlets ≡ change_at change i v.outlets =
+    outlets ∙ change_twice with_nothing (holding new.outlet.out new.outlet.closing) v.outlets i in
+    let carries = changed_by change v.outlets x.blocked x.blocked ks n i l serves.outlets at back number there (λ m other. refl) at.mark in
+    let here : present (put_back l ks) ≡ set ps i l = at.put l number there in
     subst (λ (o : Option ServedConnection). FollowsEach v w waves x
     (record { state = after_exchange o (after_piece served piece) x.state; blocked = x.blocked })) (sym at.found) (record {
       serves = record {
@@ -221,9 +208,6 @@ piece_follows v w waves x n i conn new piece serves place stream session frames 
 
 -- An end.
 
-gone_twice : (s : ServedState) (k : ServedConnection) → k.gone ≡ true → with_gone (exchange_of s k) ≡ exchange_of s k
-gone_twice s k gone = ap (λ (b : Bool). exchange_of s (record k { gone = b })) (sym gone)
-
 pub ended_follows : (v w : ServerView) (waves : List Wave) (x : CoreState) (n i : ℕ) → ServesEach v waves x → IsEntry v.outlets n i
     → w.device ≡ v.device → w.summary ≡ v.summary → w.outlets ≡ without_number n v.outlets
     → w.streams ≡ remove v.streams i → w.sessions ≡ remove v.sessions i
@@ -236,7 +220,7 @@ ended_follows v w waves x n i serves place device summary outlets streams sessio
     let at = served_at v waves x n i serves place in
     let l : ServedConnection = (let k = at.k in record k { gone = true }) in
     let y = with_exchange (exchange_of x.state l) x.state in
-    let here : present (put_back l ks) ≡ remove ps i = at.place.ended l refl refl in
+    let here : present (put_back l ks) ≡ remove ps i = at.ended l at.number refl in
     let counted = counted_one v.summary v.summary n at.k (exchange_of x.state l) x.state at.found at.number (record {
       connections = refl;
       requests = λ others c. c;
@@ -245,20 +229,19 @@ ended_follows v w waves x n i serves place device summary outlets streams sessio
       accepted = refl;
       refused = refl;
     }) in
-    let carries = ended v.outlets x.blocked x.state n serves.outlets in
-    subst (λ (o : Option ServedConnection). Carries (without_number n v.outlets) x.blocked (after_exchange o with_gone x.state).connections
-    → FollowsEach v w waves x (record { state = after_exchange o with_gone x.state; blocked = x.blocked })) (sym at.found)
-    (λ after. record {
+    let carries = ended v.outlets x.blocked ks n i l serves.outlets at place at.number refl in
+    subst (λ (o : Option ServedConnection). FollowsEach v w waves x (record { state = after_exchange o with_gone x.state; blocked = x.blocked }))
+    (sym at.found) (record {
       serves = record {
         device = held_on v.device w.device waves x.state y device refl refl serves.device;
-        outlets = subst (λ es. Carries es x.blocked (put_back l ks)) (sym outlets) after;
+        outlets = subst (λ es. Carries es x.blocked (put_back l ks)) (sym outlets) carries;
         streams = subst (λ hs. EachStream hs (present (put_back l ks))) (sym streams)
             (subst (λ qs. EachStream (remove v.streams i) qs) (sym here) (each_removed IsStreamOf v.streams ps i serves.streams));
         clients = subst (λ ss. EachClient plant ss (present (put_back l ks))) (sym sessions)
             (subst (λ qs. EachClient plant (remove v.sessions i) qs) (sym here) (each_removed (IsClientOf plant) v.sessions ps i serves.clients));
       };
       counted = λ c. ap counts_in summary ∙ counted c;
-    }) carries
+    })
 
 pub ended_absent : (v w : ServerView) (waves : List Wave) (x : CoreState) (n : ℕ) → ServesEach v waves x
     → IsNoEntry v.outlets n → w ≡ v → FollowsEach v w waves x (after_event x (event.Closed n))
@@ -266,7 +249,7 @@ unfolding state_after_move state_after_event
 ended_absent v w waves x n serves none same =
     subst (λ (u : ServerView). FollowsEach v u waves x (after_event x (event.Closed n))) (sym same)
     (stays v waves x (after_exchange (connection_of n x.state.connections) with_gone x.state)
-    (unchanged n with_gone x.state (not_there v.outlets x.blocked x.state.connections n serves.outlets none) (gone_twice x.state)) serves)
+    (unmoved n with_gone x.state (absent_is v.outlets x.blocked x.state.connections n serves.outlets none) (gone_twice x.state)) serves)
 
 -- whatever is called lost or shut is gone as one that is closed
 pub shut_is_closed : (x : CoreState) (n : ℕ) → after_event x (event.Closed n) ≡ after_move x (move.Shut n)
@@ -291,12 +274,12 @@ opened_follows v w waves x n h s serves new stream client device counts outlets 
     let ps = present ks in
     let k = fresh_connection served.new_client n in
     let state : ServedState = (let z = x.state in record z { connections = z.connections ++ k ∷ [] }) in
-    let here : present (ks ++ k ∷ []) ≡ ps ++ k ∷ [] = present-append ks (k ∷ []) ∙ ap (λ qs. ps ++ qs) (present-there k [] refl) in
+    let here : present (ks ++ k ∷ []) ≡ ps ++ k ∷ [] = present_opened served.new_client ks n in
     record {
       serves = record {
         device = held_on v.device w.device waves x.state state device refl refl serves.device;
         outlets = subst (λ es. Carries es x.blocked (ks ++ k ∷ [])) (sym outlets)
-            (opened v.outlets x.blocked ks n served.new_client serves.outlets new);
+            (opened served.new_client v.outlets x.blocked ks n serves.outlets new);
         streams = subst (λ hs. EachStream hs (present (ks ++ k ∷ []))) (sym streams)
             (subst (λ qs. EachStream (v.streams ++ h ∷ []) qs) (sym here)
             (each_added IsStreamOf v.streams ps h k serves.streams (own_mark h nothing_fed stream)));

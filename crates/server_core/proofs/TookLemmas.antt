@@ -19,7 +19,7 @@ use Rattle.spec_machine.proofs.Find.{number_of_found}
 use Rattle.connections.specs.Carries.{Carries, EachBeside, EachStream, IsStreamOf}
 use Rattle.connections.specs.Outlets.{change_of, emptied, freed, offer_among, run_among, taken}
 use Rattle.connections.specs.Present.{present}
-use Rattle.connections.proofs.CarriesLemmas.{took_all, took_one, writable}
+use Rattle.connections.proofs.MoveLemmas.{took_all, took_one, writable}
 use Rattle.connections.proofs.StateLemmas.{connection_of-same, connection_of-other, none_of_nil, present-gone, present-there, put_back-itself, put_back-same, put_back-other}
 use Rattle.server_core.specs.Counts.{counts_in}
 use Rattle.server_core.specs.CoreState.{CoreState, after_event, after_move, after_moves}
@@ -77,7 +77,7 @@ quiet_put {X} R n k l number gone keeps (j ∷ js) found xs each = elim (cases_e
     ]
 
 -- bytes that are taken leave all but the outlets
-with_more : ℕ → ServedConnection → ServedConnection
+abbrev with_more : ℕ → ServedConnection → ServedConnection
 with_more q k = record k { bytes_taken = k.bytes_taken + q }
 
 keeps_put : (v : ServerView) (waves : List Wave) (s : ServedState) (n q : ℕ) (k : ServedConnection) → connection_of n s.connections ≡ Some k
@@ -123,9 +123,10 @@ pub took_follows : (v : ServerView) (waves : List Wave) (x : CoreState) (n m : �
     → FollowsEach v (record v { outlets = change_of (taken m) n v.outlets }) waves x (after_move x (move.Took n (length left) bytes))
 unfolding state_after_move
 took_follows v waves x n m left bytes serves offered len fits =
-    outlets_follow v waves x (after_move x (move.Took n (length left) bytes)) (change_of (taken m) n v.outlets) serves
+    subst (λ (q : ℕ). FollowsEach v (record v { outlets = change_of (taken q) n v.outlets }) waves x (after_move x (move.Took n (length left) bytes))) len
+    (outlets_follow v waves x (after_move x (move.Took n (length left) bytes)) (change_of (taken (length bytes)) n v.outlets) serves
     (took_keeps v waves x.state n (length bytes))
-    (took_one v.outlets x.blocked x.state n m left bytes serves.outlets offered len fits)
+    (took_one served_step v.outlets x n left bytes serves.outlets offered (subst (λ (q : ℕ). q ≤ length left) (sym len) fits)))
 
 -- all that was lent, frame after frame
 wholes_keep : (v : ServerView) (waves : List Wave) (s : ServedState) (n : ℕ) (frames : List (List ℕ))

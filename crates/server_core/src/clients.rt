@@ -1,6 +1,6 @@
 //! The connections that are there, in the order of opening.
 
-ghost use Rattle.std.specs.Prelude.{◌≡◌, [], length, IfOk, OnOk};
+ghost use Rattle.std.specs.Prelude.{◌≡◌, [], IfOk, OnOk};
 ghost use Rattle.connections.specs.Entries.{IsNoEntry};
 ghost use Rattle.server_core.specs.Columns.{Opens, IsFreshSession, skipped};
 
@@ -59,7 +59,6 @@ fn fresh_session(alloc: Global) -> Result<Turned, NoMemory>
 
 /// Sessions whose connection is closing are left out from now on.
 pub(crate) fn skip_closing(outlets: &Outlets, sessions: &mut Vec<Turned>)
-    requires { length sessions.old.items ≡ length outlets.now }
     ensures { sessions.new.items ≡ skipped outlets.now sessions.old.items }
 {
     for i in 0..sessions.len() {

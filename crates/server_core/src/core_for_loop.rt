@@ -70,7 +70,7 @@ impl<S: Sources> Served for Core<S> {
         self.remove(conn);
     }
 
-    ghost apart = { λ m x s. s.serves.server.connections.apart };
+    ghost apart = { λ m x s. s.serves.server.outlets.apart };
 
     ghost opens_alone = { events_open_alone device.served };
 }

@@ -77,11 +77,13 @@ impl Server {
             return Ok(());
         }
         let mut queue = self.clients.outlets.open_queue(alloc, i)?;
+        let stream = &mut self.clients.streams[i];
+        let session = &mut self.clients.sessions[i].session;
         let mut closes = false;
         let taken = take_fed(
             alloc,
-            &mut self.clients.streams[i],
-            &mut self.clients.sessions[i].session,
+            stream,
+            session,
             &mut queue,
             &mut closes,
             &mut self.device,

@@ -26,18 +26,6 @@ reply-requires-clause-queue c =
     (appends_frame c.in_ok-take_onto.field-0 queue.bytes bytes c.in-Answer.is c.in_ok-take_onto.ensures.appends) in
     behind.open_
 
-pub reply-requires-clause-frame : goal.reply-requires-clause-frame
-reply-requires-clause-frame c =
-    let queue = c.args.queue.now in
-    let clear = c.requires.queue in
-    let bytes = c.take_onto.new.out in
-    let frame = drop (length queue.bytes) bytes in
-    let behind = written queue frame bytes clear.is_open clear.tail
-    (appends_frame c.in_ok-take_onto.field-0 queue.bytes bytes c.in-Answer.is c.in_ok-take_onto.ensures.appends) in
-    let fits : FitsFrame (taken.Answer frame) = subst (λ (t : Told). FitsFrame (taken_of t frame)) c.in-Answer.is c.in_ok-take_onto.ensures.fits in
-    let headed : 38 ≤ length frame = fits.0 in
-    subst (λ (bs : List ℕ). 0 < length bs) (sym behind.tail) (omega (arith, headed))
-
 pub returns-in-Answer-clause-goes : goal.returns-in-Answer-clause-goes
 returns-in-Answer-clause-goes c =
     let queue = c.args.queue.now in

@@ -1,7 +1,7 @@
 use Rattle.std.proofs.Common.{◌∙◌, sym, subst}
 use Rattle.server_core.specs.ServerView.{view_of}
 use Rattle.server_core.specs.Serves.{CoreView, Serves}
-use Rattle.connections.proofs.CarriesLemmas.{due_are}
+use Rattle.connections.proofs.ReadLemmas.{due_are}
 use Rattle.server_core.proofs.event_core.Core.due.Goals as goal
 
 pub returns-in-Ok-clause-due : goal.returns-in-Ok-clause-due
