@@ -1,18 +1,10 @@
 -- All frames that wait are lent in one run, and taken, each whole.
-use Rattle.std.proofs.Common.{◌≡◌, ℕ, List, [], ◌∷◌, length, drop, true, false, Bor}
+use Rattle.std.proofs.Common.{◌≡◌, ℕ, List, [], ◌∷◌, length, drop, false}
 use Rattle.std.proofs.Common.{refl, sym, ap, ◌∙◌, inl, inr, arith}
-use Rattle.std.specs.Prelude.{Bool, ◌==◌, ◌↔◌, nat_lt, Option, Some, None, IsNone, IfSome, option_copied, option_map}
-use Rattle.std.specs.List.{concat}
+use Rattle.std.specs.Prelude.{Bool, ◌==◌, nat_lt, Option, Some, None}
 use Rattle.std.proofs.lemmas.Bool.{cases_Bool, le-ltb, eq-eqb, cond-true, cond-false}
 use Rattle.out_queue.specs.Queue.{frames_after}
 use Rattle.connections.specs.Offering.{some_frames, run_of}
-
--- all of a queue, as a reference
-pub run_is : (r : Option (Bor (List ℕ))) (out : List (List ℕ)) → (IsNone r ↔ (out ≡ [])) → IfSome r (λ run. concat out ≡ run.now)
-    → option_copied r ≡ option_map concat (some_frames out)
-run_is None out empty all = sym (ap (λ fs. option_map concat (some_frames fs)) (empty.0 refl))
-run_is (Some run) [] empty all = absurd (let e : true ≡ false = empty.1 refl in cc)
-run_is (Some run) (f ∷ fs) empty all = ap Some (sym all)
 
 -- what is lent: it is not blocked, these frames wait, and there is one
 pub record IsLent (blocked : Bool) (waiting frames : List (List ℕ)) : Type 0 where

@@ -1,16 +1,10 @@
 -- What is offered of frames that wait, and what is left once bytes of it were taken.
-use Rattle.std.proofs.Common.{◌≡◌, ℕ, ◌<◌, ◌≤◌, List, [], ◌∷◌, length, true, false, cond, Bor, refl, sym, ap, ◌∙◌, subst, inl, inr, arith}
-use Rattle.std.specs.Prelude.{Bool, nat_lt, drop, ◌==◌, Option, Some, None, IsNone, IsSomeAnd, IfSome, option_copied}
+use Rattle.std.proofs.Common.{◌≡◌, ℕ, ◌<◌, ◌≤◌, List, [], ◌∷◌, length, true, false, cond, sym, ap, ◌∙◌, subst, inl, inr, arith}
+use Rattle.std.specs.Prelude.{Bool, nat_lt, drop, ◌==◌, Some, None, IsSomeAnd}
 use Rattle.std.proofs.lemmas.Bool.{cases_Bool, ltb-false, cond-true, cond-false}
 use Rattle.spec_machine.proofs.Find.{test_same}
 use Rattle.out_queue.specs.Queue.{front_of, frames_after}
 use Rattle.connections.specs.Offering.{offer_of, offers_of, FitsFirst, first_left}
-
--- the front of a queue, as a reference
-pub front_is : (r : Option (Bor (List ℕ))) (out : List (List ℕ)) → (IsNone r → out ≡ [])
-    → IfSome r (λ left. front_of out ≡ Some left.now) → option_copied r ≡ front_of out
-front_is None out empty first = sym (ap front_of (empty refl))
-front_is (Some left) out empty first = sym first
 
 -- what is offered: it is not blocked, and its first frame is there
 pub record IsOffer (blocked : Bool) (out : List (List ℕ)) (left : List ℕ) : Type 0 where

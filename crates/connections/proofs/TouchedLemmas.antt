@@ -26,11 +26,6 @@ idle_set old new es i o idle touches k untouched =
     let was = touches k untouched in
     ap (test_in is_due_outlet) (get_value-other es i k o was.1) ∙ idle k was.0
 
--- one that is touched, and does not change
-pub idle_with : (old new : Touched) (es : Outlets) (i : ℕ) → OthersIdle old es
-    → ((k : ℕ) → IsUntouched new k → IsUntouched old k × (k ≢ i)) → OthersIdle new es
-idle_with old new es i idle touches k untouched = idle k (touches k untouched).0
-
 -- one that comes is idle
 due_pushed : (es : Outlets) (n k : ℕ) → due_at es k ≡ false → due_at (es ++ (n, fresh_outlet) ∷ []) k ≡ false
 due_pushed [] n zero e = refl
