@@ -78,12 +78,12 @@ impl Server {
         }
         let mut queue = self.clients.outlets.open_queue(alloc, i)?;
         let stream = &mut self.clients.streams[i];
-        let session = &mut self.clients.sessions[i].session;
+        let turned = &mut self.clients.sessions[i];
         let mut closes = false;
         let taken = take_fed(
             alloc,
             stream,
-            session,
+            &mut turned.session,
             &mut queue,
             &mut closes,
             &mut self.device,
