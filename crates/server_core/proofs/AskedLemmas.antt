@@ -1,18 +1,18 @@
 -- All connections after a tick or a reload: each is asked, and its frames are produced.
-use Rattle.std.proofs.Common.{◌≡◌, ℕ, zero, suc, ◌+◌, ◌<◌, List, [], ◌∷◌, length, map, get_or, set, Bool, true}
+use Rattle.std.proofs.Common.{◌≡◌, ℕ, suc, ◌+◌, ◌<◌, List, [], ◌∷◌, length, map, get_or, set, true}
 use Rattle.std.proofs.Common.{false, refl, sym, ap, ◌∙◌, subst, inl, inr, arith}
-use Rattle.std.specs.Prelude.{sum_by, filter, Option, Some, None, option_map}
+use Rattle.std.specs.Prelude.{sum_by, filter}
 use Rattle.std.proofs.lemmas.Bool.{true≢false, cases_Bool, cases_lt, cond-true, cond-false, or_right}
 use Rattle.std.proofs.lemmas.List.{length-map, get_or-set_same, get_or-set_other}
 use Rattle.std.proofs.lemmas.List.Sums.{sum_by-cons, sum-map}
 use Rattle.signals.specs.Wave.{Wave}
 use Rattle.spec_plant.specs.World.{Plant}
 use Rattle.spec_machine.specs.Device.{Produced}
-use Rattle.spec_machine.specs.Connection.{connection_of, is_deaf, produce, produce_all}
+use Rattle.spec_machine.specs.Connection.{is_deaf, produce, produce_all}
 use Rattle.spec_machine.specs.Piece.{with_client}
 use Rattle.spec_machine.specs.Summary.{Summary as CountsOfState, count_of, replies_in, samples_in, summary_of}
 use Rattle.ams_tcp.specs.Held.{Held}
-use Rattle.connections.specs.Carries.{Carries, EachBeside, EachMarked, EachOutlet, EachStream, IsEntryOf, IsStreamOf}
+use Rattle.connections.specs.Carries.{Carries, EachBeside, EachOutlet, EachStream, IsEntryOf, IsStreamOf}
 use Rattle.connections.specs.Outlets.{Outlets}
 use Rattle.connections.specs.Present.{present}
 use Rattle.connections.proofs.ColumnLemmas.{each_length}
@@ -22,10 +22,10 @@ use Rattle.session.specs.StandsFor.{StandsFor}
 use Rattle.server_core.specs.declared.summary.Summary.{Summary}
 use Rattle.server_core.specs.declared.turned.Turned.{Turned}
 use Rattle.server_core.specs.Asked.{IsAsked, EachAsked}
-use Rattle.server_core.specs.Columns.{skipped, with_skip}
+use Rattle.server_core.specs.Columns.{skipped}
 use Rattle.server_core.specs.Counts.{Grows, counts_in, replies_of, samples_of}
 use Rattle.server_core.specs.CoreState.{CoreState}
-use Rattle.server_core.specs.Delivering.{Outcomes, Gives, after_given, delivered_each, frames_given, DeliversAll}
+use Rattle.server_core.specs.Delivering.{Outcomes, after_given, delivered_each, frames_given, DeliversAll}
 use Rattle.server_core.specs.HoldsWorld.{HoldsState}
 use Rattle.server_core.specs.Served.{ServedConnection, ServedState}
 use Rattle.server_core.specs.ServerView.{ServerView, sessions_of}
@@ -138,7 +138,8 @@ asked_length a b outcome (t ∷ ts) (u ∷ us) each = ap suc (asked_length a b o
 pub aligned : (es : Outlets) (plant : Plant) (ts : List Turned) (ps : List ServedConnection)
     → EachOutlet es ps → EachClient plant (sessions_of ts) ps → length (skipped es ts) ≡ length es
 aligned es plant ts ps each clients =
-    skipped_length es ts ∙ sym (length-map ts (λ (t : Turned). t.session)) ∙ each_length (IsClientOf plant) (sessions_of ts) ps clients ∙ sym (each_length IsEntryOf es ps each)
+    skipped_length es ts ∙ sym (length-map ts (λ (t : Turned). t.session))
+    ∙ each_length (IsClientOf plant) (sessions_of ts) ps clients ∙ sym (each_length IsEntryOf es ps each)
 
 pub all_asked : (es : Outlets) (old_plant plant : Plant) (outcome : Outcomes) (ts us : List Turned) (ps : List ServedConnection)
     → EachOutlet es ps → EachClient old_plant (sessions_of ts) ps → EachAsked old_plant plant outcome (skipped es ts) us → length us ≡ length es

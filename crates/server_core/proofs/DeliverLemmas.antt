@@ -12,10 +12,9 @@ use Rattle.std.proofs.lemmas.List.Sums.{sum_by-cons}
 use Rattle.spec_plant.specs.World.{Plant}
 use Rattle.spec_machine.specs.Device.{Produced}
 use Rattle.spec_machine.specs.Connection.{is_deaf, produce, produce_all}
-use Rattle.spec_machine.specs.Offers.{is_among}
 use Rattle.spec_machine.specs.Piece.{with_client}
 use Rattle.spec_machine.specs.Summary.{count_of}
-use Rattle.connections.specs.Carries.{EachBeside, EachMarked, EachOutlet, IsEntryOf, IsOutlet}
+use Rattle.connections.specs.Carries.{EachBeside, EachMarked, EachOutlet, IsOutlet}
 use Rattle.connections.specs.Outlets.{Outlets, change_at, given, has_room, is_fitting, outlet_at, test_in}
 use Rattle.connections.specs.declared.outlet.Outlet.{Outlet}
 use Rattle.connections.proofs.GivenLemmas.{given_closing as given_closing_outlet}
@@ -29,9 +28,10 @@ use Rattle.server_core.specs.declared.turned.Turned.{Turned}
 use Rattle.server_core.specs.Served.{ServedConnection}
 use Rattle.server_core.specs.ServerView.{sessions_of}
 use Rattle.server_core.specs.Counts.{Counts, Grows, replies_of, samples_of}
-use Rattle.server_core.specs.Delivering.{Delivery, Gives, Outcomes, after_given, delivered, delivered_all, delivered_each, more_samples, frames_given, DeliversAt}
+use Rattle.server_core.specs.Delivering.{Delivery, Gives, Outcomes, after_given, delivered}
+use Rattle.server_core.specs.Delivering.{delivered_all, delivered_each, more_samples, frames_given, DeliversAt}
 use Rattle.server_core.proofs.CountLemmas.{same_count, same_counts, then_counts}
-use Rattle.server_core.proofs.ProduceLemmas.{Produces, produces, produce-stream}
+use Rattle.server_core.proofs.ProduceLemmas.{produces, produce-stream}
 use Rattle.server_core.proofs.TakingLemmas.{counts_client}
 
 -- The code: one frame more, and one session more.
@@ -335,5 +335,6 @@ all_done plant blocked outcome (t ∷ ts) (e ∷ es) s (k ∷ ks) given each the
     record {
       each = (record { number = each.0.number ∙ sym (given_keeps outcome k).number; outlet = one.stands }, rest.each);
       marked = (delivered_mark t.out (e.1, s) ∙ marks.0, rest.marked);
-      counted = counts_more s d.1 (delivered_each (frames_given ts) es d.1).1 k (after_given outcome k) ks (map (after_given outcome) ks) one.counted rest.counted;
+      counted = counts_more s d.1 (delivered_each (frames_given ts) es d.1).1 k (after_given outcome k) ks (map (after_given outcome) ks)
+          one.counted rest.counted;
     }

@@ -3,7 +3,6 @@ use Rattle.std.proofs.Common.{◌≡◌, ℕ, zero, suc, ◌<◌, List, [], ◌�
 use Rattle.std.specs.Prelude.{Some, remove, slice_get, option_map}
 use Rattle.std.proofs.lemmas.List.{length-map, map-set}
 use Rattle.std.proofs.lemmas.Option.{slice_get-get_or, slice_get-map}
-use Rattle.signals.specs.Wave.{Wave}
 use Rattle.connections.specs.Carries.{IsEntryOf, IsStreamOf}
 use Rattle.connections.specs.Entries.{IsEntry}
 use Rattle.connections.specs.Outlets.{closing_at, is_closing, test_in}
@@ -11,10 +10,9 @@ use Rattle.connections.specs.Present.{present}
 use Rattle.connections.proofs.ColumnLemmas.{each_length, each_read}
 use Rattle.session.specs.SessionState.{SessionState}
 use Rattle.server_core.specs.declared.turned.Turned.{Turned}
-use Rattle.server_core.specs.CoreState.{CoreState}
 use Rattle.server_core.specs.HoldsWorld.{IsConnected}
 use Rattle.server_core.specs.ServerView.{ServerView, sessions_of}
-use Rattle.server_core.specs.Serves.{ServesEach, IsServing}
+use Rattle.server_core.specs.Serves.{IsServing}
 use Rattle.server_core.specs.Stands.{IsClientOf}
 use Rattle.server_core.proofs.ServeLemmas.{served_at}
 

@@ -1,6 +1,6 @@
 -- What all that is kept stands for, after each kind of move of one connection.
-use Rattle.std.proofs.Common.{◌≡◌, ℕ, zero, suc, ◌+◌, List, [], ◌∷◌, ◌++◌, length, set, Bool, true, false, refl, sym, ap, ◌∙◌, subst, inl, inr}
-use Rattle.std.specs.Prelude.{◌||◌, remove, slice_get, option_map, Option, Some, None}
+use Rattle.std.proofs.Common.{◌≡◌, ℕ, ◌+◌, List, [], ◌∷◌, ◌++◌, set, true, false, refl, sym, ap, ◌∙◌, subst}
+use Rattle.std.specs.Prelude.{◌||◌, remove, slice_get, Option, Some, None}
 use Rattle.std.proofs.lemmas.Bool.{cond-true, or_left, or_right}
 use Rattle.signals.specs.Wave.{Wave}
 use Rattle.ads_outside.specs.declared.event.Event.TheVariants as event
@@ -14,9 +14,10 @@ use Rattle.spec_machine.specs.Piece.{after_piece}
 use Rattle.spec_machine.specs.Moves.{with_gone, state_after_move}
 use Rattle.spec_machine.specs.Events.{state_after_event}
 use Rattle.spec_machine.specs.Summary.{count_of, summary_of}
-use Rattle.connections.specs.Carries.{Carries, EachBeside, EachStream, IsOutlet, IsStreamOf}
+use Rattle.connections.specs.Carries.{Carries, EachStream, IsOutlet, IsStreamOf}
 use Rattle.connections.specs.Entries.{IsEntry, IsNoEntry}
-use Rattle.connections.specs.Outlets.{Outlets, change_at, closing_at, fresh_outlet, frames_in, holding, is_closing, outlet_at, test_in, with_nothing, without_number}
+use Rattle.connections.specs.Outlets.{Outlets, change_at, closing_at, fresh_outlet, frames_in}
+use Rattle.connections.specs.Outlets.{holding, is_closing, outlet_at, test_in, with_nothing, without_number}
 use Rattle.connections.specs.Present.{present}
 use Rattle.connections.specs.declared.outlet.Outlet.{Outlet}
 use Rattle.connections.proofs.CarryLemmas.{AtNumber, absent_is, at_number, changed_by, ended, opened, present_opened}
@@ -30,7 +31,7 @@ use Rattle.session.specs.StandsFor.{StandsFor}
 use Rattle.server_core.specs.declared.device.Device.{Device}
 use Rattle.server_core.specs.declared.summary.Summary.{Summary}
 use Rattle.server_core.specs.Served.{served, World, ServedConnection, ServedExchange, ServedState}
-use Rattle.server_core.specs.Counts.{Counts, counts_in}
+use Rattle.server_core.specs.Counts.{counts_in}
 use Rattle.server_core.specs.HoldsWorld.{HoldsWorld, HoldsState}
 use Rattle.server_core.specs.Stands.{Conn, IsClientOf, Stands, Goes}
 use Rattle.server_core.specs.Taking.{KeepsDevice}

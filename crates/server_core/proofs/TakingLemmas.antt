@@ -2,7 +2,7 @@
 use Rattle.std.proofs.Common.{◌≡◌, ℕ, ◌+◌, List, [], ◌∷◌, ◌++◌, length, take, arith, drop, Bool, true, false, cond, not, refl, sym, ap, ◌∙◌, subst}
 use Rattle.std.specs.Prelude.{Result, Ok, Err, OnOk}
 use Rattle.std.proofs.lemmas.List.{take-append-le, take_all}
-use Rattle.std.proofs.lemmas.Bool.{true≢false, cond-true, cond-false, or_left, or_from}
+use Rattle.std.proofs.lemmas.Bool.{true≢false, cond-true, cond-false, or_from}
 use Rattle.spec_frames.specs.Frame.{frame_bytes}
 use Rattle.spec_frames.specs.Division.{front_of, frames_of, rest_of, is_broken}
 use Rattle.spec_plant.specs.World.{Plant}
@@ -23,7 +23,7 @@ use Rattle.session.specs.Takes.{Takes as TakesPacket, outcome_of_packet, IsAnswe
 use Rattle.session.specs.declared.taken.Taken.{Taken}
 use Rattle.port_device.specs.PortMemory.{PortsMemory}
 use Rattle.session.specs.declared.taken.Taken.TheVariants as taken
-use Rattle.connections.specs.Carries.{IsOutlet, IsStreamOf}
+use Rattle.connections.specs.Carries.{IsStreamOf}
 use Rattle.server_core.specs.declared.summary.Summary.{Summary}
 use Rattle.server_core.specs.declared.device.Device.{Device}
 use Rattle.server_core.specs.Served.{served, World, Client, ServedConnection, ServedExchange}
@@ -311,7 +311,8 @@ then_goes mid new d e s t u x y z first second = record {
 
 -- a frame is taken and answered
 pub takes_frame : (conn mid new : Conn) (d e : Device) (s t u : Summary) (x : ServedExchange) (packet : List ℕ) → x.connection.closing ≡ false
-    → cut.Frame packet ≡ answer_of (history_of conn.stream x.connection) → Goes mid d s t x (with_one x) → Goes new e t u (with_one x) (answered packet (with_one x))
+    → cut.Frame packet ≡ answer_of (history_of conn.stream x.connection)
+    → Goes mid d s t x (with_one x) → Goes new e t u (with_one x) (answered packet (with_one x))
     → Takes (not new.outlet.closing) new e s u x
 takes_frame conn mid new d e s t u x packet is_open answer first second = by_mark new.outlet.closing refl
   where
@@ -407,11 +408,7 @@ fed conn new d s x piece held st stream session out closing = goes_still new d s
   refused = refl;
 }) refl refl
 
--- a connection that is closing takes no piece
-pub after_piece-closing : (piece : List ℕ) (x : ServedExchange) → x.connection.closing ≡ true → after_piece served piece x ≡ x
-unfolding after_piece
-after_piece-closing piece x closing = cond-true (is_deaf x.connection) x _ (or_left x.connection.closing x.connection.gone closing)
-
+-- a piece of a connection that is not closing
 pub after_piece-settled : (piece : List ℕ) (x : ServedExchange) → x.connection.closing ≡ false → x.connection.gone ≡ false
     → settled (with_piece piece x) ≡ after_piece served piece x
 unfolding after_piece settled

@@ -1,32 +1,28 @@
 -- What was offered is taken, or a connection is writable: outlets change, and nothing beside them.
 use Rattle.std.proofs.Common.{◌≡◌, ℕ, ◌+◌, ◌≤◌, List, [], ◌∷◌, length, true, false, refl, sym, ap, ◌∙◌, subst, inl, inr, append-nil}
-use Rattle.std.specs.Prelude.{Option, Some, None, IsSome, IsSomeAnd}
+use Rattle.std.specs.Prelude.{Option, Some, None, IsSome}
 use Rattle.std.proofs.lemmas.Bool.{cases_Bool, cases_eq, cond-true, cond-false}
 use Rattle.signals.specs.Wave.{Wave}
 use Rattle.ads_outside.specs.declared.event.Event.TheVariants as event
-use Rattle.ads_outside.specs.declared.moves.Move.{Move}
 use Rattle.ads_outside.specs.declared.moves.Move.TheVariants as move
 use Rattle.ads_outside.specs.Wholes.{wholes}
 use Rattle.ads_served.specs.Standing.{Standing, Noting, standing_after, standing_after_all}
-use Rattle.spec_plant.specs.World.{Plant}
 use Rattle.spec_machine.specs.Connection.{connection_of, put_back}
 use Rattle.spec_machine.specs.Events.{state_after_event}
 use Rattle.spec_machine.specs.MachineState.{exchange_of, with_exchange, after_exchange}
 use Rattle.spec_machine.specs.Moves.{state_after, state_after_move, with_took}
 use Rattle.spec_machine.specs.Offers.{blocked_after}
-use Rattle.spec_machine.specs.Summary.{summary_of}
 use Rattle.spec_machine.proofs.Find.{number_of_found}
-use Rattle.connections.specs.Carries.{Carries, EachBeside, EachStream, IsStreamOf}
+use Rattle.connections.specs.Carries.{EachBeside, IsStreamOf}
 use Rattle.connections.specs.Outlets.{change_of, emptied, freed, offer_among, run_among, taken}
 use Rattle.connections.specs.Present.{present}
 use Rattle.connections.proofs.MoveLemmas.{took_all, took_one, writable}
-use Rattle.connections.proofs.StateLemmas.{connection_of-same, connection_of-other, none_of_nil, present-gone, present-there, put_back-itself, put_back-same, put_back-other}
-use Rattle.server_core.specs.Counts.{counts_in}
+use Rattle.connections.proofs.StateLemmas.{connection_of-same, connection_of-other, none_of_nil, present-gone}
+use Rattle.connections.proofs.StateLemmas.{present-there, put_back-itself, put_back-same, put_back-other}
 use Rattle.server_core.specs.CoreState.{CoreState, after_event, after_move, after_moves}
-use Rattle.server_core.specs.HoldsWorld.{HoldsState}
 use Rattle.server_core.specs.Served.{World, Client, ServedConnection, ServedState, served_step}
 use Rattle.server_core.specs.ServerView.{ServerView}
-use Rattle.server_core.specs.Serves.{CoreView, Serves, EachClient, ServesEach, ServesSome, HasCounts, FollowsEach, StandsAt}
+use Rattle.server_core.specs.Serves.{CoreView, Serves, ServesEach, ServesSome, HasCounts, FollowsEach, StandsAt}
 use Rattle.server_core.specs.Stands.{IsClientOf}
 use Rattle.server_core.proofs.ServeLemmas.{KeepsServed, keeps_all, keeps_on, outlets_follow}
 use Rattle.server_core.proofs.SumLemmas.{counted_one}

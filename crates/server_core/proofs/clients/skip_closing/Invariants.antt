@@ -1,4 +1,4 @@
-use Rattle.std.proofs.Common.{◌≡◌, length, take, drop, ◌++◌}
+use Rattle.std.proofs.Common.{◌≡◌, length, take, drop}
 use Rattle.server_core.specs.Columns.{skipped}
 use Rattle.server_core.proofs.clients.skip_closing.Given as goal
 

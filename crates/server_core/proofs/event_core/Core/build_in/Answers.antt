@@ -13,5 +13,6 @@ invariant_of-result g c = λ e.
     record {
       state = started_in (profile_of c.args.profile) d waves;
       serves = started_serves (profile_of c.args.profile) _ waves d
-          (c.in_ok-device.ensures waves c.count-count.ensures c.requires.few) c.new.ensures.outlets c.new.ensures.streams (ap sessions_of c.new.ensures.sessions);
+          (c.in_ok-device.ensures waves c.count-count.ensures c.requires.few)
+          c.new.ensures.outlets c.new.ensures.streams (ap sessions_of c.new.ensures.sessions);
     }

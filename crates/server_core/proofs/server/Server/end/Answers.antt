@@ -1,5 +1,4 @@
 use Rattle.std.proofs.Common.{refl, ap, ◌∙◌}
-use Rattle.std.specs.Prelude.{remove}
 use Rattle.connections.specs.Outlets.{Outlets}
 use Rattle.connections.proofs.OutletLemmas.{without_none}
 use Rattle.server_core.specs.ServerView.{sessions_of, view_of}

@@ -42,7 +42,14 @@ returns c =
     record {
       device = λ waves x s.
           reloaded_device old.device _ waves d x
-          (record { ports = c.in_ok-ports.ensures; net = refl; routes = c.in_ok-admission.ensures.routes; others = c.in_ok-admission.ensures.others ∙ c.others-others.ensures; signals = refl; moment = refl }) s.device;
+          (record {
+            ports = c.in_ok-ports.ensures;
+            net = refl;
+            routes = c.in_ok-admission.ensures.routes;
+            others = c.in_ok-admission.ensures.others ∙ c.others-others.ensures;
+            signals = refl;
+            moment = refl;
+          }) s.device;
       asked = λ waves x s.
           let w = x.state.world in
           let z = world_after_reload w d in
