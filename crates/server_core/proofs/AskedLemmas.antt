@@ -1,118 +1,150 @@
 -- All connections after a tick or a reload: each is asked, and its frames are produced.
-use Rattle.std.proofs.Common.{◌≡◌, ℕ, zero, suc, ◌+◌, ◌<◌, List, [], ◌∷◌, length, map, get_or, set, Bool, true}
+use Rattle.std.proofs.Common.{◌≡◌, ℕ, suc, ◌+◌, ◌<◌, List, [], ◌∷◌, length, map, get_or, set, true}
 use Rattle.std.proofs.Common.{false, refl, sym, ap, ◌∙◌, subst, inl, inr, arith}
-use Rattle.std.specs.Prelude.{sum_by, filter, Option, Some, None, option_map}
+use Rattle.std.specs.Prelude.{sum_by, filter}
 use Rattle.std.proofs.lemmas.Bool.{true≢false, cases_Bool, cases_lt, cond-true, cond-false, or_right}
 use Rattle.std.proofs.lemmas.List.{length-map, get_or-set_same, get_or-set_other}
 use Rattle.std.proofs.lemmas.List.Sums.{sum_by-cons, sum-map}
 use Rattle.signals.specs.Wave.{Wave}
 use Rattle.spec_plant.specs.World.{Plant}
 use Rattle.spec_machine.specs.Device.{Produced}
-use Rattle.spec_machine.specs.Connection.{connection_of, is_deaf, produce, produce_all}
+use Rattle.spec_machine.specs.Connection.{is_deaf, produce, produce_all}
 use Rattle.spec_machine.specs.Piece.{with_client}
-use Rattle.spec_machine.specs.Offers.{is_among}
 use Rattle.spec_machine.specs.Summary.{Summary as CountsOfState, count_of, replies_in, samples_in, summary_of}
-use Rattle.spec_machine.proofs.Find.{connection_of-map}
-use Rattle.ads_served.specs.Opened.{AreApart}
 use Rattle.ams_tcp.specs.Held.{Held}
-use Rattle.ams_tcp.specs.History.{Represents}
-use Rattle.server_core.specs.declared.clients.Clients.{Clients}
+use Rattle.connections.specs.Carries.{Carries, EachBeside, EachOutlet, EachStream, IsEntryOf, IsStreamOf}
+use Rattle.connections.specs.Outlets.{Outlets}
+use Rattle.connections.specs.Present.{present}
+use Rattle.connections.proofs.ColumnLemmas.{each_length}
+use Rattle.connections.proofs.ForgottenLemmas.{mapped, present-map}
+use Rattle.connections.proofs.StateLemmas.{present-gone, present-there}
+use Rattle.session.specs.StandsFor.{StandsFor}
 use Rattle.server_core.specs.declared.summary.Summary.{Summary}
 use Rattle.server_core.specs.declared.turned.Turned.{Turned}
-use Rattle.server_core.specs.declared.waiting.Waiting.{Waiting}
 use Rattle.server_core.specs.Asked.{IsAsked, EachAsked}
-use Rattle.server_core.specs.Conns.{conn_of, conns_of}
+use Rattle.server_core.specs.Columns.{skipped}
 use Rattle.server_core.specs.Counts.{Grows, counts_in, replies_of, samples_of}
-use Rattle.server_core.specs.ConnStands.{Stands}
 use Rattle.server_core.specs.CoreState.{CoreState}
-use Rattle.server_core.specs.Delivering.{Outcomes, Gives, after_given, mark_of, IsPending, EachUpTo, CountsAll, DeliversAll}
+use Rattle.server_core.specs.Delivering.{Outcomes, after_given, delivered_each, frames_given, DeliversAll}
 use Rattle.server_core.specs.HoldsWorld.{HoldsState}
 use Rattle.server_core.specs.Served.{ServedConnection, ServedState}
-use Rattle.server_core.specs.ServerView.{ServerView}
-use Rattle.server_core.specs.Serves.{EachStands, EachMarked, ServesEach, conns_in}
-use Rattle.connections.specs.Present.{present}
-use Rattle.server_core.proofs.DeliverLemmas.{all_done}
-use Rattle.server_core.proofs.ProduceLemmas.{produce-stream}
-use Rattle.connections.proofs.StateLemmas.{present-gone, present-there}
+use Rattle.server_core.specs.ServerView.{ServerView, sessions_of}
+use Rattle.server_core.specs.Serves.{EachClient, ServesEach}
+use Rattle.server_core.specs.Stands.{IsClientOf}
+use Rattle.server_core.proofs.DeliverLemmas.{AreThere, CountsAll, IsGivenBy, all_done, given_closing, given_keeps, given_open}
+use Rattle.server_core.proofs.ProduceLemmas.{SameStream, produce-stream, stream_on}
+use Rattle.server_core.proofs.SkipLemmas.{skipped_length}
 use Rattle.server_core.proofs.SumLemmas.{same_counts_of, produced_sum}
-
--- what frames of samples leave of a connection
-pub record KeepsPlace (k l : ServedConnection) : Type 0 where
-  pub number : l.number ≡ k.number
-  pub gone : l.gone ≡ k.gone
-
-produced_keeps : (frames : List Produced) (k : ServedConnection) → KeepsPlace k (produce_all frames k)
-unfolding produce_all
-produced_keeps [] k = record { number = refl; gone = refl }
-produced_keeps (f ∷ fs) k =
-    let one = produce-stream f k in
-    let rest = produced_keeps fs (produce f k) in
-    record { number = rest.number ∙ one.number; gone = rest.gone ∙ one.gone }
-
-pub given_keeps : (outcome : Outcomes) (k : ServedConnection) → KeepsPlace k (after_given outcome k)
-given_keeps outcome k = elim (cases_Bool (is_deaf k)) [
-  | inl deaf ↦
-      let same = cond-true (is_deaf k) k (produce_all (outcome k.client).frames (with_client (outcome k.client).client k)) deaf in
-      subst (λ l. KeepsPlace k l) (sym same) (record { number = refl; gone = refl })
-  | inr hears ↦
-      let same = cond-false (is_deaf k) k (produce_all (outcome k.client).frames (with_client (outcome k.client).client k)) hears in
-      let keeps = produced_keeps (outcome k.client).frames (with_client (outcome k.client).client k) in
-      subst (λ l. KeepsPlace k l) (sym same) (record { number = keeps.number; gone = keeps.gone })
-]
 
 pub given_gone : (outcome : Outcomes) (k : ServedConnection) → k.gone ≡ true → after_given outcome k ≡ k
 given_gone outcome k gone = cond-true (is_deaf k) k _ (or_right k.closing k.gone gone)
 
-present-given : (outcome : Outcomes) (ks : List ServedConnection) → present (map (after_given outcome) ks) ≡ map (after_given outcome) (present ks)
-present-given outcome [] = refl
-present-given outcome (k ∷ ks) =
-    let f : ServedConnection → ServedConnection = after_given outcome in
-    let keeps = given_keeps outcome k in
-    elim (cases_Bool k.gone) [
-      | inl gone ↦ present-gone (f k) (map f ks) (keeps.gone ∙ gone) ∙ present-given outcome ks ∙ ap (map f) (sym (present-gone k ks gone))
-      | inr there ↦ present-there (f k) (map f ks) (keeps.gone ∙ there)
-          ∙ ap (λ ls. f k ∷ ls) (present-given outcome ks) ∙ ap (map f) (sym (present-there k ks there))
-    ]
+-- what a connection has received and taken stays
+streams_on : (frames : List Produced) (k : ServedConnection) → SameStream k (produce_all frames k)
+unfolding produce_all
+streams_on [] k = record { number = refl; received = refl; frames_taken = refl; client = refl; gone = refl }
+streams_on (f ∷ fs) k =
+    let one = produce-stream f k in
+    let rest = streams_on fs (produce f k) in
+    record {
+      number = rest.number ∙ one.number;
+      received = rest.received ∙ one.received;
+      frames_taken = rest.frames_taken ∙ one.frames_taken;
+      client = rest.client ∙ one.client;
+      gone = rest.gone ∙ one.gone;
+    }
 
-found-given : (outcome : Outcomes) (n : ℕ) (ks : List ServedConnection)
-    → connection_of n (map (after_given outcome) ks) ≡ option_map (after_given outcome) (connection_of n ks)
-found-given outcome n ks = connection_of-map n (after_given outcome) (λ k. (given_keeps outcome k).number) ks
+-- a stream stands for the connection as before
+stream_given : (outcome : Outcomes) (held : Held) (k : ServedConnection) → k.gone ≡ false → IsStreamOf held k → IsStreamOf held (after_given outcome k)
+stream_given outcome held k there st = elim (cases_Bool k.closing) [
+  | inl closing ↦ subst (λ l. IsStreamOf held l) (sym (given_closing outcome k closing)) st
+  | inr is_open ↦
+      let l = with_client (outcome k.client).client k in
+      subst (λ m. IsStreamOf held m) (sym (given_open outcome k is_open there))
+      (stream_on held l (produce_all (outcome k.client).frames l) (streams_on (outcome k.client).frames l) st)
+]
 
-apart-given : (outcome : Outcomes) (ks : List ServedConnection) → AreApart ks → AreApart (map (after_given outcome) ks)
-apart-given outcome [] apart = apart
-apart-given outcome (k ∷ ks) apart = (
-  ap (λ n. connection_of n (map (after_given outcome) ks)) (given_keeps outcome k).number
-      ∙ found-given outcome k.number ks ∙ ap (option_map (after_given outcome)) apart.0,
-  apart-given outcome ks apart.1,
+streams_given : (outcome : Outcomes) (helds : List Held) (ks : List ServedConnection) → AreThere ks
+    → EachStream helds ks → EachStream helds (map (after_given outcome) ks)
+streams_given outcome [] [] there each = tt
+streams_given outcome [] (k ∷ ks) there each = absurd each
+streams_given outcome (h ∷ hs) [] there each = absurd each
+streams_given outcome (h ∷ hs) (k ∷ ks) there each =
+    (stream_given outcome h k there.0 each.0, streams_given outcome hs ks there.1 each.1)
+
+-- a session that gave its frames stands for the client after
+client_given : (plant : Plant) (outcome : Outcomes) (t : Turned) (k : ServedConnection) → k.gone ≡ false
+    → IsGivenBy plant outcome t k → IsClientOf plant t.session (after_given outcome k)
+client_given plant outcome t k there given = λ is_open. elim (cases_Bool k.closing) [
+  | inl closing ↦
+      let was = ap (λ (l : ServedConnection). l.closing) (given_closing outcome k closing) in
+      absurd (true≢false (sym closing ∙ sym was ∙ is_open))
+  | inr opened ↦
+      let l = with_client (outcome k.client).client k in
+      let same : (after_given outcome k).client ≡ (outcome k.client).client =
+      ap (λ (m : ServedConnection). m.client) (given_open outcome k opened there) ∙ (streams_on (outcome k.client).frames l).client in
+      subst (λ c. StandsFor plant c t.session) (sym same) (given opened).stands
+]
+
+clients_given : (plant : Plant) (outcome : Outcomes) (ts : List Turned) (ks : List ServedConnection) → AreThere ks
+    → EachBeside (IsGivenBy plant outcome) ts ks → EachClient plant (sessions_of ts) (map (after_given outcome) ks)
+clients_given plant outcome [] [] there each = tt
+clients_given plant outcome [] (k ∷ ks) there each = absurd each
+clients_given plant outcome (t ∷ ts) [] there each = absurd each
+clients_given plant outcome (t ∷ ts) (k ∷ ks) there each =
+    (client_given plant outcome t k there.0 each.0, clients_given plant outcome ts ks there.1 each.1)
+
+-- Sessions before they are asked: whose connection is closing is left out.
+
+pub sessions_skipped : (es : Outlets) (ts : List Turned) → sessions_of (skipped es ts) ≡ sessions_of ts
+sessions_skipped es [] = refl
+sessions_skipped [] (t ∷ ts) = ap (λ ss. t.session ∷ ss) (sessions_skipped [] ts)
+sessions_skipped (e ∷ es) (t ∷ ts) = ap (λ ss. t.session ∷ ss) (sessions_skipped es ts)
+
+abbrev pub IsMarked : Turned → ServedConnection → Type 0
+IsMarked t k = t.skip ≡ k.closing
+
+pub marked_skipped : (plant : Plant) (es : Outlets) (ts : List Turned) (ks : List ServedConnection)
+    → EachOutlet es ks → EachClient plant (sessions_of ts) ks → EachBeside IsMarked (skipped es ts) ks
+marked_skipped plant [] [] [] each clients = tt
+marked_skipped plant es [] (k ∷ ks) each clients = absurd clients
+marked_skipped plant es (t ∷ ts) [] each clients = absurd clients
+marked_skipped plant (e ∷ es) [] [] each clients = absurd each
+marked_skipped plant [] (t ∷ ts) (k ∷ ks) each clients = absurd each
+marked_skipped plant (e ∷ es) (t ∷ ts) (k ∷ ks) each clients =
+    (each.0.outlet.closing, marked_skipped plant es ts ks each.1 clients.1)
+
+-- each that is not left out gave the frames of its client
+given_all : (old_plant plant : Plant) (outcome : Outcomes) (ts us : List Turned) (ks : List ServedConnection)
+    → EachAsked old_plant plant outcome ts us → EachBeside IsMarked ts ks → EachClient old_plant (sessions_of ts) ks
+    → EachBeside (IsGivenBy plant outcome) us ks
+given_all old_plant plant outcome [] [] [] asked marks clients = tt
+given_all old_plant plant outcome [] [] (k ∷ ks) asked marks clients = absurd marks
+given_all old_plant plant outcome [] (u ∷ us) ks asked marks clients = absurd asked
+given_all old_plant plant outcome (t ∷ ts) [] ks asked marks clients = absurd asked
+given_all old_plant plant outcome (t ∷ ts) (u ∷ us) [] asked marks clients = absurd marks
+given_all old_plant plant outcome (t ∷ ts) (u ∷ us) (k ∷ ks) asked marks clients = (
+  (λ is_open. asked.0.gives (marks.0 ∙ is_open) k.client (clients.0 is_open)),
+  given_all old_plant plant outcome ts us ks asked.1 marks.1 clients.1,
 )
 
-none-given : (outcome : Outcomes) (n : ℕ) (ks : List ServedConnection) → connection_of n (map (after_given outcome) ks) ≡ None → connection_of n ks ≡ None
-none-given outcome n ks e = by (connection_of n ks) (sym (found-given outcome n ks) ∙ e)
-  where
-    by : (o : Option ServedConnection) → option_map (after_given outcome) o ≡ None → o ≡ None
-    by None e = refl
-    by (Some k) e = cc
+-- as many are asked as there are outlets
+asked_length : (a b : Plant) (outcome : Outcomes) (ts us : List Turned) → EachAsked a b outcome ts us → length us ≡ length ts
+asked_length a b outcome [] [] each = refl
+asked_length a b outcome [] (u ∷ us) each = absurd each
+asked_length a b outcome (t ∷ ts) [] each = absurd each
+asked_length a b outcome (t ∷ ts) (u ∷ us) each = ap suc (asked_length a b outcome ts us each.1)
 
--- marks are those of numbers and of who is blocked
-marked_same : (blocked : List ℕ) (ts us : List Turned) (es fs : List (ℕ × Waiting))
-    → length ts ≡ length es → length us ≡ length fs → map mark_of fs ≡ map mark_of es
-    → EachMarked blocked (conns_of ts es) → EachMarked blocked (conns_of us fs)
-marked_same blocked ts [] es [] a b same marks = tt
-marked_same blocked ts [] es (f ∷ fs) a b same marks = absurd (omega (arith, b))
-marked_same blocked ts (u ∷ us) es [] a b same marks = absurd (omega (arith, b))
-marked_same blocked ts (u ∷ us) [] (f ∷ fs) a b same marks = cc
-marked_same blocked [] (u ∷ us) (e ∷ es) (f ∷ fs) a b same marks = absurd (omega (arith, a))
-marked_same blocked (t ∷ ts) (u ∷ us) (e ∷ es) (f ∷ fs) a b same marks =
-    let first : ◌≡◌ {A = ℕ × Bool} (mark_of f) (mark_of e) = cc in
-    let number : f.0 ≡ e.0 = ap (λ (p : ℕ × Bool). p.0) first in
-    let mark : f.1.blocked ≡ e.1.blocked = ap (λ (p : ℕ × Bool). p.1) first in
-    let rest : map mark_of fs ≡ map mark_of es = cc in
-    (mark ∙ marks.0 ∙ ap (λ n. is_among n blocked) (sym number), marked_same blocked ts us es fs (omega (arith, a)) (omega (arith, b)) rest marks.1)
+pub aligned : (es : Outlets) (plant : Plant) (ts : List Turned) (ps : List ServedConnection)
+    → EachOutlet es ps → EachClient plant (sessions_of ts) ps → length (skipped es ts) ≡ length es
+aligned es plant ts ps each clients =
+    skipped_length es ts ∙ sym (length-map ts (λ (t : Turned). t.session))
+    ∙ each_length (IsClientOf plant) (sessions_of ts) ps clients ∙ sym (each_length IsEntryOf es ps each)
 
--- all of them are there
-abbrev AreThere : List ServedConnection → Type 0
-AreThere [] = Unit {0}
-AreThere (k ∷ ks) = (k.gone ≡ false) × AreThere ks
+pub all_asked : (es : Outlets) (old_plant plant : Plant) (outcome : Outcomes) (ts us : List Turned) (ps : List ServedConnection)
+    → EachOutlet es ps → EachClient old_plant (sessions_of ts) ps → EachAsked old_plant plant outcome (skipped es ts) us → length us ≡ length es
+all_asked es old_plant plant outcome ts us ps each clients asked =
+    asked_length old_plant plant outcome (skipped es ts) us asked ∙ aligned es old_plant ts ps each clients
 
 all_there : (ks : List ServedConnection) → AreThere (present ks)
 all_there [] = tt
@@ -120,53 +152,6 @@ all_there (k ∷ ks) = elim (cases_Bool k.gone) [
   | inl gone ↦ subst AreThere (sym (present-gone k ks gone)) (all_there ks)
   | inr there ↦ subst AreThere (sym (present-there k ks there)) (there, all_there ks)
 ]
-
-pending_one : (old_plant plant : Plant) (outcome : Outcomes) (t u : Turned) (e : ℕ × Waiting) (k : ServedConnection)
-    → IsAsked old_plant plant outcome t u → Stands old_plant (conn_of t e) k → k.gone ≡ false
-    → IsPending plant outcome u e k
-pending_one old_plant plant outcome t u e k asked st there = record {
-  closing = asked.skip ∙ st.closing;
-  there = there;
-  closed = λ closing. record {
-    number = st.number;
-    stream = stream;
-    client = λ is_open. absurd (true≢false (sym closing ∙ is_open));
-    waiting = st.waiting;
-    bytes_taken = st.bytes_taken;
-    closing = asked.skip ∙ st.closing;
-  };
-  asked = λ is_open. record {
-    number = st.number;
-    stream = stream;
-    client = λ open_. (gives is_open).stands;
-    waiting = st.waiting;
-    bytes_taken = st.bytes_taken;
-    closing = asked.skip ∙ st.closing;
-  };
-  gives = gives;
-}
-  where
-    stream : Represents u.session.stream (record { fed = k.received; given = k.frames_taken; told_broken = u.session.stream.told_broken })
-    stream = subst (λ (held : Held). Represents held (record { fed = k.received; given = k.frames_taken; told_broken = held.told_broken }))
-        (sym asked.stream) st.stream
-
-    gives : k.closing ≡ false → Gives plant (outcome k.client) u
-    gives is_open = asked.gives (st.closing ∙ is_open) k.client (st.client is_open)
-
-pending_all : (old_plant plant : Plant) (outcome : Outcomes) (ts us : List Turned) (es : List (ℕ × Waiting)) (ps : List ServedConnection)
-    → length ts ≡ length es → EachAsked old_plant plant outcome ts us
-    → EachStands old_plant (conns_of ts es) ps → AreThere ps → EachUpTo plant outcome zero us es ps
-pending_all old_plant plant outcome [] [] [] [] e asked each there = tt
-pending_all old_plant plant outcome [] [] [] (p ∷ ps) e asked each there = absurd each
-pending_all old_plant plant outcome [] [] (f ∷ fs) ps e asked each there = absurd (omega (arith, e))
-pending_all old_plant plant outcome [] (u ∷ us) es ps e asked each there = absurd asked
-pending_all old_plant plant outcome (t ∷ ts) [] es ps e asked each there = absurd asked
-pending_all old_plant plant outcome (t ∷ ts) (u ∷ us) [] ps e asked each there = absurd (omega (arith, e))
-pending_all old_plant plant outcome (t ∷ ts) (u ∷ us) (f ∷ fs) [] e asked each there = absurd each
-pending_all old_plant plant outcome (t ∷ ts) (u ∷ us) (f ∷ fs) (p ∷ ps) e asked each there = (
-  pending_one old_plant plant outcome t u f p asked.0 each.0 there.0,
-  pending_all old_plant plant outcome ts us fs ps (omega (arith, e)) asked.1 each.1 there.1,
-)
 
 -- sums over those that are there, and over the others
 gone_ones : List ServedConnection → List ServedConnection
@@ -213,7 +198,7 @@ grows_all : (outcome : Outcomes) (g : ServedConnection → ℕ) (p q : ℕ) (ks 
 grows_all outcome g p q ks grows e =
     let before = sum_present g ks in
     let after = sum_present g (map (after_given outcome) ks) in
-    let here = ap (sum_by g) (present-given outcome ks) in
+    let here = ap (sum_by g) (present-map (after_given outcome) (λ k. (given_keeps outcome k).gone) ks) in
     let gone = ap (sum_by g) (gone-given outcome ks) in
     grows (sum_by g (gone_ones ks)) (e ∙ ap count_of (omega (arith, before))) ∙ ap count_of (omega (arith, after, here, gone))
 
@@ -241,44 +226,43 @@ counted_all outcome s t z y connections accepted refused c e =
     (c.refused ∙ ap (λ (q : CountsOfState). q.refused) e ∙ ap count_of (sym refused))
 
 -- what is kept after all were asked, and all frames produced
-pub record AllFollow (v w : ServerView) (s : Summary) (ws : List Wave) (x : CoreState) (outcome : Outcomes) (y : ServedState) : Type 0 where
+pub record AllFollow (w : ServerView) (s : Summary) (ws : List Wave) (x : CoreState) (outcome : Outcomes) (y : ServedState) : Type 0 where
   pub serves : ServesEach w ws (record { state = y; blocked = x.blocked })
   pub counted : CountsAll s w.summary (present x.state.connections) (map (after_given outcome) (present x.state.connections))
 
-pub all_follow : (v w : ServerView) (s : Summary) (waves ws : List Wave) (x : CoreState) (outcome : Outcomes) (y : ServedState) (mid new : Clients)
-    → ServesEach v waves x
-    → EachAsked x.state.world.plant y.world.plant outcome v.sessions mid.sessions.items → mid.waiting.entries ≡ v.entries → DeliversAll mid new s w.summary
-    → w.sessions ≡ new.sessions.items → w.entries ≡ new.waiting.entries
+-- from the sessions ts, of which those are left out whose connection is closing, to us, which gave their frames, and to zs
+pub all_follow : (v w : ServerView) (s : Summary) (waves ws : List Wave) (x : CoreState) (outcome : Outcomes) (y : ServedState) (ts us zs : List Turned)
+    → ServesEach v waves x → v.sessions ≡ sessions_of ts
+    → EachAsked x.state.world.plant y.world.plant outcome (skipped v.outlets ts) us
+    → DeliversAll us zs v.outlets w.outlets s w.summary → w.streams ≡ v.streams → w.sessions ≡ sessions_of zs
     → HoldsState w.device ws y → y.connections ≡ map (after_given outcome) x.state.connections
-    → AllFollow v w s ws x outcome y
-all_follow v w s waves ws x outcome y mid new serves asked entries delivers new_sessions new_entries device connections =
+    → AllFollow w s ws x outcome y
+all_follow v w s waves ws x outcome y ts us zs serves sessions asked delivers streams new_sessions device connections =
     let ks = x.state.connections in
     let ps = present ks in
     let f : ServedConnection → ServedConnection = after_given outcome in
+    let old_plant = x.state.world.plant in
     let plant = y.world.plant in
-    let pending : EachUpTo plant outcome zero mid.sessions.items mid.waiting.entries ps =
-    subst (λ (es : List (ℕ × Waiting)). EachUpTo plant outcome zero mid.sessions.items es ps) (sym entries)
-    (pending_all x.state.world.plant plant outcome v.sessions mid.sessions.items v.entries ps serves.aligned asked serves.connections.each (all_there ks)) in
-    let done = all_done plant outcome new.sessions.items new.waiting.entries ps (delivers.each plant outcome ps pending) in
-    let here : map f ps ≡ present y.connections = sym (present-given outcome ks) ∙ ap present (sym connections) in
-    let conns : conns_of new.sessions.items new.waiting.entries ≡ conns_in w =
-    ap (λ ts. conns_of ts new.waiting.entries) (sym new_sessions) ∙ ap (λ es. conns_of w.sessions es) (sym new_entries) in
+    let clients : EachClient old_plant (sessions_of ts) ps = subst (λ ss. EachClient old_plant ss ps) sessions serves.clients in
+    let marks = marked_skipped old_plant v.outlets ts ps serves.outlets.each clients in
+    let given = given_all old_plant plant outcome (skipped v.outlets ts) us ps asked marks
+    (subst (λ ss. EachClient old_plant ss ps) (sym (sessions_skipped v.outlets ts)) clients) in
+    let there = all_there ks in
+    let done = all_done plant x.blocked outcome us v.outlets s ps given serves.outlets.each there serves.outlets.marked in
+    let here : map f ps ≡ present y.connections = sym (present-map f (λ k. (given_keeps outcome k).gone) ks) ∙ ap present (sym connections) in
     record {
       serves = record {
         device = device;
-        aligned = ap (λ (ts : List Turned). length ts) new_sessions ∙ delivers.aligned ∙ sym (ap (λ (es : List (ℕ × Waiting)). length es) new_entries);
-        connections = record {
-          each = subst (λ cs. EachStands plant cs (present y.connections)) conns
-              (subst (λ qs. EachStands plant (conns_of new.sessions.items new.waiting.entries) qs) here done);
-          apart = subst AreApart (sym connections) (apart-given outcome ks serves.connections.apart);
-          marked = subst (λ cs. EachMarked x.blocked cs) conns
-              (marked_same x.blocked v.sessions new.sessions.items v.entries new.waiting.entries serves.aligned delivers.aligned
-              (delivers.marks ∙ ap (map mark_of) entries) serves.connections.marked);
-          known = λ n none. serves.connections.known n
-              (none-given outcome n ks (ap (λ (js : List ServedConnection). connection_of n js) (sym connections) ∙ none));
-        };
+        outlets = subst (λ es. Carries es x.blocked y.connections) (sym delivers.outlets)
+            (subst (λ js. Carries (delivered_each (frames_given us) v.outlets s).0 x.blocked js) (sym connections)
+            (mapped f (λ k. (given_keeps outcome k).number) (λ k. (given_keeps outcome k).gone) v.outlets (delivered_each (frames_given us) v.outlets s).0
+            x.blocked ks serves.outlets done.each done.marked));
+        streams = subst (λ hs. EachStream hs (present y.connections)) (sym streams)
+            (subst (λ qs. EachStream v.streams qs) here (streams_given outcome v.streams ps there serves.streams));
+        clients = subst (λ ss. EachClient plant ss (present y.connections)) (sym (new_sessions ∙ delivers.sessions))
+            (subst (λ qs. EachClient plant (sessions_of us) qs) here (clients_given plant outcome us ps there given));
       };
-      counted = delivers.counted plant outcome ps pending;
+      counted = subst (λ (t : Summary). CountsAll s t ps (map f ps)) (sym delivers.counted) done.counted;
     }
 
 -- each was asked, place by place

@@ -1,5 +1,5 @@
 -- A core, by what all that it keeps stands for.
-use Rattle.std.proofs.Common.{◌≡◌, ℕ, ◌≤◌, List, [], length, take, refl, sym, ap, ◌∙◌, subst}
+use Rattle.std.proofs.Common.{◌≡◌, ℕ, ◌≤◌, List, [], length, take, refl, sym, ◌∙◌, subst}
 use Rattle.std.specs.Prelude.{Option, Some, None, IsSomeAnd}
 use Rattle.std.proofs.lemmas.List.{length-take-le}
 use Rattle.signals.specs.Wave.{Wave}
@@ -9,14 +9,15 @@ use Rattle.spec_plant.specs.Description.{Description}
 use Rattle.spec_machine.specs.Profile.{Profile}
 use Rattle.spec_machine.specs.Connection.{connection_of}
 use Rattle.spec_server.specs.Server.{start_in}
-use Rattle.server_core.specs.declared.turned.Turned.{Turned}
-use Rattle.server_core.specs.declared.waiting.Waiting.{Waiting}
-use Rattle.server_core.specs.Conns.{Conn, conns_of}
+use Rattle.ams_tcp.specs.Held.{Held}
+use Rattle.connections.specs.Carries.{Carries, EachStream}
+use Rattle.connections.specs.Outlets.{Outlets, offer_among}
+use Rattle.session.specs.SessionState.{SessionState}
 use Rattle.server_core.specs.CoreState.{CoreState, started_in, after_event, after_move}
 use Rattle.server_core.specs.HoldsWorld.{HoldsState}
-use Rattle.server_core.specs.Places.{offer_among}
+use Rattle.server_core.specs.Served.{Client}
 use Rattle.server_core.specs.ServerView.{ServerView}
-use Rattle.server_core.specs.Serves.{CoreView, StandsEach, ServesEach, ServesSome, Serves, FollowsEach, Follows}
+use Rattle.server_core.specs.Serves.{CoreView, EachClient, ServesEach, ServesSome, Serves, FollowsEach, Follows}
 
 -- what is kept follows, and so does the core
 pub follows_core : (v w : CoreView) (x y : CoreState) → Serves v x → w.failed ≡ v.failed
@@ -27,12 +28,12 @@ follows_core v w x y s failed waves follows = record {
 }
 
 -- there is a state after bytes were taken
-pub took_some : (v w : ServerView) (waves : List Wave) (n m : ℕ) → ServesSome v waves → IsSomeAnd (offer_among v.entries n) (λ left. m ≤ length left)
-    → ((ws : List Wave) (x : CoreState) (left bytes : List ℕ) → ServesEach v ws x → offer_among v.entries n ≡ Some left → length bytes ≡ m
+pub took_some : (v w : ServerView) (waves : List Wave) (n m : ℕ) → ServesSome v waves → IsSomeAnd (offer_among v.outlets n) (λ left. m ≤ length left)
+    → ((ws : List Wave) (x : CoreState) (left bytes : List ℕ) → ServesEach v ws x → offer_among v.outlets n ≡ Some left → length bytes ≡ m
     → FollowsEach v w ws x (after_move x (move.Took n (length left) bytes))) → ServesSome w waves
-took_some v w waves n m s fits follows = by (offer_among v.entries n) refl fits
+took_some v w waves n m s fits follows = by (offer_among v.outlets n) refl fits
   where
-    by : (o : Option (List ℕ)) → offer_among v.entries n ≡ o → IsSomeAnd o (λ left. m ≤ length left) → ServesSome w waves
+    by : (o : Option (List ℕ)) → offer_among v.outlets n ≡ o → IsSomeAnd o (λ left. m ≤ length left) → ServesSome w waves
     by None e h = absurd h
     by (Some left) e h = record {
       state = after_move s.state (move.Took n (length left) (take m left));
@@ -45,14 +46,14 @@ ended_some v w waves n s follows = record { state = after_event s.state (event.C
 
 -- nothing was opened
 pub started_serves : (profile : Profile) (v : ServerView) (waves : List Wave) (d : Description) → HoldsState v.device waves (start_in profile d waves)
-    → v.sessions ≡ [] → v.entries ≡ [] → ServesEach v waves (started_in profile d waves)
+    → v.outlets ≡ [] → v.streams ≡ [] → v.sessions ≡ [] → ServesEach v waves (started_in profile d waves)
 unfolding connection_of
-started_serves profile v waves d device sessions entries =
-    let none : conns_of v.sessions v.entries ≡ [] = ap (λ ts. conns_of ts v.entries) sessions in
+started_serves profile v waves d device outlets streams sessions =
     let x = started_in profile d waves in
     record {
       device = device;
-      aligned = ap (λ (ts : List Turned). length ts) sessions ∙ sym (ap (λ (es : List (ℕ × Waiting)). length es) entries);
-      connections = subst (λ (cs : List Conn). StandsEach x.state.world.plant cs x)
-          (sym none) (record { each = tt; apart = tt; marked = tt; known = λ n e. refl });
+      outlets = subst (λ (es : Outlets). Carries es x.blocked x.state.connections) (sym outlets)
+          (record { each = tt; apart = tt; marked = tt; known = λ n e. refl });
+      streams = subst (λ (hs : List Held). EachStream {C = Client} hs []) (sym streams) tt;
+      clients = subst (λ (ss : List SessionState). EachClient x.state.world.plant ss []) (sym sessions) tt;
     }

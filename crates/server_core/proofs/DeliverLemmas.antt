@@ -1,69 +1,201 @@
 -- Frames of samples that connections give, produced connection after connection.
-use Rattle.std.proofs.Common.{◌≡◌, ℕ, zero, suc, ◌+◌, ◌<◌, List, [], ◌∷◌, ◌++◌, length, take, map, set, get_or}
-use Rattle.std.proofs.Common.{Bool, true, false, refl, sym, ap, ◌∙◌, subst, inl, inr, arith}
-use Rattle.std.specs.Prelude.{◌↔◌, sum_by, reverse, All, slice_get, Some, None, IsSome, Result, OnOk}
-use Rattle.ads_base.specs.declared.no_memory.NoMemory.{NoMemory}
-use Rattle.std.specs.Map.{values_of}
-use Rattle.std.proofs.lemmas.Bool.{true≢false, cases_Bool, cond-true, cond-false, or_left, or_from}
-use Rattle.std.proofs.lemmas.List.{reverse-append, map-append, take_more, get_or_default}
-use Rattle.std.proofs.lemmas.Option.{slice_get_within, get_or_from_slice_get}
-use Rattle.std.proofs.lemmas.List.Sums.{sum_by-append, sum_by-cons}
-use Rattle.indexmap.specs.IndexMap.{set_value_at}
+use Rattle.std.proofs.Common.{◌≡◌, ℕ, zero, suc, ◌+◌, ◌<◌, List, [], ◌∷◌, ◌++◌, length, take, drop, map, set, get_or}
+use Rattle.std.proofs.Common.{Bool, true, false, not, cond, refl, sym, ap, ◌∙◌, subst, inl, inr, arith}
+use Rattle.std.specs.Prelude.{◌&&◌, sum_by, All, slice_get, option_map, Some}
+use Rattle.std.proofs.lemmas.Bool.{cases_Bool, cond-true, cond-false, or_left, or_right, or_from}
+use Rattle.std.proofs.lemmas.Grind.{drop_more_same}
+use Rattle.std.proofs.lemmas.List.{drop-set-lt, map-set}
+use Rattle.std.proofs.lemmas.List.Elements.{All-head, All-tail}
+use Rattle.std.proofs.lemmas.Option.{slice_get-get_or, slice_get-map}
+use Rattle.std.proofs.Math.Seq.{map-set_same}
+use Rattle.std.proofs.lemmas.List.Sums.{sum_by-cons}
 use Rattle.spec_plant.specs.World.{Plant}
 use Rattle.spec_machine.specs.Device.{Produced}
 use Rattle.spec_machine.specs.Connection.{is_deaf, produce, produce_all}
 use Rattle.spec_machine.specs.Piece.{with_client}
+use Rattle.spec_machine.specs.Summary.{count_of}
+use Rattle.connections.specs.Carries.{EachBeside, EachMarked, EachOutlet, IsOutlet}
+use Rattle.connections.specs.Outlets.{Outlets, change_at, given, has_room, is_fitting, outlet_at, test_in}
+use Rattle.connections.specs.declared.outlet.Outlet.{Outlet}
+use Rattle.connections.proofs.GivenLemmas.{given_closing as given_closing_outlet}
+use Rattle.connections.proofs.OutletLemmas.{change_same, change_twice, outlet_changed}
+use Rattle.connections.proofs.OutputLemmas.{given_mark}
 use Rattle.session.specs.NoteFrames.{produced_of, IsNoteFrame}
+use Rattle.session.specs.SessionState.{SessionState}
 use Rattle.session.specs.declared.notes.NoteFrame.{NoteFrame}
 use Rattle.server_core.specs.declared.summary.Summary.{Summary}
 use Rattle.server_core.specs.declared.turned.Turned.{Turned}
-use Rattle.server_core.specs.declared.waiting.Waiting.{Waiting}
-use Rattle.server_core.specs.declared.clients.Clients.{Clients}
 use Rattle.server_core.specs.Served.{ServedConnection}
-use Rattle.server_core.specs.Conns.{Conn, conn_of, conns_of}
+use Rattle.server_core.specs.ServerView.{sessions_of}
 use Rattle.server_core.specs.Counts.{Counts, Grows, replies_of, samples_of}
-use Rattle.server_core.specs.ConnStands.{Stands}
-use Rattle.server_core.specs.Delivering.{Delivers, Outcomes, after_given, mark_of, IsPending, EachUpTo, CountsAll, DeliversAt}
-use Rattle.server_core.specs.Taking.{Produces}
-use Rattle.spec_machine.specs.Summary.{count_of}
-use Rattle.server_core.specs.Serves.{EachStands}
+use Rattle.server_core.specs.Delivering.{Delivery, Gives, Outcomes, after_given, delivered}
+use Rattle.server_core.specs.Delivering.{delivered_all, delivered_each, more_samples, frames_given, DeliversAt}
 use Rattle.server_core.proofs.CountLemmas.{same_count, same_counts, then_counts}
-use Rattle.server_core.proofs.ProduceLemmas.{produce-closing}
-use Rattle.server_core.proofs.TakingLemmas.{counts_client, on_ok}
+use Rattle.server_core.proofs.ProduceLemmas.{produces, produce-stream}
+use Rattle.server_core.proofs.TakingLemmas.{counts_client}
 
--- no frame
-pub delivers_none : (plant : Plant) (conn : Conn) (s : Summary) (k : ServedConnection) → Stands plant conn k → Delivers plant conn s s [] k
+-- The code: one frame more, and one session more.
+
+-- what stands at a place takes its own
+put_itself : (es : Outlets) (i : ℕ) (o : Outlet) → outlet_at es i ≡ Some o → es ≡ change_at (λ _. o) i es
+put_itself [] i o there = refl
+put_itself (e ∷ es) zero o there = (let same : e.1 ≡ o = cc in ap (λ (p : Outlet). (e.0, p) ∷ es) same)
+put_itself (e ∷ es) (suc i) o there = ap (λ fs. e ∷ fs) (put_itself es i o there)
+
+-- a frame was given
+pub delivers_one : (es fs : Outlets) (i : ℕ) (o : Outlet) (note : NoteFrame) (frame : List ℕ) (s t : Summary) (waits : Bool) → frame ≡ note.frame
+    → fs ≡ change_at (given frame) i es → waits ≡ test_in (is_fitting frame) (outlet_at es i)
+    → t ≡ cond waits (more_samples note.samples s) s → outlet_at es i ≡ Some o → DeliversAt i (delivered note (o, s)) es fs t
+delivers_one es fs i o note frame s t waits own put fitted counts there =
+    let fits : waits ≡ is_fitting note.frame o =
+    fitted ∙ ap (λ bs. test_in (is_fitting bs) (outlet_at es i)) own ∙ ap (test_in (is_fitting note.frame)) there in
+    record {
+      outlets = put ∙ ap (λ bs. change_at (given bs) i es) own ∙ change_same (given note.frame) (λ _. given note.frame o) es i o there refl;
+      counted = counts ∙ ap (λ b. cond b (more_samples note.samples s) s) fits;
+    }
+
+pub delivers_none : (es : Outlets) (i : ℕ) (o : Outlet) (s : Summary) → outlet_at es i ≡ Some o → DeliversAt i (o, s) es es s
+delivers_none es i o s there = record { outlets = put_itself es i o there; counted = refl }
+
+-- one more of them
+pub delivered_all-more : (fs : List NoteFrame) (f : NoteFrame) (d : Delivery) → delivered_all (fs ++ f ∷ []) d ≡ delivered f (delivered_all fs d)
+delivered_all-more [] f d = refl
+delivered_all-more (g ∷ gs) f d = delivered_all-more gs f (delivered g d)
+
+-- one frame more is given behind others
+pub delivers_more : (es fs gs : Outlets) (i : ℕ) (o : Outlet) (d : Delivery) (note : NoteFrame) (t u : Summary) → outlet_at es i ≡ Some o
+    → DeliversAt i d es fs t → ((p : Outlet) → outlet_at fs i ≡ Some p → DeliversAt i (delivered note (p, t)) fs gs u)
+    → DeliversAt i (delivered note d) es gs u
+delivers_more es fs gs i o d note t u there first second =
+    let here : outlet_at fs i ≡ Some d.0 = ap (λ xs. outlet_at xs i) first.outlets ∙ outlet_changed (λ _. d.0) es i o there in
+    let one = second d.0 here in
+    let same : delivered note (d.0, t) ≡ delivered note d = ap (λ (s : Summary). delivered note (d.0, s)) first.counted in
+    record {
+      outlets = one.outlets ∙ ap (λ (e : Delivery). change_at (λ _. e.0) i fs) same
+          ∙ ap (λ xs. change_at (λ _. (delivered note d).0) i xs) first.outlets ∙ change_twice (λ _. d.0) (λ _. (delivered note d).0) es i;
+      counted = one.counted ∙ ap (λ (e : Delivery). e.1) same;
+    }
+
+-- the frames of one session more
+pub record EachMore (fss : List (List NoteFrame)) (es : Outlets) (s : Summary) (i : ℕ) (fs : List NoteFrame) (o : Outlet) : Type 0 where
+  pub there : outlet_at (delivered_each (take i fss) es s).0 i ≡ Some o
+  pub outlets : (delivered_each (take (suc i) fss) es s).0
+      ≡ change_at (λ _. (delivered_all fs (o, (delivered_each (take i fss) es s).1)).0) i (delivered_each (take i fss) es s).0
+  pub counted : (delivered_each (take (suc i) fss) es s).1 ≡ (delivered_all fs (o, (delivered_each (take i fss) es s).1)).1
+
+pub each_more : (fss : List (List NoteFrame)) (es : Outlets) (s : Summary) (i : ℕ) (fs : List NoteFrame) (o : Outlet)
+    → slice_get fss i ≡ Some fs → outlet_at es i ≡ Some o → EachMore fss es s i fs o
+each_more [] es s i fs o frames there = absurd (cc)
+each_more (gs ∷ fss) [] s i fs o frames there = absurd (cc)
+each_more (gs ∷ fss) (e ∷ es) s zero fs o frames there =
+    let same : gs ≡ fs = cc in
+    let here : e.1 ≡ o = cc in
+    let d : delivered_all gs (e.1, s) ≡ delivered_all fs (o, s) =
+    ap (λ (hs : List NoteFrame). delivered_all hs (e.1, s)) same ∙ ap (λ (p : Outlet). delivered_all fs (p, s)) here in
+    record {
+      there = there;
+      outlets = ap (λ (x : Delivery). (e.0, x.0) ∷ es) d;
+      counted = ap (λ (x : Delivery). x.1) d;
+    }
+each_more (gs ∷ fss) (e ∷ es) s (suc i) fs o frames there =
+    let d = delivered_all gs (e.1, s) in
+    let rest = each_more fss es d.1 i fs o frames there in
+    record {
+      there = rest.there;
+      outlets = ap (λ xs. (e.0, d.0) ∷ xs) rest.outlets;
+      counted = rest.counted;
+    }
+
+-- as far as this, and one session more
+pub delivers_each : (fss : List (List NoteFrame)) (es fs gs : Outlets) (s t u : Summary) (i : ℕ) (f : List NoteFrame) (o : Outlet)
+    → slice_get fss i ≡ Some f → outlet_at es i ≡ Some o
+    → fs ≡ (delivered_each (take i fss) es s).0 → t ≡ (delivered_each (take i fss) es s).1
+    → ((p : Outlet) → outlet_at fs i ≡ Some p → DeliversAt i (delivered_all f (p, t)) fs gs u)
+    → (gs ≡ (delivered_each (take (suc i) fss) es s).0) × (u ≡ (delivered_each (take (suc i) fss) es s).1)
+delivers_each fss es fs gs s t u i f o frames there so_far counts delivers =
+    let more = each_more fss es s i f o frames there in
+    let before = delivered_each (take i fss) es s in
+    let one = delivers o (ap (λ xs. outlet_at xs i) so_far ∙ more.there) in
+    let d : delivered_all f (o, t) ≡ delivered_all f (o, before.1) = ap (λ (c : Summary). delivered_all f (o, c)) counts in (
+      one.outlets ∙ ap (λ (x : Delivery). change_at (λ _. x.0) i fs) d
+          ∙ ap (λ xs. change_at (λ _. (delivered_all f (o, before.1)).0) i xs) so_far ∙ sym more.outlets,
+      one.counted ∙ ap (λ (x : Delivery). x.1) d ∙ sym more.counted,
+    )
+
+-- the step of the loop over all sessions
+get_dropped : {X : Type 0} (xs : List X) (i : ℕ) → slice_get xs i ≡ slice_get (drop i xs) 0
+get_dropped [] zero = refl
+get_dropped [] (suc i) = refl
+get_dropped (x ∷ xs) zero = refl
+get_dropped (x ∷ xs) (suc i) = get_dropped xs i
+
+outlet_there : (es : Outlets) (i : ℕ) → i < length es → (o : Outlet) × (outlet_at es i ≡ Some o)
+outlet_there [] i below = absurd (omega (arith, below))
+outlet_there (e ∷ es) zero below = (e.1, refl)
+outlet_there (e ∷ es) (suc i) below = outlet_there es i (omega (arith, below))
+
+pub record DeliverStep (ts vs : List Turned) (es gs : Outlets) (s u : Summary) (i : ℕ) : Type 0 where
+  pub left : drop (i + 1) (frames_given vs) ≡ drop (i + 1) (frames_given ts)
+  pub sessions : sessions_of vs ≡ sessions_of ts
+  pub outlets : gs ≡ (delivered_each (take (i + 1) (frames_given ts)) es s).0
+  pub counted : u ≡ (delivered_each (take (i + 1) (frames_given ts)) es s).1
+
+pub deliver_step : (ts us : List Turned) (es fs gs : Outlets) (s t u : Summary) (i : ℕ) (a b : Turned) (frames : List NoteFrame)
+    → i < length us → length us ≡ length ts → length ts ≡ length es
+    → a ≡ get_or us i a → b.session ≡ a.session → frames ≡ a.out
+    → drop i (frames_given us) ≡ drop i (frames_given ts) → sessions_of us ≡ sessions_of ts
+    → fs ≡ (delivered_each (take i (frames_given ts)) es s).0 → t ≡ (delivered_each (take i (frames_given ts)) es s).1
+    → ((p : Outlet) → outlet_at fs i ≡ Some p → DeliversAt i (delivered_all frames (p, t)) fs gs u)
+    → DeliverStep ts (set us i b) es gs s u i
+deliver_step ts us es fs gs s t u i a b frames below many aligned read same own left sessions so_far counts delivers =
+    let out : Turned → List NoteFrame = λ x. x.out in
+    let session : Turned → SessionState = λ x. x.session in
+    let o = outlet_there es i (omega (arith, below, many, aligned)) in
+    let mine : slice_get (frames_given us) i ≡ Some frames =
+    slice_get-map out us i ∙ ap (option_map out) (slice_get-get_or us i a below) ∙ ap (λ (x : Turned). Some x.out) (sym read)
+    ∙ ap (λ (xs : List NoteFrame). Some xs) (sym own) in
+    let here : slice_get (frames_given ts) i ≡ Some frames =
+    get_dropped (frames_given ts) i ∙ sym (ap (λ (xs : List (List NoteFrame)). slice_get xs 0) left) ∙ sym (get_dropped (frames_given us) i) ∙ mine in
+    let each = delivers_each (frames_given ts) es fs gs s t u i frames o.0 here o.1 so_far counts delivers in
+    let next : suc i ≡ i + 1 = omega arith in
+    record {
+      left = ap (λ (xs : List (List NoteFrame)). drop (i + 1) xs) (map-set out us i b) ∙ drop-set-lt (i + 1) (frames_given us) i b.out (omega arith)
+          ∙ drop_more_same (frames_given us) (frames_given ts) i left;
+      sessions = map-set_same session us i b a (same ∙ ap session read) ∙ sessions;
+      outlets = subst (λ (n : ℕ). gs ≡ (delivered_each (take n (frames_given ts)) es s).0) next each.0;
+      counted = subst (λ (n : ℕ). u ≡ (delivered_each (take n (frames_given ts)) es s).1) next each.1;
+    }
+
+-- The machine: what the frames leave of one connection, and of all.
+
+-- frames that are produced one after another
+pub record Delivers (d : Delivery) (s : Summary) (frames : List Produced) (k : ServedConnection) : Type 0 where
+  pub stands : IsOutlet d.0 (produce_all frames k)
+  pub counted : Counts s d.1 k (produce_all frames k)
+
+pub delivered_stands : (fs : List NoteFrame) → All IsNoteFrame fs → (o : Outlet) (s : Summary) (k : ServedConnection) → IsOutlet o k
+    → Delivers (delivered_all fs (o, s)) s (map produced_of fs) k
 unfolding produce_all
-delivers_none plant conn s k st = record { stands = st; counted = same_counts s k }
+delivered_stands [] fit o s k st = record { stands = st; counted = same_counts s k }
+delivered_stands (f ∷ fs) fit o s k st =
+    let one = produces o s k (produced_of f) st (All-head IsNoteFrame f fs fit).some in
+    let d = delivered f (o, s) in
+    let rest = delivered_stands fs (All-tail IsNoteFrame f fs fit) d.0 d.1 (produce (produced_of f) k) one.stands in
+    record {
+      stands = rest.stands;
+      counted = then_counts s d.1 (delivered_all fs d).1 k (produce (produced_of f) k) (produce_all (map produced_of fs) (produce (produced_of f) k))
+          one.counted rest.counted;
+    }
 
--- some frames of which this many are produced, and what is left leads to the same end
-pub record DeliversSome (plant : Plant) (new : Conn) (s t : Summary) (all rest : List Produced) (k : ServedConnection) : Type 0 where
-  pub next : ServedConnection
-  pub stands : Stands plant new next
-  pub counted : Counts s t k next
-  pub same_end : produce_all rest next ≡ produce_all all k
-
-pub delivers_first : (plant : Plant) (conn : Conn) (s : Summary) (all : List Produced) (k : ServedConnection)
-    → Stands plant conn k → DeliversSome plant conn s s all all k
-delivers_first plant conn s all k st = record { next = k; stands = st; counted = same_counts s k; same_end = refl }
-
-pub delivers_next : (plant : Plant) (mid new : Conn) (s t u : Summary) (all rest : List Produced) (frame : Produced) (k : ServedConnection)
-    → (some : DeliversSome plant mid s t all (frame ∷ rest) k) → Produces plant new t u frame some.next → DeliversSome plant new s u all rest k
-unfolding produce_all
-delivers_next plant mid new s t u all rest frame k some produces = record {
-  next = produce frame some.next;
-  stands = produces.stands;
-  counted = then_counts s t u k some.next (produce frame some.next) some.counted produces.counted;
-  same_end = some.same_end;
-}
-
-pub delivers_all : (plant : Plant) (new : Conn) (s t : Summary) (all : List Produced) (k : ServedConnection)
-    → DeliversSome plant new s t all [] k → Delivers plant new s t all k
-unfolding produce_all
-delivers_all plant new s t all k some = record {
-  stands = subst (λ l. Stands plant new l) some.same_end some.stands;
-  counted = subst (λ l. Counts s t k l) some.same_end some.counted;
-}
+-- nothing waits of what is given to one that is closing
+pub delivered-closing : (fs : List NoteFrame) (o : Outlet) (s : Summary) → o.closing ≡ true → delivered_all fs (o, s) ≡ (o, s)
+delivered-closing [] o s closing = refl
+delivered-closing (f ∷ fs) o s closing =
+    let none : is_fitting f.frame o ≡ false = ap (λ b. not b && has_room f.frame o) closing in
+    let same : delivered f (o, s) ≡ (o, s) =
+    ap (λ (p : Outlet). (p, cond (is_fitting f.frame o) (more_samples f.samples s) s)) (sym (given_closing_outlet f.frame o closing))
+    ∙ ap (λ b. (o, cond b (more_samples f.samples s) s)) none in
+    ap (λ d. delivered_all fs d) same ∙ delivered-closing fs o s closing
 
 -- one connection after it is asked and its frames are produced
 pub given_closing : (outcome : Outcomes) (k : ServedConnection) → k.closing ≡ true → after_given outcome k ≡ k
@@ -73,139 +205,87 @@ pub given_open : (outcome : Outcomes) (k : ServedConnection) → k.closing ≡ f
     → after_given outcome k ≡ produce_all (outcome k.client).frames (with_client (outcome k.client).client k)
 given_open outcome k is_open there = cond-false (is_deaf k) k _ (or_from k.closing k.gone is_open there)
 
-pub produce_all-closing : (frames : List Produced) (k : ServedConnection) → k.closing ≡ true → produce_all frames k ≡ k
+-- what frames of samples leave of a connection
+pub record KeepsPlace (k l : ServedConnection) : Type 0 where
+  pub number : l.number ≡ k.number
+  pub gone : l.gone ≡ k.gone
+
+produced_keeps : (frames : List Produced) (k : ServedConnection) → KeepsPlace k (produce_all frames k)
 unfolding produce_all
-produce_all-closing [] k closing = refl
-produce_all-closing (f ∷ fs) k closing = ap (λ l. produce_all fs l) (produce-closing f k closing) ∙ produce_all-closing fs k closing
+produced_keeps [] k = record { number = refl; gone = refl }
+produced_keeps (f ∷ fs) k =
+    let one = produce-stream f k in
+    let rest = produced_keeps fs (produce f k) in
+    record { number = rest.number ∙ one.number; gone = rest.gone ∙ one.gone }
 
--- nothing is produced for one that is closing
-pub delivers_closing : (plant : Plant) (conn : Conn) (s : Summary) (frames : List Produced) (k : ServedConnection)
-    → Stands plant conn k → k.closing ≡ true → Delivers plant conn s s frames k
-delivers_closing plant conn s frames k st closing =
-    let same = sym (produce_all-closing frames k closing) in
-    record { stands = subst (λ l. Stands plant conn l) same st; counted = subst (λ l. Counts s s k l) same (same_counts s k) }
+pub given_keeps : (outcome : Outcomes) (k : ServedConnection) → KeepsPlace k (after_given outcome k)
+given_keeps outcome k = elim (cases_Bool (is_deaf k)) [
+  | inl deaf ↦
+      let same = cond-true (is_deaf k) k (produce_all (outcome k.client).frames (with_client (outcome k.client).client k)) deaf in
+      subst (λ l. KeepsPlace k l) (sym same) (record { number = refl; gone = refl })
+  | inr hears ↦
+      let same = cond-false (is_deaf k) k (produce_all (outcome k.client).frames (with_client (outcome k.client).client k)) hears in
+      let keeps = produced_keeps (outcome k.client).frames (with_client (outcome k.client).client k) in
+      subst (λ l. KeepsPlace k l) (sym same) (record { number = keeps.number; gone = keeps.gone })
+]
 
--- a connection whose frames were pending
-pub record IsDone (plant : Plant) (outcome : Outcomes) (new : Conn) (s u : Summary) (k : ServedConnection) : Type 0 where
-  pub stands : Stands plant new (after_given outcome k)
-  pub counted : Counts s u k (after_given outcome k)
+pub given_gone : (outcome : Outcomes) (k : ServedConnection) → k.gone ≡ true → after_given outcome k ≡ k
+given_gone outcome k gone = cond-true (is_deaf k) k _ (or_right k.closing k.gone gone)
 
-pub is_done : (plant : Plant) (outcome : Outcomes) (t : Turned) (e : ℕ × Waiting) (new : Conn) (s u : Summary) (k : ServedConnection)
-    → IsPending plant outcome t e k
-    → ((l : ServedConnection) → Stands plant (conn_of t e) l → (l.closing ≡ false → All IsNoteFrame t.out) → Delivers plant new s u (map produced_of t.out) l)
-    → IsDone plant outcome new s u k
-is_done plant outcome t e new s u k pending goes = elim (cases_Bool k.closing) [
+-- what the session of a connection gave is what the client gives
+abbrev pub IsGivenBy : Plant → Outcomes → Turned → ServedConnection → Type 0
+IsGivenBy plant outcome t k = k.closing ≡ false → Gives plant (outcome k.client) t
+
+pub record IsDone (outcome : Outcomes) (d : Delivery) (s : Summary) (k : ServedConnection) : Type 0 where
+  pub stands : IsOutlet d.0 (after_given outcome k)
+  pub counted : Counts s d.1 k (after_given outcome k)
+
+pub is_done : (plant : Plant) (outcome : Outcomes) (t : Turned) (o : Outlet) (s : Summary) (k : ServedConnection)
+    → IsGivenBy plant outcome t k → IsOutlet o k → k.gone ≡ false → IsDone outcome (delivered_all t.out (o, s)) s k
+is_done plant outcome t o s k given st there = elim (cases_Bool k.closing) [
   | inl closing ↦
-      let all = map produced_of t.out in
-      let d = goes k (pending.closed closing) (λ is_open. absurd (true≢false (sym closing ∙ is_open))) in
-      let same : produce_all all k ≡ after_given outcome k = produce_all-closing all k closing ∙ sym (given_closing outcome k closing) in
-      record { stands = subst (λ l. Stands plant new l) same d.stands; counted = subst (λ l. Counts s u k l) same d.counted }
+      let same = sym (given_closing outcome k closing) in
+      subst (λ (d : Delivery). IsDone outcome d s k) (sym (delivered-closing t.out o s (st.closing ∙ closing))) (record {
+        stands = subst (λ l. IsOutlet o l) same st;
+        counted = subst (λ l. Counts s s k l) same (same_counts s k);
+      })
   | inr is_open ↦
-      let o = outcome k.client in
-      let gives = pending.gives is_open in
-      let d = goes (with_client o.client k) (pending.asked is_open) (λ open_. gives.fit) in
-      let same : produce_all (map produced_of t.out) (with_client o.client k) ≡ after_given outcome k =
-      ap (λ fs. produce_all fs (with_client o.client k)) gives.frames ∙ sym (given_open outcome k is_open pending.there) in
+      let gives = given is_open in
+      let c = (outcome k.client).client in
+      let all = delivered_stands t.out gives.fit o s (with_client c k)
+      (record { waiting = st.waiting; bytes_taken = st.bytes_taken; closing = st.closing }) in
+      let same : produce_all (map produced_of t.out) (with_client c k) ≡ after_given outcome k =
+      ap (λ fs. produce_all fs (with_client c k)) gives.frames ∙ sym (given_open outcome k is_open there) in
       record {
-        stands = subst (λ l. Stands plant new l) same d.stands;
-        counted = subst (λ l. Counts s u k l) same (counts_client s u k (produce_all (map produced_of t.out) (with_client o.client k)) o.client d.counted);
+        stands = subst (λ l. IsOutlet (delivered_all t.out (o, s)).0 l) same all.stands;
+        counted = subst (λ l. Counts s (delivered_all t.out (o, s)).1 k l) same
+            (counts_client s (delivered_all t.out (o, s)).1 k (produce_all (map produced_of t.out) (with_client c k)) c all.counted);
       }
 ]
 
--- one that is pending in its turn
-pub record AtTurn (plant : Plant) (outcome : Outcomes) (i : ℕ) (ts : List Turned) (es : List (ℕ × Waiting)) (ks : List ServedConnection) : Type 0 where
-  pub t : Turned
-  pub n : ℕ
-  pub a : Waiting
-  pub k : ServedConnection
-  pub turned : (d : Turned) → get_or ts i d ≡ t
-  pub value : slice_get (values_of es) i ≡ Some a
-  pub connection : slice_get ks i ≡ Some k
-  pub pending : IsPending plant outcome t (n, a) k
-  pub next : (u : Turned) (b : Waiting) → Stands plant (conn_of u (n, b)) (after_given outcome k)
-      → EachUpTo plant outcome (suc i) (set ts i u) (set_value_at es i b) ks
+-- all of them are there
+abbrev pub AreThere : List ServedConnection → Type 0
+AreThere [] = Unit {0}
+AreThere (k ∷ ks) = (k.gone ≡ false) × AreThere ks
 
-pub at_turn : (plant : Plant) (outcome : Outcomes) (i : ℕ) (ts : List Turned) (es : List (ℕ × Waiting)) (ks : List ServedConnection)
-    → EachUpTo plant outcome i ts es ks → i < length ts
-    → AtTurn plant outcome i ts es ks
-at_turn plant outcome i [] es ks each below = absurd (omega (arith, below))
-at_turn plant outcome zero (t ∷ ts) [] [] each below = absurd each
-at_turn plant outcome zero (t ∷ ts) [] (k ∷ ks) each below = absurd each
-at_turn plant outcome zero (t ∷ ts) (e ∷ es) [] each below = absurd each
-at_turn plant outcome (suc i) (t ∷ ts) [] [] each below = absurd each
-at_turn plant outcome (suc i) (t ∷ ts) [] (k ∷ ks) each below = absurd each
-at_turn plant outcome (suc i) (t ∷ ts) (e ∷ es) [] each below = absurd each
-at_turn plant outcome zero (t ∷ ts) (e ∷ es) (k ∷ ks) each below = record {
-  t = t;
-  n = e.0;
-  a = e.1;
-  k = k;
-  turned = λ d. refl;
-  value = refl;
-  connection = refl;
-  pending = each.0;
-  next = λ u b st. (st, each.1);
-}
-at_turn plant outcome (suc i) (t ∷ ts) (e ∷ es) (k ∷ ks) each below =
-    let at = at_turn plant outcome i ts es ks each.1 (omega (arith, below)) in
-    record {
-      t = at.t;
-      n = at.n;
-      a = at.a;
-      k = at.k;
-      turned = at.turned;
-      value = at.value;
-      connection = at.connection;
-      pending = at.pending;
-      next = λ u b st. (each.0, at.next u b st);
-    }
+-- the counts follow a change of some connections
+pub record CountsAll (old new : Summary) (before after : List ServedConnection) : Type 0 where
+  pub connections : new.connections ≡ old.connections
+  pub requests : Grows old.requests new.requests (sum_by (λ (k : ServedConnection). k.frames_taken) before)
+      (sum_by (λ (k : ServedConnection). k.frames_taken) after)
+  pub replies : Grows old.replies new.replies (sum_by replies_of before) (sum_by replies_of after)
+  pub samples : Grows old.samples new.samples (sum_by samples_of before) (sum_by samples_of after)
+  pub accepted : new.accepted ≡ old.accepted
+  pub refused : new.refused ≡ old.refused
 
-pub up_to_length : (plant : Plant) (outcome : Outcomes) (i : ℕ) (ts : List Turned) (es : List (ℕ × Waiting)) (ks : List ServedConnection)
-    → EachUpTo plant outcome i ts es ks → length ts ≡ length ks
-up_to_length plant outcome i [] [] [] each = refl
-up_to_length plant outcome zero [] [] (k ∷ ks) each = absurd each
-up_to_length plant outcome zero [] (e ∷ es) [] each = absurd each
-up_to_length plant outcome zero [] (e ∷ es) (k ∷ ks) each = absurd each
-up_to_length plant outcome zero (t ∷ ts) [] [] each = absurd each
-up_to_length plant outcome zero (t ∷ ts) [] (k ∷ ks) each = absurd each
-up_to_length plant outcome zero (t ∷ ts) (e ∷ es) [] each = absurd each
-up_to_length plant outcome zero (t ∷ ts) (e ∷ es) (k ∷ ks) each = ap suc (up_to_length plant outcome zero ts es ks each.1)
-up_to_length plant outcome (suc i) [] [] (k ∷ ks) each = absurd each
-up_to_length plant outcome (suc i) [] (e ∷ es) [] each = absurd each
-up_to_length plant outcome (suc i) [] (e ∷ es) (k ∷ ks) each = absurd each
-up_to_length plant outcome (suc i) (t ∷ ts) [] [] each = absurd each
-up_to_length plant outcome (suc i) (t ∷ ts) [] (k ∷ ks) each = absurd each
-up_to_length plant outcome (suc i) (t ∷ ts) (e ∷ es) [] each = absurd each
-up_to_length plant outcome (suc i) (t ∷ ts) (e ∷ es) (k ∷ ks) each = ap suc (up_to_length plant outcome i ts es ks each.1)
-
--- all are done
-pub all_done : (plant : Plant) (outcome : Outcomes) (ts : List Turned) (es : List (ℕ × Waiting)) (ks : List ServedConnection)
-    → EachUpTo plant outcome (length ks) ts es ks
-    → EachStands plant (conns_of ts es) (map (after_given outcome) ks)
-all_done plant outcome [] [] [] each = tt
-all_done plant outcome [] (e ∷ es) [] each = absurd each
-all_done plant outcome (t ∷ ts) [] [] each = absurd each
-all_done plant outcome (t ∷ ts) (e ∷ es) [] each = absurd each
-all_done plant outcome [] [] (k ∷ ks) each = absurd each
-all_done plant outcome [] (e ∷ es) (k ∷ ks) each = absurd each
-all_done plant outcome (t ∷ ts) [] (k ∷ ks) each = absurd each
-all_done plant outcome (t ∷ ts) (e ∷ es) (k ∷ ks) each = (each.0, all_done plant outcome ts es ks each.1)
-
--- the counts of some connections, and of one more
+-- the counts of one connection, and of some more
 grows_more : (s t u a b c d : ℕ) → Grows s t a b → Grows t u c d → Grows s u (a + c) (b + d)
 grows_more s t u a b c d first second = λ others e.
     second (others + b) (first (others + c) (e ∙ ap count_of (omega arith)) ∙ ap count_of (omega arith)) ∙ ap count_of (omega arith)
 
-sum_more : (g : ServedConnection → ℕ) (ks : List ServedConnection) (k : ServedConnection) → sum_by g (ks ++ k ∷ []) ≡ sum_by g ks + g k
-sum_more g ks k =
-    let all = sum_by-append g ks (k ∷ []) in
-    let one = sum_by-cons g k [] in
-    let nil : sum_by g [] ≡ 0 = refl in
-    omega (arith, all, one, nil)
-
-pub counts_more : (s t u : Summary) (ks ls : List ServedConnection) (k l : ServedConnection)
-    → CountsAll s t ks ls → Counts t u k l → CountsAll s u (ks ++ k ∷ []) (ls ++ l ∷ [])
-counts_more s t u ks ls k l first second = record {
+counts_more : (s t u : Summary) (k l : ServedConnection) (ks ls : List ServedConnection)
+    → Counts s t k l → CountsAll t u ks ls → CountsAll s u (k ∷ ks) (l ∷ ls)
+counts_more s t u k l ks ls first second = record {
   connections = second.connections ∙ first.connections;
   requests = grown (λ (j : ServedConnection). j.frames_taken) s.requests t.requests u.requests first.requests second.requests;
   replies = grown replies_of s.replies t.replies u.replies first.replies second.replies;
@@ -214,13 +294,13 @@ counts_more s t u ks ls k l first second = record {
   refused = second.refused ∙ first.refused;
 }
   where
-    grown : (g : ServedConnection → ℕ) (p q r : ℕ) → Grows p q (sum_by g ks) (sum_by g ls)
-        → Grows q r (g k) (g l) → Grows p r (sum_by g (ks ++ k ∷ [])) (sum_by g (ls ++ l ∷ []))
+    grown : (g : ServedConnection → ℕ) (p q r : ℕ) → Grows p q (g k) (g l)
+        → Grows q r (sum_by g ks) (sum_by g ls) → Grows p r (sum_by g (k ∷ ks)) (sum_by g (l ∷ ls))
     grown g p q r one two =
-        subst (λ m. Grows p r m (sum_by g (ls ++ l ∷ []))) (sym (sum_more g ks k))
-        (subst (λ m. Grows p r (sum_by g ks + g k) m) (sym (sum_more g ls l)) (grows_more p q r (sum_by g ks) (sum_by g ls) (g k) (g l) one two))
+        subst (λ m. Grows p r m (sum_by g (l ∷ ls))) (sym (sum_by-cons g k ks))
+        (subst (λ m. Grows p r (g k + sum_by g ks) m) (sym (sum_by-cons g l ls)) (grows_more p q r (g k) (g l) (sum_by g ks) (sum_by g ls) one two))
 
-pub counts_none : (s : Summary) → CountsAll s s [] []
+counts_none : (s : Summary) → CountsAll s s [] []
 counts_none s = record {
   connections = refl;
   requests = same_count s.requests 0;
@@ -230,82 +310,31 @@ counts_none s = record {
   refused = refl;
 }
 
--- the last of a list is the first of it reversed
-pub reverse-last : {X : Type 0} (xs : List X) (x : X) → reverse (xs ++ x ∷ []) ≡ x ∷ reverse xs
-reverse-last xs x = reverse-append xs (x ∷ [])
+-- all frames are given
+pub record AllDone (blocked : List ℕ) (outcome : Outcomes) (new : Outlets) (s t : Summary) (ks : List ServedConnection) : Type 0 where
+  pub each : EachOutlet new (map (after_given outcome) ks)
+  pub marked : EachMarked blocked new
+  pub counted : CountsAll s t ks (map (after_given outcome) ks)
 
-pub produced_of-last : (xs ys : List NoteFrame) (x : NoteFrame) → ys ≡ xs ++ x ∷ []
-    → map produced_of (reverse ys) ≡ produced_of x ∷ map produced_of (reverse xs)
-produced_of-last xs ys x e = ap (λ (zs : List NoteFrame). map produced_of (reverse zs)) e ∙ ap (map produced_of) (reverse-last xs x)
+delivered_mark : (fs : List NoteFrame) (d : Delivery) → (let o = (delivered_all fs d).0 in o.blocked) ≡ (let p = d.0 in p.blocked)
+delivered_mark [] d = refl
+delivered_mark (f ∷ fs) d = delivered_mark fs (delivered f d) ∙ given_mark d.0 f.frame
 
-pub fit-last : (xs ys : List NoteFrame) (x : NoteFrame) → ys ≡ xs ++ x ∷ [] → All IsNoteFrame (reverse ys) → All IsNoteFrame (x ∷ reverse xs)
-fit-last xs ys x e all = subst (λ (zs : List NoteFrame). All IsNoteFrame zs) (ap (λ (zs : List NoteFrame). reverse zs) e ∙ reverse-last xs x) all
-
--- one more of them is produced
-pub record UpToNext (plant : Plant) (outcome : Outcomes) (i : ℕ) (ts : List Turned)
-    (es : List (ℕ × Waiting)) (s u : Summary) (ks : List ServedConnection) : Type 0 where
-  pub each : EachUpTo plant outcome (i + 1) ts es ks
-  pub counted : CountsAll s u (take (i + 1) ks) (map (after_given outcome) (take (i + 1) ks))
-
-pub up_to_next : (plant : Plant) (outcome : Outcomes) (i : ℕ) (old new : Clients) (s t u : Summary) (ks : List ServedConnection)
-    → DeliversAt i old new t u → i < length old.sessions.items
-    → EachUpTo plant outcome i old.sessions.items old.waiting.entries ks → CountsAll s t (take i ks) (map (after_given outcome) (take i ks))
-    → UpToNext plant outcome i new.sessions.items new.waiting.entries s u ks
-up_to_next plant outcome i old new s t u ks delivers below each counted =
-    let at = at_turn plant outcome i old.sessions.items old.waiting.entries ks each below in
-    let done = is_done plant outcome at.t (at.n, at.a) (conn_of delivers.turned (at.n, delivers.waiting)) t u at.k at.pending
-    (λ l st fit. delivers.goes plant at.n l at.t at.a (sym (at.turned at.t)) at.value st fit) in
-    let next = at.next delivers.turned delivers.waiting done.stands in
-    let more : take (i + 1) ks ≡ take i ks ++ at.k ∷ [] = take_one_more ks i at.k at.connection in
-    let f : ServedConnection → ServedConnection = after_given outcome in
-    let both = counts_more s t u (take i ks) (map f (take i ks)) at.k (f at.k) counted done.counted in
+pub all_done : (plant : Plant) (blocked : List ℕ) (outcome : Outcomes) (ts : List Turned) (es : Outlets) (s : Summary) (ks : List ServedConnection)
+    → EachBeside (IsGivenBy plant outcome) ts ks → EachOutlet es ks → AreThere ks → EachMarked blocked es
+    → AllDone blocked outcome (delivered_each (frames_given ts) es s).0 s (delivered_each (frames_given ts) es s).1 ks
+all_done plant blocked outcome [] [] s [] given each there marks = record { each = tt; marked = tt; counted = counts_none s }
+all_done plant blocked outcome [] es s (k ∷ ks) given each there marks = absurd given
+all_done plant blocked outcome (t ∷ ts) es s [] given each there marks = absurd given
+all_done plant blocked outcome [] (e ∷ es) s [] given each there marks = absurd each
+all_done plant blocked outcome (t ∷ ts) [] s (k ∷ ks) given each there marks = absurd each
+all_done plant blocked outcome (t ∷ ts) (e ∷ es) s (k ∷ ks) given each there marks =
+    let d = delivered_all t.out (e.1, s) in
+    let one = is_done plant outcome t e.1 s k given.0 each.0.outlet there.0 in
+    let rest = all_done plant blocked outcome ts es d.1 ks given.1 each.1 there.1 marks.1 in
     record {
-      each = subst (λ (j : ℕ). EachUpTo plant outcome j new.sessions.items new.waiting.entries ks) (omega arith)
-          (subst (λ (ts : List Turned). EachUpTo plant outcome (suc i) ts new.waiting.entries ks) (sym delivers.sessions)
-          (subst (λ (es : List (ℕ × Waiting)). EachUpTo plant outcome (suc i) (set old.sessions.items i delivers.turned) es ks) (sym delivers.entries) next));
-      counted = subst (λ (ls : List ServedConnection). CountsAll s u ls (map f ls)) (sym more)
-          (subst (λ (ls : List ServedConnection). CountsAll s u (take i ks ++ at.k ∷ []) ls) (sym (map-append f (take i ks) (at.k ∷ []))) both);
+      each = (record { number = each.0.number ∙ sym (given_keeps outcome k).number; outlet = one.stands }, rest.each);
+      marked = (delivered_mark t.out (e.1, s) ∙ marks.0, rest.marked);
+      counted = counts_more s d.1 (delivered_each (frames_given ts) es d.1).1 k (after_given outcome k) ks (map (after_given outcome) ks)
+          one.counted rest.counted;
     }
-  where
-    take_one_more : (ls : List ServedConnection) (i : ℕ) (l : ServedConnection) → slice_get ls i ≡ Some l → take (i + 1) ls ≡ take i ls ++ l ∷ []
-    take_one_more ls i l e =
-        let within = slice_get_within ls i l e in
-        take_more ls i l within ∙ ap (λ (m : ServedConnection). take i ls ++ m ∷ []) (get_or_from_slice_get ls i l l e)
-
--- marks stay where one keeps its own
-pub marks-set : (es : List (ℕ × Waiting)) (i : ℕ) (b : Waiting)
-    → ((a : Waiting) → slice_get (values_of es) i ≡ Some a → b.blocked ≡ a.blocked) → map mark_of (set_value_at es i b) ≡ map mark_of es
-marks-set [] i b same = refl
-marks-set (e ∷ es) zero b same = ap (λ (m : Bool). (e.0, m) ∷ map mark_of es) (same e.1 refl)
-marks-set (e ∷ es) (suc i) b same = ap (λ (ms : List (ℕ × Bool)). mark_of e ∷ ms) (marks-set es i b same)
-
--- nothing is left where no last one is there
-pub none_left : {X : Type 0} (old : List X) (len : ℕ) → len ≡ length old → (IsSome {T = X} None ↔ (0 < len)) → old ≡ []
-none_left [] len ok variant = refl
-none_left (x ∷ xs) len ok variant = absurd (true≢false (sym (variant.1 (omega (arith, ok)))))
-
--- what one session gives is produced in its place
-pub delivers_at : (i : ℕ) (old new : Clients) (t u : Turned) (a b : Waiting) (s r : Summary) (result : Result (Unit {0}) NoMemory)
-    → i < length old.sessions.items → t ≡ get_or old.sessions.items i t
-    → slice_get (values_of old.waiting.entries) i ≡ Some a → new.sessions.items ≡ set old.sessions.items i u
-    → new.waiting.entries ≡ set_value_at old.waiting.entries i b → b.blocked ≡ a.blocked
-    → OnOk result ((plant : Plant) (n : ℕ) (k : ServedConnection) → Stands plant (conn_of t (n, a)) k → (k.closing ≡ false → All IsNoteFrame t.out)
-    → Delivers plant (conn_of u (n, b)) s r (map produced_of t.out) k)
-    → OnOk result (DeliversAt i old new s r)
-delivers_at i old new t u a b s r result below read value sessions entries mark goes = on_ok result (λ produces. record {
-  turned = u;
-  waiting = b;
-  sessions = sessions;
-  entries = entries;
-  blocked = λ other here. mark ∙ ap (λ (w : Waiting). w.blocked) (same_waiting here);
-  goes = λ plant n k v other here there st fit.
-      let same_t : v ≡ t = here ∙ get_or_default old.sessions.items i v t below ∙ sym read in
-      let same_a : other ≡ a = sym (same_waiting there) in
-      let st_here = subst (λ (w : Waiting). Stands plant (conn_of t (n, w)) k) same_a
-      (subst (λ (z : Turned). Stands plant (conn_of z (n, other)) k) same_t st) in
-      subst (λ (z : Turned). Delivers plant (conn_of u (n, b)) s r (map produced_of z.out) k) (sym same_t)
-      (produces plant n k st_here (subst (λ (z : Turned). k.closing ≡ false → All IsNoteFrame z.out) same_t fit));
-}) goes
-  where
-    same_waiting : {other : Waiting} → slice_get (values_of old.waiting.entries) i ≡ Some other → a ≡ other
-    same_waiting here = (let both = sym value ∙ here in cc)

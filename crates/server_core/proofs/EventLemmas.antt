@@ -29,9 +29,6 @@ takes_plain old new waves ws e plain follows notes some = record {
   some = some;
 }
 
-pub opened_plain : (n : ℕ) → IsPlain (event.Opened n)
-opened_plain n = record { told = λ x. refl; noted = λ x. refl }
-
 pub piece_plain : (n : ℕ) (bytes : List ℕ) → IsPlain (event.Piece n bytes)
 piece_plain n bytes = record { told = λ x. refl; noted = λ x. refl }
 

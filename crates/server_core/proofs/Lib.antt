@@ -1,20 +1,12 @@
 pub mod CountLemmas
 pub mod SumLemmas
-pub mod PlaceLemmas
-pub mod ConnLemmas
 pub mod ProduceLemmas
-pub mod EntryLemmas
-pub mod StandLemmas
 pub mod ServeLemmas
 mod AddressLemmas
 pub mod TakingLemmas
-pub mod OfferLemmas
-pub mod TouchedLemmas
-pub mod NumbersDue
+pub mod TookLemmas
 pub mod Forgotten
 pub mod OpenLemmas
-pub mod WaitLemmas
-pub mod RunLemmas
 pub mod PieceLemmas
 pub mod DeliverLemmas
 pub mod CoreLemmas
@@ -23,4 +15,5 @@ pub mod AskedLemmas
 pub mod TickLemmas
 pub mod ReloadLemmas
 pub mod CheckLemmas
+pub mod SkipLemmas
 pub mod WrittenLemmas

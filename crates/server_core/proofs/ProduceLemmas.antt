@@ -1,48 +1,25 @@
 -- A frame that is produced, in the code and in the machine.
-use Rattle.std.proofs.Common.{◌≡◌, ℕ, ◌+◌, ◌-◌, ◌<◌, ◌≤◌, List, [], ◌∷◌, ◌++◌, length, Bool, true, false, cond, refl, sym, ap, ◌∙◌, subst, arith}
-use Rattle.std.specs.Prelude.{map, sum, sum_by}
-use Rattle.std.proofs.lemmas.Bool.{true≢false, cond-true, cond-false, le-leb, lt-leb}
-use Rattle.std.proofs.lemmas.List.{map-append, length-append}
-use Rattle.std.proofs.lemmas.List.Concat.{flat_map-append}
+use Rattle.std.proofs.Common.{◌≡◌, ℕ, ◌+◌, ◌<◌, List, [], ◌∷◌, ◌++◌, length, Bool, true, false, cond, not, refl, sym, ap, ◌∙◌, subst, inl, inr, arith}
+use Rattle.std.specs.Prelude.{◌&&◌, map, sum, sum_by}
+use Rattle.std.proofs.lemmas.Bool.{cases_Bool, cond-true}
 use Rattle.std.proofs.lemmas.List.Sums.{sum_by-append, sum_by-cons, sum-map}
 use Rattle.spec_machine.specs.Device.{Produced, Reply, Notification}
-use Rattle.spec_machine.specs.Connection.{bytes_of, bytes_of_all, queued_of, fits, with_frame, with_closing, produce}
+use Rattle.spec_machine.specs.Connection.{bytes_of, fits, with_frame, with_closing, produce}
 use Rattle.spec_machine.specs.Summary.{count_of, replies_in, samples_in}
-use Rattle.spec_machine.specs.Offers.{left_after}
-use Rattle.spec_machine.proofs.Waiting.{joined, joined_bytes}
+use Rattle.ams_tcp.specs.Held.{Held}
 use Rattle.ams_tcp.specs.History.{Represents}
-use Rattle.out_queue.specs.Queue.{queued}
 use Rattle.spec_plant.specs.World.{Plant}
-use Rattle.session.specs.StandsFor.{StandsFor}
 use Rattle.session.specs.SessionState.{SessionState}
-use Rattle.server_core.specs.Conns.{Conn}
+use Rattle.session.specs.StandsFor.{StandsFor}
+use Rattle.connections.specs.Carries.{IsOutlet, IsStreamOf}
+use Rattle.connections.specs.Outlets.{given, is_fitting, has_room}
+use Rattle.connections.specs.declared.outlet.Outlet.{Outlet}
+use Rattle.connections.proofs.OutputLemmas.{given_stands, room_is}
 use Rattle.server_core.specs.declared.summary.Summary.{Summary}
 use Rattle.server_core.specs.Served.{ServedConnection}
+use Rattle.server_core.specs.Stands.{IsClientOf}
 use Rattle.server_core.specs.Counts.{Counts, replies_of, samples_of}
-use Rattle.server_core.specs.ConnStands.{history_of, Stands}
-use Rattle.server_core.specs.Taking.{Produces}
-use Rattle.connections.proofs.QueueLemmas.{left_after-push, queued-left_after}
 use Rattle.server_core.proofs.CountLemmas.{same_count, same_counts, more}
-
--- the bytes that wait in the queue are those of the machine
-pub queued_bytes : (plant : Plant) (conn : Conn) (k : ServedConnection) → Stands plant conn k → queued conn.out ≡ queued_of k
-queued_bytes plant conn k s =
-    ap queued s.waiting ∙ queued-left_after (map bytes_of k.produced) k.bytes_taken
-    ∙ ap (λ (bs : List ℕ). length bs - k.bytes_taken) (joined_bytes k.produced)
-
-pub produce-fits : (frame : Produced) (k : ServedConnection) → k.closing ≡ false
-    → queued_of k + length (bytes_of frame) ≤ 4194304 → produce frame k ≡ with_frame frame k
-unfolding produce
-produce-fits frame k is_open room =
-    cond-false k.closing k _ is_open
-    ∙ cond-true (fits frame k) (with_frame frame k) (with_closing k) (le-leb (queued_of k + length (bytes_of frame)) 4194304 room)
-
-pub produce-over : (frame : Produced) (k : ServedConnection) → k.closing ≡ false
-    → 4194304 < queued_of k + length (bytes_of frame) → produce frame k ≡ with_closing k
-unfolding produce
-produce-over frame k is_open over =
-    cond-false k.closing k _ is_open
-    ∙ cond-false (fits frame k) (with_frame frame k) (with_closing k) (lt-leb (queued_of k + length (bytes_of frame)) 4194304 over)
 
 pub produce-closing : (frame : Produced) (k : ServedConnection) → k.closing ≡ true → produce frame k ≡ k
 unfolding produce
@@ -68,58 +45,22 @@ produce-stream frame k = at_closing k.closing (fits frame k)
     at_closing false true = record { number = refl; received = refl; frames_taken = refl; client = refl; gone = refl }
     at_closing false false = record { number = refl; received = refl; frames_taken = refl; client = refl; gone = refl }
 
--- a session is the same, and stands for the same stream and the same client
-pub record SameSession (plant : Plant) (conn new : Conn) (k l : ServedConnection) : Type 0 where
-  pub stream : Represents new.session.stream (history_of new l)
-  pub client : l.closing ≡ false → StandsFor plant l.client new.session
+-- so a stream stands for it as before, and a session for its client, unless it closes
+pub stream_on : (held : Held) (k l : ServedConnection) → SameStream k l → IsStreamOf held k → IsStreamOf held l
+stream_on held k l same st =
+    subst (λ (taken : ℕ). Represents held (record { fed = l.received; given = taken; told_broken = held.told_broken })) (sym same.frames_taken)
+    (subst (λ (bytes : List ℕ). Represents held (record { fed = bytes; given = k.frames_taken; told_broken = held.told_broken })) (sym same.received) st)
 
-pub same_session : (plant : Plant) (conn new : Conn) (k l : ServedConnection) → Stands plant conn k
-    → new.session ≡ conn.session → l.received ≡ k.received → l.frames_taken ≡ k.frames_taken
-    → l.client ≡ k.client → (l.closing ≡ false → k.closing ≡ false) → SameSession plant conn new k l
-same_session plant conn new k l s session received taken client opens = record {
-  stream =
-      let P : SessionState → Type 0 =
-      λ held. Represents held.stream (record { fed = l.received; given = l.frames_taken; told_broken = held.stream.told_broken }) in
-      let Q : List ℕ → Type 0 =
-      λ fed. Represents conn.session.stream (record { fed = fed; given = l.frames_taken; told_broken = conn.session.stream.told_broken }) in
-      let R : ℕ → Type 0 = λ given. Represents conn.session.stream
-      (record { fed = k.received; given = given; told_broken = conn.session.stream.told_broken }) in
-      subst P (sym session) (subst Q (sym received) (subst R (sym taken) s.stream));
-  client = λ is_open. subst (λ (held : SessionState). StandsFor plant l.client held) (sym session)
-      (subst (λ c. StandsFor plant c conn.session) (sym client) (s.client (opens is_open)));
-}
+pub client_on : (plant : Plant) (session : SessionState) (k l : ServedConnection) → SameStream k l → (l.closing ≡ false → k.closing ≡ false)
+    → IsClientOf plant session k → IsClientOf plant session l
+client_on plant session k l same opens st = λ is_open. subst (λ c. StandsFor plant c session) (sym same.client) (st (opens is_open))
 
-pub stands_with_frame : (plant : Plant) (conn new : Conn) (k : ServedConnection) (frame : Produced)
-    → Stands plant conn k → new.number ≡ conn.number → new.session ≡ conn.session
-    → new.out ≡ conn.out ++ bytes_of frame ∷ [] → new.closing ≡ conn.closing → 0 < length (bytes_of frame) → Stands plant new (with_frame frame k)
-stands_with_frame plant conn new k frame s number session out closing some =
-    let given : length (joined (map bytes_of k.produced)) ≡ length (bytes_of_all k.produced) = ap (λ (bs : List ℕ). length bs) (joined_bytes k.produced) in
-    let all = ap (λ (bs : List ℕ). length bs) (flat_map-append bytes_of k.produced (frame ∷ []))
-    ∙ length-append (bytes_of_all k.produced) (bytes_of_all (frame ∷ [])) in
-    let same = same_session plant conn new k (with_frame frame k) s session refl refl refl (λ e. e) in
-    record {
-      number = number ∙ s.number;
-      stream = same.stream;
-      client = same.client;
-      waiting = out ∙ ap (λ fs. fs ++ bytes_of frame ∷ []) s.waiting
-          ∙ sym (left_after-push (map bytes_of k.produced) k.bytes_taken (bytes_of frame) (omega (arith, s.bytes_taken, given)) some)
-          ∙ ap (λ fs. left_after k.bytes_taken fs) (sym (map-append bytes_of k.produced (frame ∷ [])));
-      bytes_taken = omega (arith, s.bytes_taken, all);
-      closing = closing ∙ s.closing;
-    }
-
-pub stands_with_closing : (plant : Plant) (conn new : Conn) (k : ServedConnection) → Stands plant conn k → new.number ≡ conn.number → new.session ≡ conn.session
-    → new.out ≡ conn.out → new.closing ≡ true → Stands plant new (with_closing k)
-stands_with_closing plant conn new k s number session out closing =
-    let same = same_session plant conn new k (with_closing k) s session refl refl refl (λ e. absurd (true≢false e)) in
-    record {
-      number = number ∙ s.number;
-      stream = same.stream;
-      client = same.client;
-      waiting = out ∙ s.waiting;
-      bytes_taken = s.bytes_taken;
-      closing = closing;
-    }
+-- no frame opens a connection that is closing
+pub produce-open : (frame : Produced) (k : ServedConnection) → (produce frame k).closing ≡ false → k.closing ≡ false
+produce-open frame k is_open = elim (cases_Bool k.closing) [
+  | inl closing ↦ ap (λ (l : ServedConnection). l.closing) (sym (produce-closing frame k closing)) ∙ is_open
+  | inr opened ↦ opened
+]
 
 -- a frame of this kind is counted: as a reply, or by its samples
 abbrev pub counted_with : Produced → Summary → Summary
@@ -167,31 +108,32 @@ counts_closing s k = record {
   refused = refl;
 }
 
-pub produces_fitting : (plant : Plant) (conn new : Conn) (s t : Summary) (k : ServedConnection) (frame : Produced) → Stands plant conn k → k.closing ≡ false
-    → queued conn.out + length (bytes_of frame) ≤ 4194304 → new.number ≡ conn.number → new.session ≡ conn.session → new.out ≡ conn.out ++ bytes_of frame ∷ []
-    → new.closing ≡ conn.closing → 0 < length (bytes_of frame) → t ≡ counted_with frame s → Produces plant new s t frame k
-produces_fitting plant conn new s t k frame st is_open room number session out closing some counted =
-    let bytes = queued_bytes plant conn k st in
-    let same = sym (produce-fits frame k is_open (omega (arith, bytes, room))) in
-    record {
-      stands = subst (λ l. Stands plant new l) same (stands_with_frame plant conn new k frame st number session out closing some);
-      counted = subst (λ l. Counts s t k l) same (counts_frame s t k frame counted);
-    }
+-- what is counted of a frame: nothing where it does not wait
+abbrev pub counted_if : Bool → Produced → Summary → Summary
+counted_if waits frame s = cond waits (counted_with frame s) s
 
-pub produces_over : (plant : Plant) (conn new : Conn) (s : Summary) (k : ServedConnection) (frame : Produced) → Stands plant conn k → k.closing ≡ false
-    → 4194304 < queued conn.out + length (bytes_of frame) → new.number ≡ conn.number → new.session ≡ conn.session → new.out ≡ conn.out → new.closing ≡ true
-    → Produces plant new s s frame k
-produces_over plant conn new s k frame st is_open over number session out closing =
-    let bytes = queued_bytes plant conn k st in
-    let same = sym (produce-over frame k is_open (omega (arith, bytes, over))) in
-    record {
-      stands = subst (λ l. Stands plant new l) same (stands_with_closing plant conn new k st number session out closing);
-      counted = subst (λ l. Counts s s k l) same (counts_closing s k);
-    }
+pub counts_produced : (s : Summary) (k : ServedConnection) (frame : Produced)
+    → Counts s (counted_if (not k.closing && fits frame k) frame s) k (produce frame k)
+unfolding produce
+counts_produced s k frame = at_closing k.closing (fits frame k)
+  where
+    at_closing : (closing room : Bool)
+        → Counts s (counted_if (not closing && room) frame s) k (cond closing k (cond room (with_frame frame k) (with_closing k)))
+    at_closing true room = same_counts s k
+    at_closing false true = counts_frame s (counted_with frame s) k frame refl
+    at_closing false false = counts_closing s k
 
--- one that is closing produces nothing
-pub produces_closing : (plant : Plant) (conn : Conn) (s : Summary) (k : ServedConnection) (frame : Produced)
-    → Stands plant conn k → k.closing ≡ true → Produces plant conn s s frame k
-produces_closing plant conn s k frame st closing =
-    let same = sym (produce-closing frame k closing) in
-    record { stands = subst (λ l. Stands plant conn l) same st; counted = subst (λ l. Counts s s k l) same (same_counts s k) }
+-- a frame that is produced waits and is counted, or closes the connection
+pub record Produces (new : Outlet) (old_counts new_counts : Summary) (frame : Produced) (k : ServedConnection) : Type 0 where
+  pub stands : IsOutlet new (produce frame k)
+  pub counted : Counts old_counts new_counts k (produce frame k)
+
+pub produces : (o : Outlet) (s : Summary) (k : ServedConnection) (frame : Produced) → IsOutlet o k → 0 < length (bytes_of frame)
+    → Produces (given (bytes_of frame) o) s (counted_if (is_fitting (bytes_of frame) o) frame s) frame k
+produces o s k frame stands some =
+    let fitting : is_fitting (bytes_of frame) o ≡ (not k.closing && fits frame k) =
+    ap (λ b. not b && has_room (bytes_of frame) o) stands.closing ∙ ap (λ b. not k.closing && b) (room_is o k frame stands) in
+    record {
+      stands = given_stands o k frame stands some;
+      counted = subst (λ b. Counts s (counted_if b frame s) k (produce frame k)) (sym fitting) (counts_produced s k frame);
+    }

@@ -1,5 +1,5 @@
 -- A reload: refused, it is counted; accepted, the world changes, and then each connection.
-use Rattle.std.proofs.Common.{◌≡◌, ℕ, suc, ◌+◌, List, [], ◌∷◌, ◌++◌, length, refl, sym, ap, ◌∙◌, subst, arith}
+use Rattle.std.proofs.Common.{◌≡◌, ℕ, ◌+◌, List, [], ◌∷◌, ◌++◌, length, refl, sym, ap, ◌∙◌, subst, arith}
 use Rattle.std.specs.Prelude.{All, false, Result, Ok, Err, IfOk}
 use Rattle.signals.specs.Wave.{Wave}
 use Rattle.ads_outside.specs.declared.event.Event.TheVariants as event
@@ -20,9 +20,6 @@ use Rattle.type_layout.specs.declared.description.Description as layout
 use Rattle.symbol_file.specs.Reading.{IsVerdict}
 use Rattle.symbol_file.specs.declared.fault.DescFault.{DescFault}
 use Rattle.symbol_file.specs.declared.fault.DescFault.TheVariants.{Syntax, Rule}
-use Rattle.std.specs.declared.hash.FoldHasher.{FoldHasher}
-use Rattle.std.specs.declared.hash.BuildHasherDefault.{BuildHasherDefault}
-use Rattle.std.specs.HashMap.{HashMap}
 use Rattle.spec_plant.specs.Rights.{rights_of}
 use Rattle.spec_plant.specs.World.{Plant, plant_of}
 use Rattle.spec_machine.specs.Profile.{Profile}
@@ -33,14 +30,13 @@ use Rattle.port_device.specs.PortMemory.{PortsMemory}
 use Rattle.symbol_table.specs.declared.kept.KeptPlace.{KeptPlace}
 use Rattle.server_core.specs.declared.device.Device.{Device}
 use Rattle.server_core.specs.declared.turned.Turned.{Turned}
-use Rattle.server_core.specs.declared.waiting.Waiting.{Waiting}
 use Rattle.server_core.specs.declared.clients.Clients.{Clients}
 use Rattle.server_core.specs.declared.outcome.Outcome.{Outcome}
 use Rattle.server_core.specs.declared.outcome.Outcome.TheVariants.{ReloadOk}
 use Rattle.server_core.specs.declared.server.Server.{Server}
 use Rattle.server_core.specs.declared.summary.Summary.{Summary}
 use Rattle.server_core.specs.Asked.{EachAsked}
-use Rattle.server_core.specs.Conns.{conns_of}
+use Rattle.server_core.specs.Columns.{skipped}
 use Rattle.server_core.specs.CoreState.{CoreState, after_event}
 use Rattle.server_core.specs.Delivering.{Outcomes, DeliversAll}
 use Rattle.server_core.specs.HoldsWorld.{HoldsState}
@@ -49,10 +45,12 @@ use Rattle.server_core.specs.Reloading.{Refuses, reloaded, Exchanges, Accepts}
 use Rattle.server_core.specs.Served.{served, World, ServedConnection, ServedState}
 use Rattle.spec_machine.specs.WatchedRanges.{numbers_of}
 use Rattle.session.specs.Reloading.{AreMoves, IsReloadable}
-use Rattle.server_core.specs.ServerView.{ServerView, view_of}
-use Rattle.server_core.specs.Serves.{EachStands, StandsEach, ServesEach, ServesSome, IsServing, FollowsEach}
+use Rattle.server_core.specs.ServerView.{ServerView, sessions_of, view_of}
+use Rattle.server_core.specs.Serves.{EachClient, ServesEach, ServesSome, IsServing, FollowsEach}
+use Rattle.connections.specs.Carries.{Carries, EachBeside, EachStream}
+use Rattle.connections.specs.Outlets.{Outlets}
 use Rattle.connections.specs.Present.{present}
-use Rattle.server_core.proofs.AskedLemmas.{all_follow, counted_all}
+use Rattle.server_core.proofs.AskedLemmas.{IsMarked, all_asked, all_follow, counted_all, marked_skipped, sessions_skipped}
 use Rattle.server_core.proofs.ServeLemmas.{held_on}
 use Rattle.server_core.proofs.TickLemmas.{all_cons}
 use Rattle.server_core.proofs.SumLemmas.{counted_refused, counted_accepted}
@@ -107,27 +105,27 @@ refuses_takes old new waves text answer fault outcome is verdict refuses some = 
         subst (λ (z : CoreState). FollowsEach (view_of old) (view_of new) waves x z) (sym (reload_is text x (Err (fault_of fault)) (reads x s))) (record {
           serves = record {
             device = held_on old.device new.device waves x.state y refuses.device refl refl s.device;
-            aligned = subst (λ (c : Clients). length c.sessions.items ≡ length c.waiting.entries) (sym refuses.clients) s.aligned;
-            connections = subst (λ (c : Clients). StandsEach x.state.world.plant
-                (conns_of c.sessions.items c.waiting.entries) (record { state = y; blocked = x.blocked })) (sym refuses.clients)
-                (record { each = s.connections.each; apart = s.connections.apart; marked = s.connections.marked; known = s.connections.known });
+            outlets = subst (λ (c : Clients). Carries c.outlets x.blocked x.state.connections) (sym refuses.clients) s.outlets;
+            streams = subst (λ (c : Clients). EachStream c.streams.items (present x.state.connections)) (sym refuses.clients) s.streams;
+            clients = subst (λ (c : Clients). EachClient x.state.world.plant (sessions_of c.sessions.items) (present x.state.connections))
+                (sym refuses.clients) s.clients;
           };
           counted = counted_refused old.summary new.summary x.state y refl refuses.summary;
         })
 
 -- an accepted one: what is kept after all were told and all frames are produced
-pub accept_follows : (v w : ServerView) (s : Summary) (waves : List Wave) (x : CoreState) (d : Description) (mid new : Clients)
-    → ServesEach v waves x → HoldsState w.device waves (reloaded d x)
+pub accept_follows : (v w : ServerView) (s : Summary) (waves : List Wave) (x : CoreState) (d : Description) (ts us zs : List Turned)
+    → ServesEach v waves x → v.sessions ≡ sessions_of ts → HoldsState w.device waves (reloaded d x)
     → EachAsked x.state.world.plant (reloaded d x).world.plant
-    (client_reloaded x.state.moment x.state.world (reloaded d x).world) v.sessions mid.sessions.items → mid.waiting.entries ≡ v.entries
+    (client_reloaded x.state.moment x.state.world (reloaded d x).world) (skipped v.outlets ts) us
     → s ≡ (let t = v.summary in record t { accepted = count_of (t.accepted + 1) })
-    → DeliversAll mid new s w.summary → w.sessions ≡ new.sessions.items → w.entries ≡ new.waiting.entries
+    → DeliversAll us zs v.outlets w.outlets s w.summary → w.streams ≡ v.streams → w.sessions ≡ sessions_of zs
     → FollowsEach v w waves x (record { state = reloaded d x; blocked = x.blocked })
-accept_follows v w s waves x d mid new serves device asked entries counts delivers sessions new_entries =
+accept_follows v w s waves x d ts us zs serves sessions device asked counts delivers streams new_sessions =
     let y = reloaded d x in
     let outcome : Outcomes = client_reloaded x.state.moment x.state.world y.world in
     let z : ServedState = (let q = x.state in record q { accepted = q.accepted + 1 }) in
-    let all = all_follow v w s waves waves x outcome y mid new serves asked entries delivers sessions new_entries device refl in
+    let all = all_follow v w s waves waves x outcome y ts us zs serves sessions asked delivers streams new_sessions device refl in
     record {
       serves = all.serves;
       counted = λ c. counted_all outcome s w.summary z y refl refl refl all.counted (counted_accepted v.summary s x.state z refl counts c);
@@ -156,17 +154,16 @@ accepts_takes old new waves text answer d outcome is verdict accepts some = reco
         ∙ ap (λ (z : ServedState). record { state = z; blocked = x.blocked }) (accepted_is (description_of d) x)))
         (accepts.follows waves x s)
 
--- each session that is not closing can be told of the moves to another world
-told_each : (w z : World) (moves : List KeptPlace) (numbers : List ℕ) (ts : List Turned) (es : List (ℕ × Waiting)) (ps : List ServedConnection)
-    → AreMoves w.plant z.plant moves numbers → length ts ≡ length es
-    → EachStands w.plant (conns_of ts es) ps → All (λ (t : Turned). t.skip ≡ false → IsReloadable moves numbers t.session) ts
-told_each w z moves numbers [] es ps moved e each = λ k d below. absurd (omega (arith, below))
-told_each w z moves numbers (t ∷ ts) [] ps moved e each = absurd (omega (arith, e))
-told_each w z moves numbers (t ∷ ts) (f ∷ fs) [] moved e each = absurd each
-told_each w z moves numbers (t ∷ ts) (f ∷ fs) (p ∷ ps) moved e each =
+-- each session that is not left out can be told of the moves to another world
+told_each : (w z : World) (moves : List KeptPlace) (numbers : List ℕ) (ts : List Turned) (ps : List ServedConnection)
+    → AreMoves w.plant z.plant moves numbers → EachBeside IsMarked ts ps → EachClient w.plant (sessions_of ts) ps
+    → All (λ (t : Turned). t.skip ≡ false → IsReloadable moves numbers t.session) ts
+told_each w z moves numbers [] ps moved marks clients = λ k d below. absurd (omega (arith, below))
+told_each w z moves numbers (t ∷ ts) [] moved marks clients = absurd marks
+told_each w z moves numbers (t ∷ ts) (p ∷ ps) moved marks clients =
     all_cons (λ (t : Turned). t.skip ≡ false → IsReloadable moves numbers t.session) t ts
-    (λ open_. record { old = w.plant; new = z.plant; client = p.client; moved = moved; stands = each.0.client (sym each.0.closing ∙ open_) })
-    (told_each w z moves numbers ts fs ps moved (omega (arith, e)) each.1)
+    (λ open_. record { old = w.plant; new = z.plant; client = p.client; moved = moved; stands = clients.0 (sym marks.0 ∙ open_) })
+    (told_each w z moves numbers ts ps moved marks.1 clients.1)
 
 -- the moves between what old and new ports hold
 pub moved_between : (w z : World) (old new : PortsMemory) (moves : List KeptPlace) (numbers : List ℕ) → HoldsPorts w old → HoldsPorts z new
@@ -179,20 +176,24 @@ moved_between w z old new moves numbers held held_new kept are = record {
   ports_are = are z held_new;
 }
 
-pub can_tell : (v : ServerView) (ports : PortsMemory) (moves : List KeptPlace) (numbers : List ℕ) (d : Description) (ts : List Turned) → IsServing v
+pub can_tell : (v : ServerView) (ports : PortsMemory) (moves : List KeptPlace) (numbers : List ℕ) (d : Description) (ts us : List Turned)
+    → IsServing v → v.sessions ≡ sessions_of ts
     → ((w : World) → HoldsPorts w v.device.ports → HoldsPorts (world_after_reload w d) ports)
     → ((a b : World) → HoldsPorts a v.device.ports → HoldsPorts b ports → AreKeptSymbols a.plant b.plant (kept_symbols_of moves))
-    → ((b : World) → HoldsPorts b ports → numbers ≡ numbers_of b.plant.ports) → ts ≡ v.sessions
-    → All (λ (t : Turned). t.skip ≡ false → IsReloadable moves numbers t.session) ts
-can_tell v ports moves numbers d ts serving reloads kept are same =
+    → ((b : World) → HoldsPorts b ports → numbers ≡ numbers_of b.plant.ports) → us ≡ skipped v.outlets ts
+    → All (λ (t : Turned). t.skip ≡ false → IsReloadable moves numbers t.session) us
+can_tell v ports moves numbers d ts us serving sessions reloads kept are same =
     let x = serving.some.state in
     let s = serving.some.serves in
     let w = x.state.world in
     let z = world_after_reload w d in
+    let ps = present x.state.connections in
+    let clients : EachClient w.plant (sessions_of ts) ps = subst (λ ss. EachClient w.plant ss ps) sessions s.clients in
     subst (λ (us : List Turned). All (λ (t : Turned). t.skip ≡ false → IsReloadable moves numbers t.session) us) (sym same)
-    (told_each w z moves numbers v.sessions v.entries (present x.state.connections)
+    (told_each w z moves numbers (skipped v.outlets ts) ps
     (moved_between w z v.device.ports ports moves numbers s.device.world.ports (reloads w s.device.world.ports) kept are)
-    s.aligned s.connections.each)
+    (marked_skipped w.plant v.outlets ts ps s.outlets.each clients)
+    (subst (λ ss. EachClient w.plant ss ps) (sym (sessions_skipped v.outlets ts)) clients))
 
 -- the plant of a description, the profile and the signals as before
 reload_plant : (w : World) (d : Description) → (world_after_reload w d).plant ≡ plant_of d
@@ -235,21 +236,15 @@ reloaded_device old new waves d x reloads held =
       moment = reloads.moment ∙ held.moment;
     }
 
--- as many are asked
-pub asked_length : (a b : Plant) (outcome : Outcomes) (ts us : List Turned) → EachAsked a b outcome ts us → length us ≡ length ts
-asked_length a b outcome [] [] each = refl
-asked_length a b outcome [] (u ∷ us) each = absurd each
-asked_length a b outcome (t ∷ ts) [] each = absurd each
-asked_length a b outcome (t ∷ ts) (u ∷ us) each = ap suc (asked_length a b outcome ts us each.1)
-
 pub exchanged_aligned : (old new : Server) (d : Description) (version : ℕ) → IsServing (view_of old)
-    → Exchanges old new d version → length new.clients.sessions.items ≡ length new.clients.waiting.entries
+    → Exchanges old new d version → length new.clients.sessions.items ≡ length new.clients.outlets
 exchanged_aligned old new d version serving ex =
     let x = serving.some.state in
     let s = serving.some.serves in
-    asked_length x.state.world.plant (reloaded d x).world.plant (client_reloaded x.state.moment x.state.world (reloaded d x).world)
-    old.clients.sessions.items new.clients.sessions.items (ex.asked serving.waves x s)
-    ∙ s.aligned ∙ sym (ap (λ (m : HashMap ℕ Waiting (BuildHasherDefault FoldHasher)). length m.entries) ex.waiting)
+    all_asked old.clients.outlets x.state.world.plant (reloaded d x).world.plant
+    (client_reloaded x.state.moment x.state.world (reloaded d x).world) old.clients.sessions.items new.clients.sessions.items
+    (present x.state.connections) s.outlets.each s.clients (ex.asked serving.waves x s)
+    ∙ sym (ap (λ (es : Outlets). length es) ex.outlets)
 
 pub if_ok : {A E : Type 0} {P Q : A → Type 0} (r : Result A E) → ((a : A) → P a → Q a) → IfOk r P → IfOk r Q
 if_ok (Ok a) f h = f a h
@@ -258,15 +253,17 @@ if_ok (Err e) f h = h
 -- an accepted reload, from its parts
 pub accepts_all : (old mid new : Server) (d : Description) (version : ℕ) → Exchanges old mid d version
     → {s : Summary} → s ≡ (let t = mid.summary in record t { accepted = count_of (t.accepted + 1) })
-    → DeliversAll mid.clients new.clients s new.summary → new.notes ≡ mid.notes ++ note.Ok version ∷ []
+    → DeliversAll mid.clients.sessions.items new.clients.sessions.items mid.clients.outlets new.clients.outlets s new.summary
+    → new.clients.streams.items ≡ mid.clients.streams.items → new.notes ≡ mid.notes ++ note.Ok version ∷ []
     → new.device ≡ mid.device → Accepts old new d (ReloadOk version)
-accepts_all old mid new d version ex {s} counts delivers notes device = record {
+accepts_all old mid new d version ex {s} counts delivers streams notes device = record {
   version = version;
   follows = λ waves x serves.
-      accept_follows (view_of old) (view_of new) s waves x d mid.clients new.clients serves
-      (subst (λ (e : Device). HoldsState e waves (reloaded d x)) (sym device) (ex.device waves x serves))
-      (ex.asked waves x serves) (ap (λ (m : HashMap ℕ Waiting (BuildHasherDefault FoldHasher)). m.entries) ex.waiting)
-      (counts ∙ ap (λ (t : Summary). record t { accepted = count_of (t.accepted + 1) }) ex.summary) delivers refl refl;
+      accept_follows (view_of old) (view_of new) s waves x d old.clients.sessions.items mid.clients.sessions.items new.clients.sessions.items serves refl
+      (subst (λ (e : Device). HoldsState e waves (reloaded d x)) (sym device) (ex.device waves x serves)) (ex.asked waves x serves)
+      (counts ∙ ap (λ (t : Summary). record t { accepted = count_of (t.accepted + 1) }) ex.summary)
+      (subst (λ (es : Outlets). DeliversAll mid.clients.sessions.items new.clients.sessions.items es new.clients.outlets s new.summary) ex.outlets delivers)
+      (streams ∙ ex.streams) refl;
   version_is = ex.version_is;
   notes = notes ∙ ap (λ ns. ns ++ note.Ok version ∷ []) ex.notes;
   outcome_is = refl;

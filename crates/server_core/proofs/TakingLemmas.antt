@@ -2,11 +2,11 @@
 use Rattle.std.proofs.Common.{◌≡◌, ℕ, ◌+◌, List, [], ◌∷◌, ◌++◌, length, take, arith, drop, Bool, true, false, cond, not, refl, sym, ap, ◌∙◌, subst}
 use Rattle.std.specs.Prelude.{Result, Ok, Err, OnOk}
 use Rattle.std.proofs.lemmas.List.{take-append-le, take_all}
-use Rattle.std.proofs.lemmas.Bool.{cond-true, cond-false, or_left, or_from}
+use Rattle.std.proofs.lemmas.Bool.{true≢false, cond-true, cond-false, or_from}
 use Rattle.spec_frames.specs.Frame.{frame_bytes}
 use Rattle.spec_frames.specs.Division.{front_of, frames_of, rest_of, is_broken}
 use Rattle.spec_plant.specs.World.{Plant}
-use Rattle.spec_machine.specs.Device.{Answer, Answered, Silent, Closing, Reply}
+use Rattle.spec_machine.specs.Device.{Answer, Answered, Silent, Closing, Produced, Reply}
 use Rattle.spec_machine.specs.Connection.{with_closing, produce, is_deaf}
 use Rattle.spec_machine.specs.Piece.{packets_left, with_one_taken, with_client, after_answer, after_packet}
 use Rattle.spec_machine.specs.Piece.{after_packets, after_rest, end_of_piece, with_received, with_piece}
@@ -23,20 +23,18 @@ use Rattle.session.specs.Takes.{Takes as TakesPacket, outcome_of_packet, IsAnswe
 use Rattle.session.specs.declared.taken.Taken.{Taken}
 use Rattle.port_device.specs.PortMemory.{PortsMemory}
 use Rattle.session.specs.declared.taken.Taken.TheVariants as taken
+use Rattle.connections.specs.Carries.{IsStreamOf}
 use Rattle.server_core.specs.declared.summary.Summary.{Summary}
 use Rattle.server_core.specs.declared.device.Device.{Device}
 use Rattle.server_core.specs.Served.{served, World, Client, ServedConnection, ServedExchange}
-use Rattle.server_core.specs.Conns.{Conn, conn_of, conn_over}
-use Rattle.server_core.specs.declared.turned.Turned.{Turned}
-use Rattle.server_core.specs.declared.waiting.Waiting.{Waiting}
 use Rattle.server_core.specs.Counts.{Counts, replies_of, samples_of}
-use Rattle.server_core.specs.ConnStands.{history_of, Stands, Goes}
+use Rattle.server_core.specs.Stands.{Conn, IsClientOf, history_of, Stands, Goes}
 use Rattle.server_core.specs.HoldsWorld.{HoldsWorld, IsConnected}
-use Rattle.server_core.specs.Taking.{answered, settled, Takes, TakesSome, Produces}
+use Rattle.server_core.specs.Taking.{answered, settled, Takes, TakesSome}
 use Rattle.server_core.proofs.AddressLemmas.{same_address}
 use Rattle.server_core.proofs.CountLemmas.{same_count, same_counts, then_counts, one_more}
 use Rattle.connections.proofs.StreamLemmas.{packet_is_next, rest_is_open, rest_is_broken, after_frame, own_mark}
-use Rattle.server_core.proofs.ProduceLemmas.{SameStream, produce-stream, counts_closing, stands_with_closing}
+use Rattle.server_core.proofs.ProduceLemmas.{SameStream, Produces, produce-stream, produce-open, stream_on, client_on, counts_closing}
 
 -- the device takes a packet as the session does
 pub take_is : (w : World) (c : Client) (packet : List ℕ) → served.take w c packet ≡ outcome_of_packet w c packet
@@ -123,42 +121,14 @@ settled-broken x none rest =
     ∙ ap (λ (k : ServedConnection). record x { connection = k })
     (cond-true (is_broken (front_of (rest_of x.connection.received))) (with_closing x.connection) x.connection rest)
 
--- a session whose stream alone is another stands for the same client
-pub kept_client : (plant : Plant) (c : Client) (s t : SessionState) → t ≡ record s { stream = t.stream } → StandsFor plant c s → StandsFor plant c t
-kept_client plant c s t keeps st =
-    subst (λ (held : SessionState). StandsFor plant c held) (sym keeps) (record { handles = st.handles; additions = st.additions; watches = st.watches })
-
--- a session whose stream is lent stands for the same client, whatever stream is thought there
-pub client_over : (plant : Plant) (c : Client) (s : SessionState) (held : Held) → StandsFor plant c s → StandsFor plant c (record s { stream = held })
-client_over plant c s held st = record { handles = st.handles; additions = st.additions; watches = st.watches }
-
-pub client_under : (plant : Plant) (c : Client) (s : SessionState) (held : Held) → StandsFor plant c (record s { stream = held }) → StandsFor plant c s
-client_under plant c s held st = record { handles = st.handles; additions = st.additions; watches = st.watches }
-
--- the stream that a session lends is the one that it had
-pub lent_stream : (t : Turned) (lent : SessionState) (stream : Held) (e : ℕ × Waiting) → stream ≡ t.session.stream
-    → lent ≡ (let s = t.session in record s { stream = lent.stream }) → conn_over stream (record t { session = lent }) e ≡ conn_of t e
-lent_stream t lent stream e same keeps =
-    ap (λ (s : SessionState). conn_over stream (record t { session = s }) e) keeps ∙ ap (λ (held : Held). conn_over held t e) same
-
--- and the one that is given back is its own again
-pub stream_back : (t : Turned) (back : SessionState) (stream : Held) (e : ℕ × Waiting)
-    → back ≡ (let s = t.session in record s { stream = stream }) → conn_over stream t e ≡ conn_of (record t { session = back }) e
-stream_back t back stream e is = ap (λ (s : SessionState). conn_of (record t { session = s }) e) (sym is)
-
--- the session gave a frame
+-- the stream gave a frame
 pub taken_one : (plant : Plant) (conn mid : Conn) (k : ServedConnection) (packet : List ℕ) → Stands plant conn k
-    → cut.Frame packet ≡ answer_of (history_of conn k) → Represents mid.session.stream (after_next (history_of conn k))
-    → mid.session ≡ (let held = conn.session in record held { stream = mid.session.stream })
-    → mid.number ≡ conn.number → mid.out ≡ conn.out → mid.closing ≡ conn.closing
-    → Stands plant mid (with_one_taken k)
-taken_one plant conn mid k packet st answer stream keeps number out closing = record {
-  number = number ∙ st.number;
-  stream = after_frame mid.session.stream (history_of conn k) packet answer stream;
-  client = λ is_open. kept_client plant k.client conn.session mid.session keeps (st.client is_open);
-  waiting = out ∙ st.waiting;
-  bytes_taken = st.bytes_taken;
-  closing = closing ∙ st.closing;
+    → cut.Frame packet ≡ answer_of (history_of conn.stream k) → Represents mid.stream (after_next (history_of conn.stream k))
+    → mid.session ≡ conn.session → mid.outlet.out ≡ conn.outlet.out → mid.outlet.closing ≡ conn.outlet.closing → Stands plant mid (with_one_taken k)
+taken_one plant conn mid k packet st answer stream session out closing = record {
+  stream = after_frame mid.stream (history_of conn.stream k) packet answer stream;
+  client = subst (λ (held : SessionState). IsClientOf plant held (with_one_taken k)) (sym session) st.client;
+  outlet = record { waiting = out ∙ st.outlet.waiting; bytes_taken = st.outlet.bytes_taken; closing = closing ∙ st.outlet.closing };
 }
 
 -- and the request was counted
@@ -174,17 +144,34 @@ counts_request s t k counted = record {
 
 -- nothing was produced, and the client is another
 pub stands_with_client : (plant : Plant) (conn new : Conn) (k : ServedConnection) (c : Client)
-    → Stands plant conn k → new.session.stream ≡ conn.session.stream → StandsFor plant c new.session
-    → new.number ≡ conn.number → new.out ≡ conn.out → new.closing ≡ conn.closing → Stands plant new (with_client c k)
-stands_with_client plant conn new k c st stream client number out closing = record {
-  number = number ∙ st.number;
-  stream = subst (λ (held : Held). Represents held (record { fed = k.received; given = k.frames_taken; told_broken = held.told_broken }))
-      (sym stream) st.stream;
+    → Stands plant conn k → new.stream ≡ conn.stream → StandsFor plant c new.session
+    → new.outlet.out ≡ conn.outlet.out → new.outlet.closing ≡ conn.outlet.closing → Stands plant new (with_client c k)
+stands_with_client plant conn new k c st stream client out closing = record {
+  stream = subst (λ (held : Held). IsStreamOf held k) (sym stream) st.stream;
   client = λ is_open. client;
-  waiting = out ∙ st.waiting;
-  bytes_taken = st.bytes_taken;
-  closing = closing ∙ st.closing;
+  outlet = record { waiting = out ∙ st.outlet.waiting; bytes_taken = st.outlet.bytes_taken; closing = closing ∙ st.outlet.closing };
 }
+
+-- the connection closes
+pub stands_with_closing : (plant : Plant) (conn new : Conn) (k : ServedConnection) → Stands plant conn k
+    → new.stream ≡ conn.stream → new.outlet.out ≡ conn.outlet.out → new.outlet.closing ≡ true → Stands plant new (with_closing k)
+stands_with_closing plant conn new k st stream out closing = record {
+  stream = subst (λ (held : Held). IsStreamOf held k) (sym stream) st.stream;
+  client = λ is_open. absurd (true≢false is_open);
+  outlet = record { waiting = out ∙ st.outlet.waiting; bytes_taken = st.outlet.bytes_taken; closing = closing };
+}
+
+-- a frame was produced
+pub stands_produced : (plant : Plant) (conn new : Conn) (s t : Summary) (k : ServedConnection) (frame : Produced) → Stands plant conn k
+    → new.stream ≡ conn.stream → new.session ≡ conn.session → Produces new.outlet s t frame k → Stands plant new (produce frame k)
+stands_produced plant conn new s t k frame st stream session produces =
+    let same = produce-stream frame k in
+    record {
+      stream = subst (λ (held : Held). IsStreamOf held (produce frame k)) (sym stream) (stream_on conn.stream k (produce frame k) same st.stream);
+      client = subst (λ (held : SessionState). IsClientOf plant held (produce frame k)) (sym session)
+          (client_on plant conn.session k (produce frame k) same (produce-open frame k) st.client);
+      outlet = produces.stands;
+    }
 
 same_with_client : (s : Summary) (k : ServedConnection) (c : Client) → Counts s s k (with_client c k)
 same_with_client s k c = record {
@@ -251,6 +238,7 @@ goes_answered new device s t packet x a answer stands counted holds =
       plant = keeps.plant;
       signals = keeps.signals;
       counted = subst (λ (b : Answer). Counts s t x.connection (after_answer b k)) (sym answer) counted;
+      number = (answer-stream o.answer k).number;
       gone = (answer-stream o.answer k).gone;
     }
 
@@ -270,17 +258,20 @@ is_close (Answered packet) e = absurd e
 is_close Silent e = absurd e
 is_close Closing e = refl
 
--- the packet is answered by a frame
-pub goes_reply : (new : Conn) (device : Device) (s t : Summary) (packet frame : List ℕ) (x : ServedExchange)
+-- the packet is answered by a frame: its client, and then the frame, which waits or closes the connection
+pub goes_reply : (conn new : Conn) (device : Device) (s t : Summary) (packet frame : List ℕ) (x : ServedExchange)
     → IsAnswer (served.take x.world x.connection.client packet).answer (taken.Answer frame)
-    → Produces x.world.plant new s t (Reply frame) (with_client (served.take x.world x.connection.client packet).client x.connection)
+    → Stands x.world.plant conn (with_client (served.take x.world x.connection.client packet).client x.connection)
+    → new.stream ≡ conn.stream → new.session ≡ conn.session
+    → Produces new.outlet s t (Reply frame) (with_client (served.take x.world x.connection.client packet).client x.connection)
     → HoldsWorld device (served.take x.world x.connection.client packet).world → Goes new device s t x (answered packet x)
-goes_reply new device s t packet frame x answer produces holds =
+goes_reply conn new device s t packet frame x answer st stream session produces holds =
     let o = served.take x.world x.connection.client packet in
     let k = with_client o.client x.connection in
     let reply = is_reply o.answer frame answer in
+    let stands = stands_produced x.world.plant conn new s t k (Reply frame) st stream session produces in
     goes_answered new device s t packet x (Answered reply.0) reply.1
-    (subst (λ (bytes : List ℕ). Stands x.world.plant new (produce (Reply bytes) k)) reply.2 produces.stands)
+    (subst (λ (bytes : List ℕ). Stands x.world.plant new (produce (Reply bytes) k)) reply.2 stands)
     (subst (λ (bytes : List ℕ). Counts s t x.connection (produce (Reply bytes) k)) reply.2
     (counts_client s t x.connection (produce (Reply frame) k) o.client produces.counted)) holds
 
@@ -297,13 +288,13 @@ goes_silent new device s packet x answer stands holds =
 pub goes_close : (mid new : Conn) (device : Device) (s : Summary) (packet : List ℕ) (x : ServedExchange)
     → IsAnswer (served.take x.world x.connection.client packet).answer taken.Close
     → Stands x.world.plant mid (with_client (served.take x.world x.connection.client packet).client x.connection)
-    → new.number ≡ mid.number → new.session ≡ mid.session → new.out ≡ mid.out → new.closing ≡ true
+    → new.stream ≡ mid.stream → new.outlet.out ≡ mid.outlet.out → new.outlet.closing ≡ true
     → HoldsWorld device (served.take x.world x.connection.client packet).world → Goes new device s s x (answered packet x)
-goes_close mid new device s packet x answer stands number session out closing holds =
+goes_close mid new device s packet x answer stands stream out closing holds =
     let o = served.take x.world x.connection.client packet in
     let k = with_client o.client x.connection in
     goes_answered new device s s packet x Closing (is_close o.answer answer)
-    (stands_with_closing x.world.plant mid new k stands number session out closing)
+    (stands_with_closing x.world.plant mid new k stands stream out closing)
     (counts_client s s x.connection (with_closing k) o.client (counts_closing s k)) holds
 
 -- one exchange after another
@@ -314,14 +305,16 @@ then_goes mid new d e s t u x y z first second = record {
   plant = second.plant ∙ first.plant;
   signals = second.signals ∙ first.signals;
   counted = then_counts s t u x.connection y.connection z.connection first.counted second.counted;
+  number = second.number ∙ first.number;
   gone = second.gone ∙ first.gone;
 }
 
 -- a frame is taken and answered
 pub takes_frame : (conn mid new : Conn) (d e : Device) (s t u : Summary) (x : ServedExchange) (packet : List ℕ) → x.connection.closing ≡ false
-    → cut.Frame packet ≡ answer_of (history_of conn x.connection) → Goes mid d s t x (with_one x) → Goes new e t u (with_one x) (answered packet (with_one x))
-    → Takes (not new.closing) new e s u x
-takes_frame conn mid new d e s t u x packet is_open answer first second = by_mark new.closing refl
+    → cut.Frame packet ≡ answer_of (history_of conn.stream x.connection)
+    → Goes mid d s t x (with_one x) → Goes new e t u (with_one x) (answered packet (with_one x))
+    → Takes (not new.outlet.closing) new e s u x
+takes_frame conn mid new d e s t u x packet is_open answer first second = by_mark new.outlet.closing refl
   where
     y : ServedExchange
     y = after_packet served packet x
@@ -332,45 +325,52 @@ takes_frame conn mid new d e s t u x packet is_open answer first second = by_mar
 
     same_end : settled y ≡ settled x
     same_end = settled-one packet (drop (x.connection.frames_taken + 1) (frames_of x.connection.received)) x is_open
-        (packet_is_next (history_of conn x.connection) packet answer)
+        (packet_is_next (history_of conn.stream x.connection) packet answer)
         (ap (λ (z : ServedExchange). packets_left z.connection) (after_packet-answered packet x is_open) ∙ answered-left packet x)
 
-    by_mark : (b : Bool) → new.closing ≡ b → Takes (not b) new e s u x
-    by_mark false c = record { next = y; goes = goes; is_open = sym goes.stands.closing ∙ c; same_end = same_end }
+    by_mark : (b : Bool) → new.outlet.closing ≡ b → Takes (not b) new e s u x
+    by_mark false c = record { next = y; goes = goes; is_open = sym goes.stands.outlet.closing ∙ c; same_end = same_end }
     by_mark true c =
-        let end : settled x ≡ y = sym same_end ∙ settled-closing y (sym goes.stands.closing ∙ c) in
+        let end : settled x ≡ y = sym same_end ∙ settled-closing y (sym goes.stands.outlet.closing ∙ c) in
         subst (λ z. Goes new e s u x z) (sym end) goes
 
 -- nothing of the device and the world changes
 pub goes_still : (new : Conn) (d : Device) (s t : Summary) (x : ServedExchange) (l : ServedConnection)
     → HoldsWorld d x.world → Stands x.world.plant new l → Counts s t x.connection l
-    → l.gone ≡ x.connection.gone → Goes new d s t x (record x { connection = l })
-goes_still new d s t x l held stands counted gone = record { stands = stands; holds = held; plant = refl; signals = refl; counted = counted; gone = gone }
+    → l.number ≡ x.connection.number → l.gone ≡ x.connection.gone → Goes new d s t x (record x { connection = l })
+goes_still new d s t x l held stands counted number gone = record {
+  stands = stands;
+  holds = held;
+  plant = refl;
+  signals = refl;
+  counted = counted;
+  number = number;
+  gone = gone;
+}
 
 -- the rest is open: nothing changes
 pub takes_open : (conn : Conn) (d : Device) (s : Summary) (x : ServedExchange) → HoldsWorld d x.world → Stands x.world.plant conn x.connection
-    → cut.NotYet ≡ answer_of (history_of conn x.connection) → Goes conn d s s x (settled x)
+    → cut.NotYet ≡ answer_of (history_of conn.stream x.connection) → Goes conn d s s x (settled x)
 takes_open conn d s x held st answer =
-    let rest = rest_is_open (history_of conn x.connection) answer in
+    let rest = rest_is_open (history_of conn.stream x.connection) answer in
     let end : settled x ≡ x = settled-open x rest.none_left rest.rest in
-    subst (λ z. Goes conn d s s x z) (sym end) (goes_still conn d s s x x.connection held st (same_counts s x.connection) refl)
+    subst (λ z. Goes conn d s s x z) (sym end) (goes_still conn d s s x x.connection held st (same_counts s x.connection) refl refl)
 
 -- the rest is broken: the connection closes
 pub takes_broken : (conn new : Conn) (d : Device) (s : Summary) (x : ServedExchange) → HoldsWorld d x.world → Stands x.world.plant conn x.connection
-    → cut.Broken ≡ answer_of (history_of conn x.connection)
-    → new.number ≡ conn.number → new.session ≡ conn.session → new.out ≡ conn.out → new.closing ≡ true
-    → Goes new d s s x (settled x)
-takes_broken conn new d s x held st answer number session out closing =
-    let rest = rest_is_broken (history_of conn x.connection) answer in
+    → cut.Broken ≡ answer_of (history_of conn.stream x.connection)
+    → new.stream ≡ conn.stream → new.outlet.out ≡ conn.outlet.out → new.outlet.closing ≡ true → Goes new d s s x (settled x)
+takes_broken conn new d s x held st answer stream out closing =
+    let rest = rest_is_broken (history_of conn.stream x.connection) answer in
     let end : settled x ≡ record x { connection = with_closing x.connection } = settled-broken x rest.none_left rest.rest in
     subst (λ z. Goes new d s s x z) (sym end) (goes_still new d s s x (with_closing x.connection) held
-    (stands_with_closing x.world.plant conn new x.connection st number session out closing) (counts_closing s x.connection) refl)
+    (stands_with_closing x.world.plant conn new x.connection st stream out closing) (counts_closing s x.connection) refl refl)
 
 pub none_taken : (conn : Conn) (d : Device) (s : Summary) (x : ServedExchange) → HoldsWorld d x.world
     → Stands x.world.plant conn x.connection → x.connection.closing ≡ false → TakesSome conn d s s x
 none_taken conn d s x held st is_open = record {
   next = x;
-  goes = goes_still conn d s s x x.connection held st (same_counts s x.connection) refl;
+  goes = goes_still conn d s s x x.connection held st (same_counts s x.connection) refl refl;
   is_open = is_open;
   same_end = refl;
 }
@@ -393,16 +393,12 @@ takes_all mid new d e s t u x first last =
 
 -- a piece came in
 pub fed : (conn new : Conn) (d : Device) (s : Summary) (x : ServedExchange) (piece : List ℕ) → HoldsWorld d x.world → Stands x.world.plant conn x.connection
-    → Represents new.session.stream (after_feed (history_of conn x.connection) piece)
-    → new.session ≡ (let held = conn.session in record held { stream = new.session.stream })
-    → new.number ≡ conn.number → new.out ≡ conn.out → new.closing ≡ conn.closing → Goes new d s s x (with_piece piece x)
-fed conn new d s x piece held st stream keeps number out closing = goes_still new d s s x (with_received piece x.connection) held (record {
-  number = number ∙ st.number;
-  stream = own_mark new.session.stream (after_feed (history_of conn x.connection) piece) stream;
-  client = λ is_open. kept_client x.world.plant x.connection.client conn.session new.session keeps (st.client is_open);
-  waiting = out ∙ st.waiting;
-  bytes_taken = st.bytes_taken;
-  closing = closing ∙ st.closing;
+    → Represents new.stream (after_feed (history_of conn.stream x.connection) piece)
+    → new.session ≡ conn.session → new.outlet.out ≡ conn.outlet.out → new.outlet.closing ≡ conn.outlet.closing → Goes new d s s x (with_piece piece x)
+fed conn new d s x piece held st stream session out closing = goes_still new d s s x (with_received piece x.connection) held (record {
+  stream = own_mark new.stream (after_feed (history_of conn.stream x.connection) piece) stream;
+  client = subst (λ (t : SessionState). IsClientOf x.world.plant t (with_received piece x.connection)) (sym session) st.client;
+  outlet = record { waiting = out ∙ st.outlet.waiting; bytes_taken = st.outlet.bytes_taken; closing = closing ∙ st.outlet.closing };
 }) (record {
   connections = refl;
   requests = same_count s.requests x.connection.frames_taken;
@@ -410,13 +406,9 @@ fed conn new d s x piece held st stream keeps number out closing = goes_still ne
   samples = same_count s.samples (samples_of x.connection);
   accepted = refl;
   refused = refl;
-}) refl
+}) refl refl
 
--- a connection that is closing takes no piece
-pub after_piece-closing : (piece : List ℕ) (x : ServedExchange) → x.connection.closing ≡ true → after_piece served piece x ≡ x
-unfolding after_piece
-after_piece-closing piece x closing = cond-true (is_deaf x.connection) x _ (or_left x.connection.closing x.connection.gone closing)
-
+-- a piece of a connection that is not closing
 pub after_piece-settled : (piece : List ℕ) (x : ServedExchange) → x.connection.closing ≡ false → x.connection.gone ≡ false
     → settled (with_piece piece x) ≡ after_piece served piece x
 unfolding after_piece settled

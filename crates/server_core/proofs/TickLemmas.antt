@@ -12,43 +12,41 @@ use Rattle.port_device.specs.Holds.{HoldsPorts}
 use Rattle.port_device.specs.PortMemory.{PortsMemory}
 use Rattle.session.specs.Served.{IsServed}
 use Rattle.session.specs.StandsFor.{StandsFor}
-use Rattle.server_core.specs.declared.clients.Clients.{Clients}
 use Rattle.server_core.specs.declared.device.Device.{Device}
 use Rattle.server_core.specs.declared.turned.Turned.{Turned}
-use Rattle.server_core.specs.declared.waiting.Waiting.{Waiting}
 use Rattle.server_core.specs.Asked.{EachAsked}
-use Rattle.server_core.specs.Conns.{conns_of}
+use Rattle.server_core.specs.Columns.{skipped}
 use Rattle.server_core.specs.CoreState.{CoreState, after_event}
 use Rattle.server_core.specs.Delivering.{Outcomes, after_given, DeliversAll}
 use Rattle.server_core.specs.HoldsWorld.{HoldsState}
 use Rattle.server_core.specs.Served.{served, World, ServedConnection, ServedState}
-use Rattle.server_core.specs.ServerView.{ServerView}
-use Rattle.server_core.specs.Serves.{EachStands, ServesEach, ServesSome, FollowsEach}
+use Rattle.server_core.specs.ServerView.{ServerView, sessions_of}
+use Rattle.server_core.specs.Serves.{EachClient, ServesEach, ServesSome, FollowsEach}
+use Rattle.connections.specs.Carries.{EachBeside}
 use Rattle.connections.specs.Present.{present}
 use Rattle.server_core.proofs.AddressLemmas.{same_address}
-use Rattle.server_core.proofs.AskedLemmas.{all_follow, counted_all}
+use Rattle.server_core.proofs.AskedLemmas.{IsMarked, all_follow, counted_all, marked_skipped, sessions_skipped}
 
 -- what holds of the first and of the others
 pub all_cons : {X : Type 0} (P : X → Type 0) (x : X) (xs : List X) → P x → All P xs → (k : ℕ) (d : X) → k < length (x ∷ xs) → P (get_or (x ∷ xs) k d)
 all_cons P x xs p ps zero d below = p
 all_cons P x xs p ps (suc k) d below = ps k d (omega (arith, below))
 
--- each session that is not closing is served over a world of the same plant
-pub served_each : (plant : Plant) (w : World) (ports : PortsMemory) (ts : List Turned) (es : List (ℕ × Waiting)) (ps : List ServedConnection)
-    → HoldsPorts w ports → w.plant ≡ plant → length ts ≡ length es
-    → EachStands plant (conns_of ts es) ps → All (λ (t : Turned). t.skip ≡ false → IsServed ports t.session) ts
-served_each plant w ports [] es ps held same e each = λ k d below. absurd (omega (arith, below))
-served_each plant w ports (t ∷ ts) [] ps held same e each = absurd (omega (arith, e))
-served_each plant w ports (t ∷ ts) (f ∷ fs) [] held same e each = absurd each
-served_each plant w ports (t ∷ ts) (f ∷ fs) (p ∷ ps) held same e each =
+-- each session that is not left out is served over a world of the same plant
+served_each : (plant : Plant) (w : World) (ports : PortsMemory) (ts : List Turned) (ps : List ServedConnection)
+    → HoldsPorts w ports → w.plant ≡ plant → EachBeside IsMarked ts ps → EachClient plant (sessions_of ts) ps
+    → All (λ (t : Turned). t.skip ≡ false → IsServed ports t.session) ts
+served_each plant w ports [] ps held same marks clients = λ k d below. absurd (omega (arith, below))
+served_each plant w ports (t ∷ ts) [] held same marks clients = absurd marks
+served_each plant w ports (t ∷ ts) (p ∷ ps) held same marks clients =
     all_cons (λ (t : Turned). t.skip ≡ false → IsServed ports t.session) t ts
     (λ open_. record {
       world = w;
       client = p.client;
       held = held;
-      stands = subst (λ (q : Plant). StandsFor q p.client t.session) (sym same) (each.0.client (sym each.0.closing ∙ open_));
+      stands = subst (λ (q : Plant). StandsFor q p.client t.session) (sym same) (clients.0 (sym marks.0 ∙ open_));
     })
-    (served_each plant w ports ts fs ps held same (omega (arith, e)) each.1)
+    (served_each plant w ports ts ps held same marks.1 clients.1)
 
 -- a tick keeps the plant and the profile, and steps each signal
 pub tick_plant : (w : World) → (world_after_tick w).plant ≡ w.plant
@@ -104,32 +102,38 @@ ticked_device old new waves ws t x ticks steps held =
       moment = ticks.moment ∙ ap (λ m. max m t) held.moment;
     }
 
-pub tick_follows : (v w : ServerView) (waves ws : List Wave) (x : CoreState) (t : ℕ) (mid new : Clients)
-    → ServesEach v waves x → TicksDevice v.device w.device waves t → ws ≡ map wave_after_step waves
+pub tick_follows : (v w : ServerView) (waves ws : List Wave) (x : CoreState) (t : ℕ) (ts us zs : List Turned)
+    → ServesEach v waves x → v.sessions ≡ sessions_of ts → TicksDevice v.device w.device waves t → ws ≡ map wave_after_step waves
     → ((u : World) → HoldsPorts u w.device.ports → u.plant.net ≡ w.device.net.bytes
-    → EachAsked u.plant u.plant (client_after_tick w.device.moment u) v.sessions mid.sessions.items)
-    → mid.waiting.entries ≡ v.entries → DeliversAll mid new v.summary w.summary → w.sessions ≡ new.sessions.items → w.entries ≡ new.waiting.entries
+    → EachAsked u.plant u.plant (client_after_tick w.device.moment u) (skipped v.outlets ts) us)
+    → DeliversAll us zs v.outlets w.outlets v.summary w.summary → w.streams ≡ v.streams → w.sessions ≡ sessions_of zs
     → FollowsEach v w ws x (after_event x (event.Tick t))
-tick_follows v w waves ws x t mid new serves ticks steps asked entries delivers sessions new_entries =
+tick_follows v w waves ws x t ts us zs serves sessions ticks steps asked delivers streams new_sessions =
     let y = ticked t x in
+    let list = skipped v.outlets ts in
     let outcome : Outcomes = client_after_tick y.moment y.world in
     let device = ticked_device v.device w.device waves ws t x ticks steps serves.device in
     let moment : w.device.moment ≡ y.moment = device.moment in
     let each = asked y.world device.world.ports device.world.address.net_is in
-    let here : EachAsked x.state.world.plant y.world.plant outcome v.sessions mid.sessions.items =
-    subst (λ (p : Plant). EachAsked p y.world.plant outcome v.sessions mid.sessions.items) (tick_plant x.state.world)
-    (subst (λ (m : ℕ). EachAsked y.world.plant y.world.plant (client_after_tick m y.world) v.sessions mid.sessions.items) moment each) in
-    let all = all_follow v w v.summary waves ws x outcome y mid new serves here entries delivers sessions new_entries device refl in
+    let here : EachAsked x.state.world.plant y.world.plant outcome list us =
+    subst (λ (p : Plant). EachAsked p y.world.plant outcome list us) (tick_plant x.state.world)
+    (subst (λ (m : ℕ). EachAsked y.world.plant y.world.plant (client_after_tick m y.world) list us) moment each) in
+    let all = all_follow v w v.summary waves ws x outcome y ts us zs serves sessions here delivers streams new_sessions device refl in
     subst (λ (z : CoreState). FollowsEach v w ws x z) (sym (tick_is t x))
     (record { serves = all.serves; counted = counted_all outcome v.summary w.summary x.state y refl refl refl all.counted })
 
 -- the condition of the check, before it is known which state the core stands for
-pub tick_served : (v : ServerView) (device : Device) (waves : List Wave) (t : ℕ) (ts : List Turned)
-    → ServesSome v waves → TicksDevice v.device device waves t → ts ≡ v.sessions
-    → All (λ (u : Turned). u.skip ≡ false → IsServed device.ports u.session) ts
-tick_served v device waves t ts some ticks same =
+pub tick_served : (v : ServerView) (device : Device) (waves : List Wave) (t : ℕ) (ts us : List Turned)
+    → ServesSome v waves → v.sessions ≡ sessions_of ts → TicksDevice v.device device waves t → us ≡ skipped v.outlets ts
+    → All (λ (u : Turned). u.skip ≡ false → IsServed device.ports u.session) us
+tick_served v device waves t ts us some sessions ticks same =
     let s = some.serves in
     let x = some.state in
+    let plant = x.state.world.plant in
+    let ps = present x.state.connections in
+    let clients : EachClient plant (sessions_of ts) ps = subst (λ ss. EachClient plant ss ps) sessions s.clients in
     subst (λ (us : List Turned). All (λ (u : Turned). u.skip ≡ false → IsServed device.ports u.session) us) (sym same)
-    (served_each x.state.world.plant (world_after_tick x.state.world) device.ports v.sessions v.entries (present x.state.connections)
-    (ticked_ports v.device device waves t x.state ticks s.device) (tick_plant x.state.world) s.aligned s.connections.each)
+    (served_each plant (world_after_tick x.state.world) device.ports (skipped v.outlets ts) ps
+    (ticked_ports v.device device waves t x.state ticks s.device) (tick_plant x.state.world)
+    (marked_skipped plant v.outlets ts ps s.outlets.each clients)
+    (subst (λ ss. EachClient plant ss ps) (sym (sessions_skipped v.outlets ts)) clients))

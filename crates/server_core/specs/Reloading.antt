@@ -12,6 +12,7 @@ use Rattle.server_core.specs.declared.outcome.Outcome.{Outcome}
 use Rattle.server_core.specs.declared.outcome.Outcome.TheVariants.{ReloadOk, ReloadRefused}
 use Rattle.server_core.specs.declared.server.Server.{Server}
 use Rattle.server_core.specs.Served.{ServedState}
+use Rattle.server_core.specs.Columns.{skipped}
 use Rattle.server_core.specs.CoreState.{CoreState}
 use Rattle.server_core.specs.Asked.{EachAsked}
 use Rattle.server_core.specs.Delivering.{after_given}
@@ -47,9 +48,10 @@ pub record Exchanges (old new : Server) (d : Description) (version : ℕ) : Type
   pub device : (waves : List Wave) (x : CoreState) → ServesEach (view_of old) waves x → HoldsState new.device waves (reloaded d x)
   pub asked : (waves : List Wave) (x : CoreState) → ServesEach (view_of old) waves x
       → EachAsked x.state.world.plant (reloaded d x).world.plant (client_reloaded x.state.moment x.state.world (reloaded d x).world)
-      old.clients.sessions.items new.clients.sessions.items
+      (skipped old.clients.outlets old.clients.sessions.items) new.clients.sessions.items
   pub version_is : (waves : List Wave) (x : CoreState) → ServesEach (view_of old) waves x → version ≡ (reloaded d x).world.version
-  pub waiting : new.clients.waiting ≡ old.clients.waiting
+  pub outlets : new.clients.outlets ≡ old.clients.outlets
+  pub streams : new.clients.streams.items ≡ old.clients.streams.items
   pub summary : new.summary ≡ old.summary
   pub notes : new.notes ≡ old.notes
 

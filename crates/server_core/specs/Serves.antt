@@ -1,21 +1,20 @@
 -- A core stands for a state of the machine.
-use Rattle.std.specs.Prelude.{◌≡◌, ℕ, List, [], ◌∷◌, ◌≤◌, length, filter, is_some, true, false, Bool, Option, None, IsSomeAnd}
+use Rattle.std.specs.Prelude.{◌≡◌, ℕ, List, ◌≤◌, length, filter, is_some, true, false, Bool, Option, IsSomeAnd}
 use Rattle.signals.specs.Wave.{Wave}
 use Rattle.spec_plant.specs.World.{Plant}
+use Rattle.connections.specs.Carries.{Carries, EachBeside, EachStream}
+use Rattle.connections.specs.Outlets.{offer_among, run_among, offers_among}
 use Rattle.connections.specs.Present.{present}
 use Rattle.spec_machine.specs.Connection.{connection_of}
-use Rattle.spec_machine.specs.Offers.{is_among}
 use Rattle.spec_machine.specs.Summary.{summary_of}
-use Rattle.ads_served.specs.Opened.{AreApart}
 use Rattle.ads_served.specs.Standing.{Standing}
+use Rattle.session.specs.SessionState.{SessionState}
 use Rattle.server_core.specs.ServerView.{ServerView}
 use Rattle.server_core.specs.Served.{World, Client, ServedConnection}
-use Rattle.server_core.specs.Conns.{Conn, conns_of}
 use Rattle.server_core.specs.Counts.{counts_in}
-use Rattle.server_core.specs.ConnStands.{Stands}
 use Rattle.server_core.specs.HoldsWorld.{HoldsState}
 use Rattle.server_core.specs.CoreState.{CoreState}
-use Rattle.server_core.specs.Places.{offer_among, run_among, offers_among}
+use Rattle.server_core.specs.Stands.{IsClientOf}
 
 -- what a core is: what it serves, the waves of its signals, and whether memory was wanting
 pub record CoreView : Type 0 where
@@ -23,38 +22,16 @@ pub record CoreView : Type 0 where
   pub waves : List Wave
   pub failed : Bool
 
--- each connection that is there stands for the one of the machine in its place
-abbrev pub EachStands : Plant → List Conn → List ServedConnection → Type 0
-EachStands plant [] [] = Unit {0}
-EachStands plant [] (k ∷ ks) = ⊥
-EachStands plant (c ∷ cs) [] = ⊥
-EachStands plant (c ∷ cs) (k ∷ ks) = Stands plant c k × EachStands plant cs ks
+-- each session stands for the client of the connection in its place
+abbrev pub EachClient : Plant → List SessionState → List ServedConnection → Type 0
+EachClient plant sessions ks = EachBeside (IsClientOf plant) sessions ks
 
--- the marks of the code's connections are those of the list
-abbrev pub EachMarked : List ℕ → List Conn → Type 0
-EachMarked blocked [] = Unit {0}
-EachMarked blocked (c ∷ cs) = (c.blocked ≡ is_among c.number blocked) × EachMarked blocked cs
-
--- as many sessions as there are numbers
-abbrev pub AreAligned : ServerView → Type 0
-AreAligned v = length v.sessions ≡ length v.entries
-
-abbrev pub conns_in : ServerView → List Conn
-conns_in v = conns_of v.sessions v.entries
-
--- the code's connections stand for those of the machine that are there
-pub record StandsEach (plant : Plant) (conns : List Conn) (x : CoreState) : Type 0 where
-  pub each : EachStands plant conns (present x.state.connections)
-  pub apart : AreApart x.state.connections
-  pub marked : EachMarked x.blocked conns
-  -- whoever is blocked was opened
-  pub known : (n : ℕ) → connection_of n x.state.connections ≡ None → is_among n x.blocked ≡ false
-
--- all that is kept stands for a state
+-- all that is kept stands for a state: the outlets, and beside them the streams and the sessions, for its connections that are there
 pub record ServesEach (server : ServerView) (waves : List Wave) (x : CoreState) : Type 0 where
   pub device : HoldsState server.device waves x.state
-  pub aligned : AreAligned server
-  pub connections : StandsEach x.state.world.plant (conns_in server) x
+  pub outlets : Carries server.outlets x.blocked x.state.connections
+  pub streams : EachStream server.streams (present x.state.connections)
+  pub clients : EachClient x.state.world.plant server.sessions (present x.state.connections)
 
 -- and there is such a state
 pub record ServesSome (server : ServerView) (waves : List Wave) : Type 0 where
@@ -96,15 +73,15 @@ HasFailed core = core.failed ≡ true
 
 -- what the core offers to a connection
 abbrev pub offer_in : CoreView → ℕ → Option (List ℕ)
-offer_in core c = offer_among core.server.entries c
+offer_in core c = offer_among core.server.outlets c
 
 -- the frames that the core lends of a connection in one run
 abbrev pub run_in : CoreView → ℕ → Option (List (List ℕ))
-run_in core c = run_among core.server.entries c
+run_in core c = run_among core.server.outlets c
 
 -- how many offers are left to a connection at most
 abbrev pub offers_in : CoreView → ℕ → ℕ
-offers_in core c = offers_among core.server.entries c
+offers_in core c = offers_among core.server.outlets c
 
 -- at most as many bytes as are offered
 abbrev pub FitsOffer : ℕ → ℕ → CoreView → Type 0

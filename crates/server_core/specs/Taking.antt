@@ -1,17 +1,17 @@
 -- Frames are taken one after another. No public clause cites this file.
-use Rattle.std.specs.Prelude.{◌≡◌, List, [], ℕ, Bool, true, false}
-use Rattle.spec_plant.specs.World.{Plant}
-use Rattle.spec_machine.specs.Device.{Produced}
-use Rattle.spec_machine.specs.Connection.{produce}
+use Rattle.std.specs.Prelude.{◌≡◌, ◌+◌, List, ℕ, Bool, true, false, if◌then◌else◌}
 use Rattle.spec_machine.specs.Piece.{packets_left, after_packets, after_answer, with_client, end_of_piece}
-use Rattle.out_queue.specs.Open.{IsOpen, tail_of}
-use Rattle.out_queue.specs.declared.open_queue.OpenQueue.{OpenQueue}
+use Rattle.spec_machine.specs.Summary.{count_of}
+use Rattle.connections.specs.Outlets.{given, is_fitting}
+use Rattle.connections.specs.declared.outlet.Outlet.{Outlet}
 use Rattle.server_core.specs.declared.summary.Summary.{Summary}
 use Rattle.server_core.specs.declared.device.Device.{Device}
-use Rattle.server_core.specs.Served.{served, ServedConnection, ServedExchange}
-use Rattle.server_core.specs.Conns.{Conn}
-use Rattle.server_core.specs.Counts.{Counts}
-use Rattle.server_core.specs.ConnStands.{Stands, Goes}
+use Rattle.server_core.specs.Served.{served, ServedExchange}
+use Rattle.server_core.specs.Stands.{Conn, Goes}
+
+-- one more reply
+abbrev pub one_reply : Summary → Summary
+one_reply s = record s { replies = count_of (s.replies + 1) }
 
 -- a packet that was taken is answered
 abbrev pub answered : List ℕ → ServedExchange → ServedExchange
@@ -35,10 +35,10 @@ abbrev pub Takes : Bool → Conn → Device → Summary → Summary → ServedEx
 Takes true new device old_counts new_counts x = TakesSome new device old_counts new_counts x
 Takes false new device old_counts new_counts x = Goes new device old_counts new_counts x (settled x)
 
--- a frame that is produced: it waits and is counted, or the connection closes
-pub record Produces (plant : Plant) (new : Conn) (old_counts new_counts : Summary) (frame : Produced) (k : ServedConnection) : Type 0 where
-  pub stands : Stands plant new (produce frame k)
-  pub counted : Counts old_counts new_counts k (produce frame k)
+-- a reply waits and is counted, or closes the connection
+pub record Waits (frame : List ℕ) (old new : Outlet) (old_counts new_counts : Summary) : Type 0 where
+  pub outlet : new ≡ given frame old
+  pub counted : new_counts ≡ (if is_fitting frame old then one_reply old_counts else old_counts)
 
 -- only the ports of the device are others
 pub record KeepsDevice (old new : Device) : Type 0 where
@@ -46,8 +46,3 @@ pub record KeepsDevice (old new : Device) : Type 0 where
   pub admission : new.admission ≡ old.admission
   pub signals : new.signals ≡ old.signals
   pub moment : new.moment ≡ old.moment
-
--- a queue that is open, with nothing written behind its frames
-pub record IsClear (queue : OpenQueue) : Type 0 where
-  pub is_open : IsOpen queue
-  pub tail : tail_of queue ≡ []

@@ -2,7 +2,7 @@
 
 use crate::Core;
 use crate::sources::Sources;
-use ads_base::{ListOf, NoMemory};
+use ads_base::NoMemory;
 use ads_outside::Event;
 use ads_served::Served;
 use std::alloc::Global;
@@ -42,8 +42,8 @@ impl<S: Sources> Served for Core<S> {
         Ok(())
     }
 
-    fn due(&mut self, alloc: Global) -> Result<ListOf<u32>, NoMemory> {
-        self.due(alloc)
+    fn due(&mut self, alloc: Global, numbers: &mut Vec<u32>) -> Result<(), NoMemory> {
+        self.due(alloc, numbers)
     }
 
     fn offer_of(&self, conn: u32) -> Option<&[u8]> {
@@ -70,7 +70,7 @@ impl<S: Sources> Served for Core<S> {
         self.remove(conn);
     }
 
-    ghost apart = { λ m x s. s.serves.server.connections.apart };
+    ghost apart = { λ m x s. s.serves.server.outlets.apart };
 
     ghost opens_alone = { events_open_alone device.served };
 }

@@ -28,7 +28,7 @@ use crate::events::take_event;
 use crate::server::Server;
 use crate::sources::Sources;
 use crate::{Outcome, Profile, Summary};
-use ads_base::{ListOf, NoMemory};
+use ads_base::NoMemory;
 use ads_outside::{Event, ReloadNotes};
 use port_device::{Manner, Ports};
 use std::alloc::Global;
@@ -200,16 +200,17 @@ impl<S: Sources> Core<S> {
         self.server.end(conn);
     }
 
-    /// The numbers of the connections that have something to be offered or are to be shut, in the order of opening. It costs
-    /// what events touched since they were last served: one connection, but for a tick and a reload. After want of memory
-    /// `step` answers want of memory from then on.
-    pub fn due(&mut self, alloc: Global) -> Result<ListOf<u32>, NoMemory>
-        ensures due { IfOk result (λ numbers. (x : CoreState) → Serves self.new x → numbers ≡ filter (is_due x) (present_numbers x.state)) }
+    /// The numbers of the connections that have something to be offered or are to be shut, in the order of opening, in the room
+    /// of those of the turn before. It costs what events touched since they were last served: one connection, but for a tick and
+    /// a reload. After want of memory `step` answers want of memory from then on.
+    pub fn due(&mut self, alloc: Global, numbers: &mut Vec<u32>) -> Result<(), NoMemory>
+        ensures due { OnOk result ((x : CoreState) → Serves self.new x
+            → numbers.new.items ≡ filter (is_due x) (present_numbers x.state)) }
         ensures stays { OnOk result (self.new ≡ self.old) }
         ensures no_memory { OnErr result (HasFailed self.new) }
     {
-        match self.server.clients.due(alloc) {
-            Ok(numbers) => Ok(numbers),
+        match self.server.clients.outlets.due(alloc, numbers) {
+            Ok(()) => Ok(()),
             Err(NoMemory) => {
                 self.failed = true;
                 Err(NoMemory)

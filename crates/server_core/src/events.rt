@@ -4,7 +4,6 @@ ghost use Rattle.std.specs.Prelude.{IfOk};
 ghost use Rattle.server_core.specs.ServerView.{view_of};
 ghost use Rattle.server_core.specs.Serves.{ServesSome};
 ghost use Rattle.server_core.specs.Outcomes.{TakesEvent};
-ghost use Rattle.server_core.specs.Touched.{BeginsDue};
 
 use crate::Outcome;
 use crate::server::Server;
@@ -38,8 +37,7 @@ fn take_settled<T: Threads + Sync, S: Sources>(
     signals: &mut S,
     event: &Event,
 ) -> Result<Outcome, NoMemory>
-    requires serves { ServesSome (view_of server.old) (S.waves signals.old) }
-    requires settled { BeginsDue server.old.clients.touched server.old.clients.sessions.items server.old.clients.waiting.entries }
+    requires { ServesSome (view_of server.old) (S.waves signals.old) }
     ensures { IfOk result (TakesEvent (view_of server.old) (view_of server.new) (S.waves signals.old) (S.waves signals.new) event.now) }
 {
     match event {

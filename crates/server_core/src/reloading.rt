@@ -11,10 +11,11 @@ ghost use Rattle.server_core.specs.Outcomes.{TakesEvent};
 ghost use Rattle.server_core.specs.Reloading.{Refuses, Exchanges, Accepts, fault_note};
 
 use crate::Outcome;
+use crate::clients::skip_closing;
+use crate::delivering::deliver;
 use crate::device::Device;
 use crate::server::Server;
 use crate::telling::tell_all;
-use crate::touched::Touched;
 use ads_base::NoMemory;
 use ads_outside::ReloadNote;
 use net_routes::Admission;
@@ -56,7 +57,7 @@ impl Server {
         let numbers = ports.numbers(alloc)?;
         let others = self.device.admission.others();
         let admission = Admission::build(alloc, &d.routes, others)?;
-        self.clients.touched = Touched::All;
+        skip_closing(&self.clients.outlets, &mut self.clients.sessions);
         let sessions = self.clients.sessions.as_mut_slice();
         tell_all(
             alloc,
@@ -85,7 +86,12 @@ impl Server {
         let version = self.exchange(alloc, d)?;
         self.notes.push(alloc, ReloadNote::Ok(version))?;
         self.summary.count_accepted();
-        self.clients.deliver(alloc, &mut self.summary)?;
+        deliver(
+            alloc,
+            &mut self.clients.outlets,
+            &mut self.clients.sessions,
+            &mut self.summary,
+        )?;
         Ok(Outcome::ReloadOk(version))
     }
 }

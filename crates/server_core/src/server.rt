@@ -9,14 +9,15 @@ ghost use Rattle.ads_outside.specs.Wholes.{wholes};
 ghost use Rattle.spec_machine.specs.MachineState.{present_numbers};
 ghost use Rattle.out_queue.specs.Queue.{QUEUE_LIMIT};
 ghost use Rattle.server_core.specs.CoreState.{CoreState, after_event, after_move, after_moves, OpensNew, is_to_be_shut_at};
-ghost use Rattle.server_core.specs.Places.{offer_among, run_among, offers_among};
+ghost use Rattle.connections.specs.Outlets.{offer_among, run_among, offers_among};
 
 use crate::Summary;
 use crate::clients::Clients;
 use crate::device::Device;
-use crate::taking::take_piece;
+use crate::taking::take_fed;
 use ads_base::NoMemory;
 use ads_outside::ReloadNotes;
+use connections::remove_at;
 use std::alloc::Global;
 
 /// The device, the connections, and what is told of the run.
@@ -30,16 +31,13 @@ pub(crate) struct Server {
 
 impl Server {
     ghost use Rattle.server_core.specs.ServerView.{view_of};
-    ghost use Rattle.server_core.specs.Touched.{BeginsDue};
     ghost use Rattle.server_core.specs.Serves.{ServesEach, ServesSome, IsServing, FollowsEach};
 
     /// Connections that are idle by now are forgotten among those that were touched.
     pub(crate) fn settle(&mut self)
         ensures view { view_of self.new ≡ view_of self.old }
-        ensures notes { self.new.notes ≡ self.old.notes }
-        ensures begins { BeginsDue self.new.clients.touched self.new.clients.sessions.items self.new.clients.waiting.entries }
     {
-        self.clients.settle();
+        self.clients.outlets.settle();
     }
 
     /// A connection is opened; nothing changes where its number is there.
@@ -50,7 +48,7 @@ impl Server {
         ensures some { OnOk result ((waves : List Wave) → ServesSome (view_of self.old) waves → ServesSome (view_of self.new) waves) }
         ensures notes { self.new.notes ≡ self.old.notes }
     {
-        match self.clients.place_of(connection) {
+        match self.clients.outlets.place_of(connection) {
             Some(_) => Ok(()),
             None => {
                 self.clients.open(alloc, connection)?;
@@ -60,7 +58,7 @@ impl Server {
         }
     }
 
-    /// A piece of a connection comes in.
+    /// A piece of a connection comes in. Meanwhile its queue is out, open, so that each reply is written where it waits.
     pub(crate) fn piece(
         &mut self,
         alloc: Global,
@@ -72,20 +70,28 @@ impl Server {
             → FollowsEach (view_of self.old) (view_of self.new) waves x (after_event x (event.Piece connection bytes.now))) }
         ensures notes { self.new.notes ≡ self.old.notes }
     {
-        let Some(i) = self.clients.place_of(connection) else {
+        let Some(i) = self.clients.outlets.place_of(connection) else {
             return Ok(());
         };
-        self.clients.touched = self.clients.touched.with(i);
+        if self.clients.outlets.is_closing(i) {
+            return Ok(());
+        }
+        let mut queue = self.clients.outlets.open_queue(alloc, i)?;
+        let stream = &mut self.clients.streams[i];
         let turned = &mut self.clients.sessions[i];
-        let waiting = &mut self.clients.waiting[i];
-        take_piece(
+        let mut closes = false;
+        let taken = take_fed(
             alloc,
-            turned,
-            waiting,
+            stream,
+            &mut turned.session,
+            &mut queue,
+            &mut closes,
             &mut self.device,
             &mut self.summary,
             bytes,
-        )
+        );
+        self.clients.outlets.close_queue(i, queue, closes);
+        taken
     }
 
     /// A connection is writable.
@@ -94,11 +100,7 @@ impl Server {
             → FollowsEach (view_of self.old) (view_of self.new) waves x (after_event x (event.Writable connection)) }
         ensures notes { self.new.notes ≡ self.old.notes }
     {
-        if let Some(i) = self.clients.place_of(connection) {
-            self.clients.touched = self.clients.touched.with(i);
-            let waiting = &mut self.clients.waiting[i];
-            waiting.free();
-        }
+        self.clients.outlets.free(connection);
     }
 
     /// A connection is gone: it was closed, lost or shut.
@@ -107,81 +109,61 @@ impl Server {
             → FollowsEach (view_of self.old) (view_of self.new) waves x (after_event x (event.Closed connection)) }
         ensures notes { self.new.notes ≡ self.old.notes }
     {
-        if let Some(i) = self.clients.place_of(connection) {
-            self.clients.end_at(i);
+        if let Some(i) = self.clients.outlets.end(connection) {
+            remove_at(&mut self.clients.streams, i);
+            remove_at(&mut self.clients.sessions, i);
         }
     }
 
     /// The first n bytes of what was offered to a connection were taken.
     pub(crate) fn took(&mut self, connection: u32, n: u32)
-        requires { IsSomeAnd (offer_among self.old.clients.waiting.entries connection) (λ left. n ≤ length left) }
+        requires { IsSomeAnd (offer_among self.old.clients.outlets connection) (λ left. n ≤ length left) }
         ensures follows { (waves : List Wave) (x : CoreState) (left bytes : List ℕ) → ServesEach (view_of self.old) waves x
-            → offer_among self.old.clients.waiting.entries connection ≡ Some left → length bytes ≡ n
+            → offer_among self.old.clients.outlets connection ≡ Some left → length bytes ≡ n
             → FollowsEach (view_of self.old) (view_of self.new) waves x (after_move x (move.Took connection (length left) bytes)) }
-        ensures fewer { offers_among self.new.clients.waiting.entries connection < offers_among self.old.clients.waiting.entries connection }
+        ensures fewer { offers_among self.new.clients.outlets connection < offers_among self.old.clients.outlets connection }
         ensures notes { self.new.notes ≡ self.old.notes }
     {
-        if let Some(i) = self.clients.place_of(connection) {
-            self.clients.touched = self.clients.touched.with(i);
-            let waiting = &mut self.clients.waiting[i];
-            waiting.took(n);
-        }
+        self.clients.outlets.took(connection, n);
     }
 
     /// What is left of the first frame that waits for a connection, unless it is blocked.
     pub(crate) fn offer_of(&self, connection: u32) -> Option<&[u8]>
-        ensures offer { option_copied result ≡ offer_among self.now.clients.waiting.entries connection }
+        ensures offer { option_copied result ≡ offer_among self.now.clients.outlets connection }
         ensures bound { IfSome result (λ left. length left.now ≤ QUEUE_LIMIT) }
     {
-        let i = self.clients.place_of(connection)?;
-        let waiting = &self.clients.waiting[i];
-        if waiting.blocked {
-            return None;
-        }
-        waiting.out.front()
+        self.clients.outlets.offer_of(connection)
     }
 
     /// All frames that wait for a connection, one behind another, unless it is blocked.
     pub(crate) fn run_of(&self, connection: u32) -> Option<&[u8]>
-        ensures run { option_copied result ≡ option_map concat (run_among self.now.clients.waiting.entries connection) }
+        ensures run { option_copied result ≡ option_map concat (run_among self.now.clients.outlets connection) }
         ensures bound { IfSome result (λ run. length run.now ≤ QUEUE_LIMIT) }
     {
-        let i = self.clients.place_of(connection)?;
-        let waiting = &self.clients.waiting[i];
-        waiting.run()
+        self.clients.outlets.run_of(connection)
     }
 
     /// All frames that waited for a connection were taken whole.
     pub(crate) fn took_run(&mut self, connection: u32)
         ensures follows { (waves : List Wave) (x : CoreState) (frames : List (List ℕ)) → ServesEach (view_of self.old) waves x
-            → run_among self.old.clients.waiting.entries connection ≡ Some frames
+            → run_among self.old.clients.outlets connection ≡ Some frames
             → FollowsEach (view_of self.old) (view_of self.new) waves x (after_moves x (wholes connection frames)) }
         ensures notes { self.new.notes ≡ self.old.notes }
     {
-        if let Some(i) = self.clients.place_of(connection) {
-            self.clients.touched = self.clients.touched.with(i);
-            let waiting = &mut self.clients.waiting[i];
-            waiting.took_run();
-        }
+        self.clients.outlets.took_run(connection);
     }
 
     /// Whether a connection that is there is to be shut.
     pub(crate) fn closing(&self, connection: u32) -> bool
         ensures { (waves : List Wave) (x : CoreState) → ServesEach (view_of self.now) waves x → result ≡ is_to_be_shut_at connection x }
     {
-        let Some(i) = self.clients.place_of(connection) else {
-            return false;
-        };
-        match self.clients.sessions.get(i) {
-            Some(turned) => turned.skip,
-            None => false,
-        }
+        self.clients.outlets.is_to_be_shut(connection)
     }
 
     /// The number of the n-th connection that is there.
     pub(crate) fn connection(&self, n: usize) -> Option<u32>
         ensures { (waves : List Wave) (x : CoreState) → ServesEach (view_of self.now) waves x → result ≡ slice_get (present_numbers x.state) n }
     {
-        self.clients.connection_at(n)
+        self.clients.outlets.number_at(n)
     }
 }

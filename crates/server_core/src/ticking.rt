@@ -8,10 +8,11 @@ ghost use Rattle.server_core.specs.ServerView.{view_of};
 ghost use Rattle.server_core.specs.Serves.{ServesEach, ServesSome, FollowsEach};
 
 use crate::checking::check_all;
+use crate::clients::skip_closing;
+use crate::delivering::deliver;
 use crate::gate::OpenGate;
 use crate::server::Server;
 use crate::sources::Sources;
-use crate::touched::Touched;
 use crate::turned::Turned;
 use ads_base::NoMemory;
 use std::alloc::Global;
@@ -40,7 +41,7 @@ pub(crate) fn tick<T: Threads + Sync, S: Sources>(
 {
     signals.step_into(alloc, &mut server.device.ports);
     server.device.moment = later_of(server.device.moment, moment);
-    server.clients.touched = Touched::All;
+    skip_closing(&server.clients.outlets, &mut server.clients.sessions);
     let levels = levels_for(server.clients.sessions.as_slice(), server.device.moment);
     check_all(
         rt,
@@ -52,7 +53,12 @@ pub(crate) fn tick<T: Threads + Sync, S: Sources>(
         levels,
         &OpenGate,
     )?;
-    server.clients.deliver(alloc, &mut server.summary)
+    deliver(
+        alloc,
+        &mut server.clients.outlets,
+        &mut server.clients.sessions,
+        &mut server.summary,
+    )
 }
 
 // How often a list is halved: once where so many checks are due that a thread pays, else not at all.

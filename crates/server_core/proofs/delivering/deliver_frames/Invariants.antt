@@ -1,23 +1,11 @@
-use Rattle.std.proofs.Common.{◌≡◌, ℕ, length}
-use Rattle.std.specs.Prelude.{All, map, reverse}
-use Rattle.spec_plant.specs.World.{Plant}
-use Rattle.session.specs.NoteFrames.{produced_of, IsNoteFrame}
-use Rattle.server_core.specs.Served.{ServedConnection}
-use Rattle.server_core.specs.Conns.{conn_of}
-use Rattle.server_core.specs.ConnStands.{Stands}
-use Rattle.server_core.proofs.DeliverLemmas.{DeliversSome}
+use Rattle.std.proofs.Common.{◌≡◌, take}
+use Rattle.std.specs.Prelude.{Some}
+use Rattle.connections.specs.Outlets.{outlet_at}
+use Rattle.connections.specs.declared.outlet.Outlet.{Outlet}
+use Rattle.server_core.specs.Delivering.{DeliversAt, delivered_all}
 use Rattle.server_core.proofs.delivering.deliver_frames.Given as goal
 
--- the frames that are left stand from the last to the first
+-- the frames before this one are given
 abbrev pub invariant-loop-note : goal.invariant-loop-note
-invariant-loop-note l = record {
-  marks : l.waiting.blocked ≡ l.initial.waiting.blocked;
-  fit : All IsNoteFrame (reverse l.initial.rest.items) → All IsNoteFrame (reverse l.rest.items);
-  delivers : (plant : Plant) (n : ℕ) (k : ServedConnection)
-      → Stands plant (conn_of l.initial.turned (n, l.initial.waiting)) k → All IsNoteFrame (reverse l.initial.rest.items)
-      → DeliversSome plant (conn_of l.turned (n, l.waiting)) l.initial.summary l.summary
-      (map produced_of (reverse l.initial.rest.items)) (map produced_of (reverse l.rest.items)) k;
-}
-
-abbrev pub decreases-loop-note : goal.decreases-loop-note
-decreases-loop-note l = length l.rest.items
+invariant-loop-note l = (o : Outlet) → outlet_at l.initial.outlets l.i ≡ Some o
+    → DeliversAt l.i (delivered_all (take l.note-index l.frames) (o, l.initial.summary)) l.initial.outlets l.outlets l.summary

@@ -21,7 +21,7 @@ returns-in_ok-piece-in-Piece g c =
     subst (λ (e : Event). TakesEvent old new waves waves e Done) (sym c.in-Piece.is)
     (takes_plain old new waves waves (event.Piece c.in-Piece.connection c.in-Piece.bytes)
     (piece_plain c.in-Piece.connection c.in-Piece.bytes) (λ x s opens. follows x s) c.piece.ensures.notes
-    (event_some old new waves waves (event.Piece c.in-Piece.connection c.in-Piece.bytes) c.requires.serves follows))
+    (event_some old new waves waves (event.Piece c.in-Piece.connection c.in-Piece.bytes) c.requires follows))
 
 pub returns-in-Closed : goal.returns-in-Closed
 returns-in-Closed g c =
@@ -31,7 +31,7 @@ returns-in-Closed g c =
     let follows = c.end.ensures.follows waves in
     subst (λ (e : Event). TakesEvent old new waves waves e Done) (sym c.in-Closed.is)
     (takes_plain old new waves waves (event.Closed c.in-Closed.connection) (closed_plain c.in-Closed.connection) (λ x s opens. follows x s) c.end.ensures.notes
-    (event_some old new waves waves (event.Closed c.in-Closed.connection) c.requires.serves follows))
+    (event_some old new waves waves (event.Closed c.in-Closed.connection) c.requires follows))
 
 pub returns-in-Writable : goal.returns-in-Writable
 returns-in-Writable g c =
@@ -42,7 +42,7 @@ returns-in-Writable g c =
     subst (λ (e : Event). TakesEvent old new waves waves e Done) (sym c.in-Writable.is)
     (takes_plain old new waves waves (event.Writable c.in-Writable.connection)
     (writable_plain c.in-Writable.connection) (λ x s opens. follows x s) c.writable.ensures.notes
-    (event_some old new waves waves (event.Writable c.in-Writable.connection) c.requires.serves follows))
+    (event_some old new waves waves (event.Writable c.in-Writable.connection) c.requires follows))
 
 pub returns-in_ok-tick-in-Tick : goal.returns-in_ok-tick-in-Tick
 returns-in_ok-tick-in-Tick g c =
@@ -53,7 +53,7 @@ returns-in_ok-tick-in-Tick g c =
     let follows = c.in_ok-tick-in-Tick.ensures.follows in
     subst (λ (e : Event). TakesEvent old new waves ws e Done) (sym c.in-Tick.is)
     (takes_plain old new waves ws (event.Tick c.in-Tick.moment) (tick_plain c.in-Tick.moment) (λ x s opens. follows x s) c.tick.ensures.notes
-    (event_some old new waves ws (event.Tick c.in-Tick.moment) c.requires.serves follows))
+    (event_some old new waves ws (event.Tick c.in-Tick.moment) c.requires follows))
 
 pub returns-in-Reload : goal.returns-in-Reload
 returns-in-Reload g c =
@@ -61,5 +61,5 @@ returns-in-Reload g c =
     let old = view_of c.args.server.now in
     let new = view_of c.reload.new.self in
     if_ok c.reload.result (λ outcome takes. subst (λ (e : Event). TakesEvent old new waves waves e outcome) (sym c.in-Reload.is)
-    (subst (λ (bytes : List ℕ). TakesEvent old new waves waves (event.Reload bytes) outcome) c.as_slice-in-Reload.ensures (takes waves c.requires.serves)))
+    (subst (λ (bytes : List ℕ). TakesEvent old new waves waves (event.Reload bytes) outcome) c.as_slice-in-Reload.ensures (takes waves c.requires)))
     c.reload.ensures

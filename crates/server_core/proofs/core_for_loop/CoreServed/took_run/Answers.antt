@@ -1,7 +1,7 @@
 use Rattle.std.proofs.Common.{◌∙◌}
 use Rattle.spec_machine.specs.RunText.{notes_of_event}
 use Rattle.server_core.specs.Served.{served}
-use Rattle.server_core.proofs.RunLemmas.{stands_wholes}
+use Rattle.server_core.proofs.TookLemmas.{stands_wholes}
 use Rattle.server_core.proofs.core_for_loop.CoreServed.took_run.Goals as goal
 
 pub returns-clause-follows : goal.returns-clause-follows

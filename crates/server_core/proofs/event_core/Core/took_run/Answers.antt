@@ -5,7 +5,7 @@ use Rattle.server_core.specs.CoreState.{after_moves}
 use Rattle.server_core.specs.ServerView.{view_of}
 use Rattle.server_core.specs.Serves.{CoreView, Serves, Follows, run_in}
 use Rattle.server_core.proofs.CoreLemmas.{follows_core}
-use Rattle.server_core.proofs.RunLemmas.{run_some}
+use Rattle.server_core.proofs.TookLemmas.{run_some}
 use Rattle.server_core.proofs.event_core.Core.took_run.Goals as goal
 
 pub invariant_of-self : goal.invariant_of-self

@@ -11,4 +11,4 @@ pub returns : goal.returns
 returns c =
     accepts_all c.args.self.now c.exchange.new.self _ (description_of c.args.d.now)
     c.in_ok-version.version c.in_ok-version.ensures c.count_accepted.ensures c.in_ok-deliver.ensures
-    c.in_ok-push.ensures.ok refl
+    refl c.in_ok-push.ensures.ok refl
