@@ -15,8 +15,8 @@ returns-then-h-eq1 c =
     if_response c.args.packet.now (ams_header_of c.in-Some.h) _ _ _ c.in-Some.ensures.header
     c.if-h-packet.false c.if-h-eq1.true c.on_response.result c.on_response.ensures
 
-pub returns-then-h-eq8 : goal.returns-then-h-eq8
-returns-then-h-eq8 c =
+pub returns-then-h-eq-NOTIFICATION : goal.returns-then-h-eq-NOTIFICATION
+returns-then-h-eq-NOTIFICATION c =
     if_notification c.args.packet.now (ams_header_of c.in-Some.h) c.in-Some.payload.now _ _ _
     c.in-Some.ensures.payload c.in-Some.ensures.header c.if-h-packet.false c.if-h-eq1.false c.if-h-eq-NOTIFICATION.true
     c.on_notification.result c.on_notification.ensures
