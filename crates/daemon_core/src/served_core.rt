@@ -69,7 +69,7 @@ impl<S: Sources, B: Board + Drop> Served for PostedCore<S, B> {
         <Core<S> as Served>::remove(&mut self.core, conn);
     }
 
-    ghost apart = { λ m x s. s.serves.server.connections.apart };
+    ghost apart = { λ m x s. s.serves.server.outlets.apart };
 
     ghost opens_alone = { events_open_alone device.served };
 }
