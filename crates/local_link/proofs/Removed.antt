@@ -16,7 +16,7 @@ use Rattle.server_core.specs.Served.{ServedState, ServedConnection, served_step}
 use Rattle.connections.specs.Present.{present}
 use Rattle.connections.proofs.StateLemmas.{present-gone, present-there, connection_of-other, put_back-same, put_back-other}
 use Rattle.server_core.specs.Serves.{CoreView, Serves, without_gone}
-use Rattle.server_core.proofs.Forgotten.{none_present}
+use Rattle.connections.proofs.ForgottenLemmas.{none_present}
 use Rattle.local_link.specs.Link.{unblocked}
 
 forgotten : (n : ℕ) (l k : ServedConnection) (ks : List ServedConnection) → AreApart ks → connection_of n ks ≡ Some k → l.number ≡ n → l.gone ≡ true

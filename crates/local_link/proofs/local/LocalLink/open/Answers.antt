@@ -16,7 +16,7 @@ returns-clause-opened g c = record {
       let moment = c.moment-now.ensures ∙ here.moment in (
         moment,
         record {
-          core = opens_anew c.remove.new.self c.step.new.core s here.core.server.connections.apart
+          core = opens_anew c.remove.new.self c.step.new.core s here.core.server.outlets.apart
               shut.serves c.gone_connections_are_forgotten.ensures c.in_ok-step.ensures;
           moment = ap (λ (h : LinkHistory). h.moment) c.connect.ensures ∙ moment ∙ sym (opened_moment s);
         },
