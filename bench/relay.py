@@ -3,6 +3,7 @@
 
     python3 bench/relay.py PROGRAM [--quick]              1, 8 and 32 pairs of an asker and a target over loopback, each asker with 32 requests in flight, and with one
     python3 bench/relay.py PROGRAM --script [--quick]     frames of a script, with 2 to 1,000 connections
+    python3 bench/relay.py PROGRAM --instructions         the same by callgrind: what a frame costs with its line of the script and of the log, on a machine as busy as it likes
 
 PROGRAM is crates/ads/out/ads; gcc builds the C router and the load (bench/relay_client.c), which compares every byte that it is told. Over loopback each figure is the
 median of five turns, in which both routers come one after the other, and each ratio the median of the turns' ratios; with --quick of one short turn. With 32 pairs and 32 in
@@ -14,6 +15,7 @@ import contextlib
 import itertools
 import os
 import pathlib
+import re
 import resource
 import subprocess
 import sys
@@ -86,17 +88,37 @@ def scripted(program, quick):
         print(f"| {connections:,} | {cost:,.0f} | {cost / first:.2f} |", flush=True)
 
 
+def collected(program, text):
+    """The instructions of a run of a script."""
+    pathlib.Path("it.script").write_text(text)
+    words = ["valgrind", "--tool=callgrind", "--callgrind-out-file=/dev/null", program, "relay", "plant.toml", "it.script"]
+    said = subprocess.run(words, stdout=subprocess.DEVNULL, stderr=subprocess.PIPE, check=True, text=True).stderr
+    return int(re.search(r"Collected : (\d+)", said).group(1))
+
+
+def counted(program):
+    pathlib.Path("plant.toml").write_text(toml_of(described()))
+    print("| connections | instructions a frame |\n|---|---|")
+    for connections in (2, 8, 100):
+        more, fewer = (collected(program, script(connections, requests)) for requests in (4000, 1000))
+        print(f"| {connections:,} | {(more - fewer) / 6000:,.0f} |", flush=True)
+
+
 def main():
     it = argparse.ArgumentParser(description=__doc__, formatter_class=argparse.RawDescriptionHelpFormatter)
     it.add_argument("program", type=os.path.abspath)
     it.add_argument("--quick", action="store_true")
     it.add_argument("--script", action="store_true")
+    it.add_argument("--instructions", action="store_true")
     given = it.parse_args()
     print(f"{os.cpu_count()} processors, load average {os.getloadavg()[0]:.1f}\n")
     with contextlib.ExitStack() as stack:
-        if given.script:
+        if given.script or given.instructions:
             os.chdir(stack.enter_context(tempfile.TemporaryDirectory()))
-            scripted(given.program, given.quick)
+            if given.instructions:
+                counted(given.program)
+            else:
+                scripted(given.program, given.quick)
         else:
             loopback(Bench(stack, given.program, given.quick, "relay", described()))
 
