@@ -72,6 +72,7 @@ impl<R: Files + Alloc + Drop> Disk for RealDisk<R> {
                 self.file = Some(file);
                 DiskOpen::Ready(len)
             }
+            Err(error) if error.kind() == ErrorKind::OutOfMemory => DiskOpen::Memory,
             Err(_) => {
                 count(&mut self.faults);
                 DiskOpen::Failed
