@@ -32,9 +32,8 @@ use Rattle.spec_machine.specs.MoreActs.{type_act, states_reach, version_reach}
 use Rattle.spec_machine.proofs.MoreActs.{act-cases}
 use Rattle.spec_machine.specs.Requests.{MAX_WATCHED, MAX_WATCHES, mode_of, next_watch, add_watch, add_reached, add_of_reach, add_act}
 use Rattle.spec_machine.specs.Requests.{is_watch_of, delete_act, plain_act, act_of}
-use Rattle.spec_machine.specs.Sums.{SumRequest, sum_of_reads, sum_of_writes, sum_of_read_writes, given_in_turn}
-use Rattle.spec_machine.specs.MoreSums.{more_sums}
-use Rattle.spec_machine.specs.SumPackets.{acts_of, client_after_request, decide_parts, decide_read_write, decide_more, decide_request}
+use Rattle.spec_machine.specs.Sums.{SumRequest, given_in_turn}
+use Rattle.spec_machine.specs.SumPackets.{acts_of, client_after_request, known_sum, decide_parts, decide_read_write, decide_request}
 use Rattle.spec_machine.specs.WorldBytes.{AreAtPort}
 use Rattle.spec_machine.specs.Writes.{Asker, may_write, may_control, are_writable, is_releasable, write_act, release_act, write_group, control_act}
 use Rattle.spec_machine.proofs.AreaNames.{names_are_of_areas}
@@ -224,19 +223,12 @@ parts-at : (d : Setup) (c : Client) (k : Asker) (s : SumRequest) (o : Option ℕ
 parts-at d c k s (Some code) = (tt, tt)
 parts-at d c k s None = acts-at d c k s.parts
 
-group-sum-at : (d : Setup) (c : Client) (k : Asker) (g : Option Group) (r : Request) (n len : ℕ) (bytes : List ℕ)
-    → PutAllAt k.port.number (acts_in (decide_read_write d c k g r n len bytes))
-group-sum-at d c k (Some SumRead) r n len bytes = parts-at d c k (sum_of_reads n bytes) _
-group-sum-at d c k (Some SumWrite) r n len bytes = parts-at d c k (sum_of_writes n bytes) _
-group-sum-at d c k (Some SumReadWrite) r n len bytes = parts-at d c k (sum_of_read_writes n bytes) _
-group-sum-at d c k g r n len bytes = acts-at d c k (r ∷ [])
-
-more-at : (d : Setup) (c : Client) (k : Asker) (o : Option (ℕ → List ℕ → SumRequest)) (group n len : ℕ) (bytes : List ℕ)
-    → PutAllAt k.port.number (acts_in (decide_more d c k o group n len bytes))
-more-at d c k (Some sum) group n len bytes = parts-at d c k (sum n bytes) _
-more-at d c k None group n len bytes = group-sum-at d c k (answered_group READ_WRITE group) (ReadWrite group n len bytes) n len bytes
+read_write-at : (d : Setup) (c : Client) (k : Asker) (o : Option (ℕ → List ℕ → SumRequest)) (group n len : ℕ) (bytes : List ℕ)
+    → PutAllAt k.port.number (acts_in (decide_read_write d c k o group n len bytes))
+read_write-at d c k (Some sum) group n len bytes = parts-at d c k (sum n bytes) _
+read_write-at d c k None group n len bytes = acts-at d c k (ReadWrite group n len bytes ∷ [])
 
 pub request-at : (d : Setup) (c : Client) (k : Asker) (r : Request) → PutAllAt k.port.number (acts_in (decide_request d c k r))
 unfolding decide_request
-request-at d c k (ReadWrite group offset len bytes) = more-at d c k (more_sums d.profile group) group offset len bytes
+request-at d c k (ReadWrite group offset len bytes) = read_write-at d c k (known_sum d.profile group) group offset len bytes
 request-at d c k r = acts-at d c k (r ∷ [])

@@ -18,7 +18,7 @@ use Rattle.spec_frames.specs.Frame.{frame_bytes}
 use Rattle.spec_machine.specs.Answers.{is_answered, DEVICE_NOTIFICATION}
 use Rattle.spec_machine.specs.Client.{Client}
 use Rattle.spec_machine.specs.Decisions.{Decision, acts_in}
-use Rattle.spec_machine.specs.Packets.{Check, checked, checks_of, source_rights, decide, decide_header, decide_passed}
+use Rattle.spec_machine.specs.Packets.{Check, checked, checks_of, source_rights, question, question_of, decide, decide_header, decide_passed}
 use Rattle.spec_machine.specs.Replies.{response_packet, reply_payload}
 use Rattle.spec_machine.specs.SumPackets.{decide_request}
 use Rattle.spec_machine.specs.World.{World, setup_of, port_numbered}
@@ -82,11 +82,10 @@ plain-asked w c ams net admitted p port address is found =
     let command : h.command ≡ format.command_of r = sym is.payload.command_is in
     let own : PlantPort → plant.Rights → format.Request → Decision =
     λ x y z. decide_request d c (record { port = x; address = h.source; rights = y }) z in
-    let passed : decide_passed d c h.source (source_rights d h) (port_numbered h.target.port w.plant.ports) (format.request_of h.command payload)
-    ≡ own port (rights_of p.rights) r =
-    ap (λ x. decide_passed d c h.source x (port_numbered h.target.port w.plant.ports) (format.request_of h.command payload)) rights
-    ∙ ap (λ x. decide_passed d c h.source (Some (rights_of p.rights)) x (format.request_of h.command payload)) found
-    ∙ ap (λ x. decide_passed d c h.source (Some (rights_of p.rights)) (Some port) x) request in
+    let passed : decide_passed d c (question_of d h payload) ≡ own port (rights_of p.rights) r =
+    ap (λ x. decide_passed d c (question h.source x (port_numbered h.target.port w.plant.ports) (format.request_of h.command payload))) rights
+    ∙ ap (λ x. decide_passed d c (question h.source (Some (rights_of p.rights)) x (format.request_of h.command payload))) found
+    ∙ ap (λ x. decide_passed d c (question h.source (Some (rights_of p.rights)) (Some port) x)) request in
     record {
       found = found;
       command = is.payload.command_is;

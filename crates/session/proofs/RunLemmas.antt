@@ -1,6 +1,7 @@
 -- A request of a packet that is no sum is one act: its reply, and what it leaves.
 use Rattle.std.proofs.Common.{◌≡◌, ◌^◌, ◌<◌, ℕ, List, [], ◌∷◌, ◌++◌, true, false, inl, inr, refl, sym, ◌∙◌, ap, subst}
-use Rattle.std.specs.Prelude.{Bool, Option, Some, option_and_then, Result, Ok, Err, IfOk, OnOk, ◌==◌, ◌||◌, not, map, if◌then◌else◌}
+use Rattle.std.specs.Prelude.{Bool, Option, Some, None, option_and_then, Result, Ok, Err, IfOk, OnOk, ◌==◌, ◌||◌, not, map, if◌then◌else◌}
+use Rattle.std.specs.Option.{option_or}
 use Rattle.std.specs.Int.{w16, w32, to_le_bytes}
 use Rattle.std.proofs.lemmas.Bool.{cases_Bool, false≢true}
 use Rattle.std.proofs.lemmas.List.{append-nil}
@@ -30,8 +31,8 @@ use Rattle.notify_table.specs.Table.{WatchTable}
 use Rattle.spec_machine.specs.Decisions.{Decision, Perform, Single, acts_in}
 use Rattle.spec_machine.specs.Replies.{reply_payload, reply_in_forms, outcome_in_all}
 use Rattle.spec_machine.specs.Requests.{plain_act, act_of}
-use Rattle.spec_machine.specs.Sums.{given_in_turn}
-use Rattle.spec_machine.specs.SumPackets.{acts_of, decide_single, decide_read_write, decide_more, decide_request}
+use Rattle.spec_machine.specs.Sums.{SumRequest, given_in_turn}
+use Rattle.spec_machine.specs.SumPackets.{acts_of, sum_of_group, decide_single, decide_read_write, decide_request}
 use Rattle.spec_machine.specs.Writes.{Asker, may_control, control_act}
 use Rattle.spec_machine.specs.HandleLaws.{AgreeingWatches}
 use Rattle.spec_machine.specs.WatchedRanges.{is_same_watched}
@@ -93,12 +94,11 @@ abbrev pub IsSingleRequest : Asking → Request → Type 0
 IsSingleRequest a (ReadWrite group offset len bytes) = IsNoSum a.world.profile.manner group
 IsSingleRequest a r = Unit {0}
 
-no-sum : (d : Setup) (c : Client) (k : Asker) (g : Option Group) (r : Request) (n len : ℕ) (bytes : List ℕ) → is_sum g ≡ false
-    → decide_read_write d c k (option_and_then (if_answered READ_WRITE) g) r n len bytes ≡ decide_single d c k r
-no-sum d c k (Some SumRead) r n len bytes is = absurd (false≢true (sym is))
-no-sum d c k (Some SumWrite) r n len bytes is = absurd (false≢true (sym is))
-no-sum d c k (Some SumReadWrite) r n len bytes is = absurd (false≢true (sym is))
-no-sum d c k g r n len bytes is = refl
+no-sum : (g : Option Group) → is_sum g ≡ false → sum_of_group (option_and_then (if_answered READ_WRITE) g) ≡ None
+no-sum (Some SumRead) is = absurd (false≢true (sym is))
+no-sum (Some SumWrite) is = absurd (false≢true (sym is))
+no-sum (Some SumReadWrite) is = absurd (false≢true (sym is))
+no-sum g is = refl
 
 one-act : (a : Asking) (r : Request) → decide_single (setup_of a.world) a.client a.asker r ≡ Perform (act_asked a r ∷ []) Single
 unfolding acts_of given_in_turn
@@ -107,8 +107,10 @@ one-act a r = refl
 pub single-decision : (a : Asking) (r : Request) → IsSingleRequest a r → decision_of a r ≡ Perform (act_asked a r ∷ []) Single
 unfolding decide_request answered_group
 single-decision a (ReadWrite group offset len bytes) h =
-    ap (λ o. decide_more (setup_of a.world) a.client a.asker o group offset len bytes) h.no_more
-    ∙ no-sum (setup_of a.world) a.client a.asker (group_of group) (ReadWrite group offset len bytes) offset len bytes h.no_group
+    let decided : Option (ℕ → List ℕ → SumRequest) → Decision =
+    λ o. decide_read_write (setup_of a.world) a.client a.asker o group offset len bytes in
+    ap (λ o. decided (option_or o (sum_of_group (option_and_then (if_answered READ_WRITE) (group_of group))))) h.no_more
+    ∙ ap decided (no-sum (group_of group) h.no_group)
     ∙ one-act a (ReadWrite group offset len bytes)
 single-decision a r h = one-act a r
 

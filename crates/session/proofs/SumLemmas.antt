@@ -1,6 +1,7 @@
 -- A sum of a packet: its parts in turn are its acts in turn.
 use Rattle.std.proofs.Common.{◌≡◌, ◌+◌, ◌-◌, ◌≤◌, ℕ, List, [], ◌∷◌, ◌++◌, length, take, drop, refl, sym, ◌∙◌, ap, subst, inl, inr, arith, length-append}
 use Rattle.std.specs.Prelude.{Option, Some, None, Result, Ok, Err, OnOk, OnErr, IfOk}
+use Rattle.std.specs.Option.{option_or}
 use Rattle.std.specs.Int.{w32, to_le_bytes}
 use Rattle.return_codes.specs.declared.code.Code.{Code}
 use Rattle.return_codes.specs.Code.{number_of}
@@ -9,7 +10,7 @@ use Rattle.spec_formats.specs.Groups.{sum_read, sum_write, sum_read_write, group
 use Rattle.spec_formats.specs.Request.{Request, ReadWrite}
 use Rattle.spec_machine.specs.World.{setup_of}
 use Rattle.spec_machine.specs.Acts.{Act, Refusal, fixed_data, outcome_of, outcomes_of, memory_after_acts, client_after_acts}
-use Rattle.spec_machine.specs.Answers.{answered_group}
+use Rattle.spec_machine.specs.Answers.{answered_group, READ_WRITE}
 use Rattle.spec_machine.specs.Client.{client_after}
 use Rattle.spec_machine.specs.Decisions.{Decision, Perform, Sum, acts_in, refuse}
 use Rattle.spec_machine.specs.Replies.{reply_payload, outcome_in_all}
@@ -17,7 +18,7 @@ use Rattle.spec_machine.specs.Sums.{SumRequest, given_in_turn, left_in_turn, pac
 use Rattle.spec_machine.specs.Manner.{Manner}
 use Rattle.spec_machine.specs.MoreSums.{sum_delete, more_sums}
 use Rattle.spec_machine.proofs.MoreSums.{more_sums-none}
-use Rattle.spec_machine.specs.SumPackets.{acts_of, decide_parts, decide_more, decide_request}
+use Rattle.spec_machine.specs.SumPackets.{acts_of, sum_of_group, decide_parts, decide_read_write, decide_request}
 use Rattle.sum_commands.specs.Parts.{code_in}
 use Rattle.sum_commands.specs.Stops.{StopsAmong, Stops, Wants, Done}
 use Rattle.sum_commands.specs.SumCommand.{sum_of, refusal_in, refused_by, sum_reply, left_by_sum}
@@ -60,9 +61,11 @@ Decides a n len bytes g = decision_of a (ReadWrite g n len bytes)
     ≡ decide_parts (setup_of a.world) a.client a.asker (sum_of g n bytes) (refusal_in (sum_of g n bytes) n (length bytes) len)
 
 decided : (a : Asking) (g n len : ℕ) (bytes : List ℕ) (known : Option (ℕ → List ℕ → SumRequest)) → more_sums a.world.profile g ≡ known
-    → decision_of a (ReadWrite g n len bytes) ≡ decide_more (setup_of a.world) a.client a.asker known g n len bytes
+    → decision_of a (ReadWrite g n len bytes)
+    ≡ decide_read_write (setup_of a.world) a.client a.asker (option_or known (sum_of_group (answered_group READ_WRITE g))) g n len bytes
 unfolding decide_request
-decided a g n len bytes known is = ap (λ o. decide_more (setup_of a.world) a.client a.asker o g n len bytes) is
+decided a g n len bytes known is =
+    ap (λ o. decide_read_write (setup_of a.world) a.client a.asker (option_or o (sum_of_group (answered_group READ_WRITE g))) g n len bytes) is
 
 reads-decide : (a : Asking) (n len : ℕ) (bytes : List ℕ) → Decides a n len bytes sum_read
 unfolding answered_group group_of group_in

@@ -32,9 +32,8 @@ use Rattle.spec_machine.specs.Device.{Answer, Answered, FrameOutcome}
 use Rattle.spec_formats.specs.Groups.{Group, SumRead, SumWrite, SumReadWrite}
 use Rattle.spec_machine.specs.Packets.{decide}
 use Rattle.spec_machine.specs.Replies.{response_packet, reply_payload, answer_to, answer_of, performed, outcome_in_all}
-use Rattle.spec_machine.specs.Sums.{SumRequest, sum_of_reads, sum_of_writes, sum_of_read_writes}
-use Rattle.spec_machine.specs.MoreSums.{more_sums}
-use Rattle.spec_machine.specs.SumPackets.{decide_parts, decide_read_write, decide_more, decide_request}
+use Rattle.spec_machine.specs.Sums.{SumRequest}
+use Rattle.spec_machine.specs.SumPackets.{known_sum, decide_parts, decide_read_write, decide_request}
 use Rattle.spec_machine.specs.Writes.{Asker}
 use Rattle.port_device.specs.PortMemory.{PortMemory, PortsMemory, memory_numbered, with_port}
 use Rattle.port_device.specs.Holds.{HoldsPort, HoldsPorts, HoldsFound}
@@ -146,21 +145,14 @@ parts-perform : (d : Setup) (c : Client) (k : Asker) (s : SumRequest) (o : Optio
 parts-perform d c k s (Some code) = tt
 parts-perform d c k s None = tt
 
-group-performs : (d : Setup) (c : Client) (k : Asker) (g : Option Group) (r : Request) (n len : ℕ) (bytes : List ℕ)
-    → IsPerform (decide_read_write d c k g r n len bytes)
-group-performs d c k (Some SumRead) r n len bytes = parts-perform d c k (sum_of_reads n bytes) _
-group-performs d c k (Some SumWrite) r n len bytes = parts-perform d c k (sum_of_writes n bytes) _
-group-performs d c k (Some SumReadWrite) r n len bytes = parts-perform d c k (sum_of_read_writes n bytes) _
-group-performs d c k g r n len bytes = tt
-
-more-performs : (d : Setup) (c : Client) (k : Asker) (o : Option (ℕ → List ℕ → SumRequest)) (group n len : ℕ) (bytes : List ℕ)
-    → IsPerform (decide_more d c k o group n len bytes)
-more-performs d c k (Some sum) group n len bytes = parts-perform d c k (sum n bytes) _
-more-performs d c k None group n len bytes = group-performs d c k (answered_group READ_WRITE group) (ReadWrite group n len bytes) n len bytes
+read_write-performs : (d : Setup) (c : Client) (k : Asker) (o : Option (ℕ → List ℕ → SumRequest)) (group n len : ℕ) (bytes : List ℕ)
+    → IsPerform (decide_read_write d c k o group n len bytes)
+read_write-performs d c k (Some sum) group n len bytes = parts-perform d c k (sum n bytes) _
+read_write-performs d c k None group n len bytes = tt
 
 performs : (d : Setup) (c : Client) (k : Asker) (r : Request) → IsPerform (decide_request d c k r)
 unfolding decide_request
-performs d c k (ReadWrite group offset len bytes) = more-performs d c k (more_sums d.profile group) group offset len bytes
+performs d c k (ReadWrite group offset len bytes) = read_write-performs d c k (known_sum d.profile group) group offset len bytes
 performs d c k r = tt
 
 performed-answer : (h : AmsHeader) (d : Decision) (memory : List Block) → IsPerform d

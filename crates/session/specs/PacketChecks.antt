@@ -7,7 +7,7 @@ use Rattle.spec_formats.specs.Header.{AmsHeader, header_of, payload_of}
 use Rattle.spec_formats.specs.Request as format
 use Rattle.spec_machine.specs.Client.{Client}
 use Rattle.spec_machine.specs.Decisions.{NoAnswer, EndConnection, AmsError, refuse}
-use Rattle.spec_machine.specs.Packets.{checked, checks_of, source_rights, decide, decide_passed}
+use Rattle.spec_machine.specs.Packets.{checked, checks_of, question_of, decide, decide_passed}
 use Rattle.spec_machine.specs.SumPackets.{decide_request}
 use Rattle.spec_machine.specs.World.{World, setup_of, port_numbered}
 use Rattle.spec_machine.specs.Writes.{Asker}
@@ -21,9 +21,7 @@ use Rattle.session.specs.declared.examined.Examined.TheVariants as examined
 pub record HasPassed (n : ℕ) (w : World) (c : Client) (ams : List ℕ) (h : AmsHeader) : Type 0 where
   pub header : header_of ams ≡ Some h
   pub decision : decide (setup_of w) c ams
-      ≡ checked (drop n (checks_of (setup_of w) h (payload_of ams)))
-      (decide_passed (setup_of w) c h.source (source_rights (setup_of w) h)
-      (port_numbered h.target.port w.plant.ports) (format.request_of h.command (payload_of ams)))
+      ≡ checked (drop n (checks_of (setup_of w) h (payload_of ams))) (decide_passed (setup_of w) c (question_of (setup_of w) h (payload_of ams)))
 
 -- the request of a packet that passed the checks: what it leads to
 pub record IsAsked (w : World) (c : Client) (ams : List ℕ) (h : AmsHeader) (k : Asker) (r : format.Request) : Type 0 where

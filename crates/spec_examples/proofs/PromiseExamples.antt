@@ -64,7 +64,7 @@ use Rattle.spec_machine.specs.World.{World, setup_of}
 use Rattle.spec_machine.specs.Writes.{Asker}
 use Rattle.spec_laws.specs.Histories.{handle_history, handle_events_of_event}
 use Rattle.spec_server.specs.Server.{server_after_in}
-use Rattle.spec_promises.specs.Asked.{Asked, asked_in_turn, asked_of_move, asked_of_packets, outcome_of_asked, question_of, requests_of}
+use Rattle.spec_promises.specs.Asked.{Asked, asked_in_turn, asked_of_move, asked_of_packets, outcome_of_asked, requests_of}
 use Rattle.spec_promises.specs.KeptHandles.{HandlesAreHistoryIn, KeepsHandlesIn, read_by_handle}
 use Rattle.spec_promises.specs.Notified.{GivesAsAsked, IsByCycle, NotifiesAfterIn, TickSeen, life_of, watch_at}
 use Rattle.spec_promises.specs.Written.{ChangesByRequests, HoldsWritesIn, IsWritten}
@@ -148,7 +148,7 @@ unfolding ams_length_of is_header front_of packet_of behind_frame frames_from fr
     comment_behind entry_of_part numbers_from name_at names_at content_of projection_of acts_of_packets acts_of_move acts_of_log acts_by_others
     reply_in_forms outcome_in_all response_packet performed grouped frames_of_samples samples_at watches_after_tick reach_of outcomes_of memory_after_acts
     client_after_acts is_kept memory_after_reload world_after_reload client_reloaded answered_group after_packet after_packets after_piece read_group
-    acts_of decide_request decide digits handle_history handle_events_of_event asked_in_turn asked_of_move asked_of_packets question_of requests_of
+    acts_of decide_request decide digits handle_history handle_events_of_event asked_in_turn asked_of_move asked_of_packets requests_of
     text_verdict toml_on_literals is_utf8 chars
 move_rows = record {
   one_write = refl;
@@ -177,7 +177,7 @@ unfolding ams_length_of is_header front_of packet_of behind_frame frames_from fr
     comment_behind entry_of_part numbers_from name_at names_at content_of projection_of acts_of_packets acts_of_move acts_of_log acts_by_others
     reply_in_forms outcome_in_all response_packet performed grouped frames_of_samples samples_at watches_after_tick reach_of outcomes_of memory_after_acts
     client_after_acts is_kept memory_after_reload world_after_reload client_reloaded answered_group after_packet after_packets after_piece read_group
-    acts_of decide_request decide digits handle_history handle_events_of_event asked_in_turn asked_of_move asked_of_packets question_of requests_of
+    acts_of decide_request decide digits handle_history handle_events_of_event asked_in_turn asked_of_move asked_of_packets requests_of
     text_verdict toml_on_literals is_utf8 chars
 another_byte h = false≢true (ap (λ l. bytes_eq (take 4 l) (42 ∷ 0 ∷ 8 ∷ 8 ∷ [])) h.holds)
 
@@ -199,7 +199,7 @@ unfolding ams_length_of is_header front_of packet_of behind_frame frames_from fr
     comment_behind entry_of_part numbers_from name_at names_at content_of projection_of acts_of_packets acts_of_move acts_of_log acts_by_others
     reply_in_forms outcome_in_all response_packet performed grouped frames_of_samples samples_at watches_after_tick reach_of outcomes_of memory_after_acts
     client_after_acts is_kept memory_after_reload world_after_reload client_reloaded answered_group after_packet after_packets after_piece read_group
-    acts_of decide_request decide digits handle_history handle_events_of_event asked_in_turn asked_of_move asked_of_packets question_of requests_of
+    acts_of decide_request decide digits handle_history handle_events_of_event asked_in_turn asked_of_move asked_of_packets requests_of
     text_verdict toml_on_literals is_utf8 chars
 handle_rows = record {
   live = λ h. h 1 connection refl 1 851;

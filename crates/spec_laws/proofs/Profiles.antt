@@ -1,6 +1,7 @@
 -- The profile of every state, and what each profile makes of requests.
 use Rattle.std.proofs.Common.{◌≡◌, ℕ, List, [], ◌∷◌, length, refl, ◌∙◌, ap, arith, false, inl, inr}
 use Rattle.std.specs.Prelude.{Option, Some, None, Result, Ok, Err, min, nat_lt, unwrap_or}
+use Rattle.std.specs.Option.{option_or}
 use Rattle.std.proofs.lemmas.Bool.{cases_Bool, ltb-true}
 use Rattle.spec_plant.specs.Description.{Description}
 use Rattle.spec_plant.specs.Sizes.{type_size}
@@ -8,7 +9,6 @@ use Rattle.ads_outside.specs.declared.event.Event.{Event}
 use Rattle.ads_outside.specs.declared.event.Event.TheVariants as event
 use Rattle.ads_outside.specs.declared.moves.Move.{Move}
 use Rattle.ads_outside.specs.declared.moves.Move.TheVariants as move
-use Rattle.spec_formats.specs.Request.{ReadWrite}
 use Rattle.spec_formats.specs.Groups.{group_in, group_of}
 use Rattle.spec_machine.specs.Device.{DescriptionFault}
 use Rattle.spec_machine.specs.Connection.{Connection, connection_of}
@@ -26,8 +26,10 @@ use Rattle.spec_machine.specs.Reads.{read_group}
 use Rattle.spec_machine.specs.ByName.{read_write_group}
 use Rattle.spec_machine.specs.Meanings.{meant_by}
 use Rattle.spec_machine.specs.Requests.{plain_act, act_of}
+use Rattle.spec_machine.specs.Decisions.{Decision}
+use Rattle.spec_machine.specs.Sums.{SumRequest}
 use Rattle.spec_machine.specs.MoreSums.{sum_told_read, sum_short_read, sum_add, sum_delete, wide_sums, sums_in_manner}
-use Rattle.spec_machine.specs.SumPackets.{decide_read_write, decide_more, decide_request}
+use Rattle.spec_machine.specs.SumPackets.{sum_of_group, decide_read_write, decide_request}
 use Rattle.spec_machine.specs.Ticks.{world_after_tick}
 use Rattle.spec_machine.specs.Reloads.{world_after_reload}
 use Rattle.spec_machine.specs.AdsDevice.{DescriptionReading, reloading, ads_device, server_step}
@@ -118,18 +120,22 @@ pub wide_modes : WideModes
 unfolding act_of plain_act
 wide_modes d c k group offset len delay cycle wide = (rw wide refl, rw wide refl)
 
+-- what a ReadWrite is decided to be where these sums are known besides
+abbrev decided : Setup → Client → Asker → ℕ → ℕ → ℕ → List ℕ → Option (ℕ → List ℕ → SumRequest) → Decision
+decided d c k group offset len bytes o =
+    decide_read_write d c k (option_or o (sum_of_group (answered_group READ_WRITE group))) group offset len bytes
+
 more-strict : (d : Setup) (c : Client) (k : Asker) (group offset len : ℕ) (bytes : List ℕ) (x : Manner) → x ≡ Strict
-    → decide_more d c k (sums_in_manner x group) group offset len bytes
-    ≡ decide_read_write d c k (answered_group READ_WRITE group) (ReadWrite group offset len bytes) offset len bytes
-more-strict d c k group offset len bytes x strict = ap (λ (y : Manner). decide_more d c k (sums_in_manner y group) group offset len bytes) strict
+    → decided d c k group offset len bytes (sums_in_manner x group) ≡ decided d c k group offset len bytes None
+more-strict d c k group offset len bytes x strict = ap (λ (y : Manner). decided d c k group offset len bytes (sums_in_manner y group)) strict
 
 pub strict_sums : StrictSums
 unfolding decide_request
 strict_sums d c k group offset len bytes strict = more-strict d c k group offset len bytes d.profile.manner strict
 
 more-wide : (d : Setup) (c : Client) (k : Asker) (group offset len : ℕ) (bytes : List ℕ) (x : Manner) → x ≡ Wide
-    → decide_more d c k (sums_in_manner x group) group offset len bytes ≡ decide_more d c k (wide_sums group) group offset len bytes
-more-wide d c k group offset len bytes x wide = ap (λ (y : Manner). decide_more d c k (sums_in_manner y group) group offset len bytes) wide
+    → decided d c k group offset len bytes (sums_in_manner x group) ≡ decided d c k group offset len bytes (wide_sums group)
+more-wide d c k group offset len bytes x wide = ap (λ (y : Manner). decided d c k group offset len bytes (sums_in_manner y group)) wide
 
 pub wide_sums_are : WideSums
 unfolding decide_request

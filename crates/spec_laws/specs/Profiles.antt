@@ -23,7 +23,7 @@ use Rattle.spec_machine.specs.MoreActs.{type_by_text, type_act}
 use Rattle.spec_machine.specs.Requests.{plain_act, act_of}
 use Rattle.spec_machine.specs.Sums.{sum_of_told_reads, sum_of_short_reads, sum_of_additions, sum_of_deletions}
 use Rattle.spec_machine.specs.MoreSums.{sum_told_read, sum_short_read, sum_add, sum_delete}
-use Rattle.spec_machine.specs.SumPackets.{decide_sum, decide_read_write, decide_request}
+use Rattle.spec_machine.specs.SumPackets.{sum_of_group, decide_sum, decide_read_write, decide_request}
 use Rattle.spec_machine.specs.AdsDevice.{DescriptionReading, server_step}
 use Rattle.spec_laws.specs.Isolation.{start_in}
 
@@ -74,7 +74,7 @@ WideModes = (d : Setup) (c : Client) (k : Asker) (group offset len delay cycle :
 abbrev pub StrictSums : Type 0
 StrictSums = (d : Setup) (c : Client) (k : Asker) (group offset len : ℕ) (bytes : List ℕ) → d.profile.manner ≡ Strict
     → decide_request d c k (ReadWrite group offset len bytes)
-    ≡ decide_read_write d c k (answered_group READ_WRITE group) (ReadWrite group offset len bytes) offset len bytes
+    ≡ decide_read_write d c k (sum_of_group (answered_group READ_WRITE group)) group offset len bytes
 
 -- Where the server is wide, the sums of reads that tell their lengths are sums, filled or as long as their data is; so are
 -- additions and deletions of notifications.

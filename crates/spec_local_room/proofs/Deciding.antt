@@ -1,6 +1,7 @@
 -- What the server decides of a request of a call, and what its answer is read as.
 use Rattle.std.proofs.Common.{◌≡◌, ◌⊎◌, ℕ, zero, suc, ◌+◌, ◌<◌, ◌^◌, List, [], ◌∷◌, length, drop, Bool, true, false, not, refl, sym, ap, ◌∙◌, subst, inl, inr}
 use Rattle.std.proofs.Common.{arith}
+use Rattle.std.specs.Option.{option_or}
 use Rattle.std.specs.Prelude.{Option, Some, None, is_none, Result, Ok, Err, map, ◌==◌, ◌||◌, ◌/◌, ◌%◌, nat_le, nat_lt, bytes_eq, if◌then◌else◌, unwrap_or}
 use Rattle.std.specs.Int.{w32, to_le_bytes}
 use Rattle.std.proofs.lemmas.Bool.{cases_Bool, cond-true, cond-false, leb-false, eqb-true}
@@ -29,18 +30,17 @@ use Rattle.spec_machine.specs.Client.{Place, names_of_place, Client, client_afte
 use Rattle.spec_machine.specs.Decisions.{Decision, NoAnswer, EndConnection, AmsError, Perform, Single, refuse, acts_in}
 use Rattle.spec_machine.specs.Manner.{Manner}
 use Rattle.spec_machine.specs.Entries.{entry_of_part}
-use Rattle.spec_machine.specs.Packets.{Check, source_rights, checks_of, checked, decide_passed, decide_header}
+use Rattle.spec_machine.specs.Packets.{Check, source_rights, checks_of, checked, question, question_of, decide_passed, decide_header}
 use Rattle.spec_machine.specs.Reads.{fixed_reply}
 use Rattle.spec_machine.specs.Meanings.{mode_in, name_in, value_len_in}
 use Rattle.spec_machine.specs.Requests.{mode_of, MAX_WATCHES, next_watch, add_watch, add_reached, add_of_reach, add_act, plain_act, act_of}
 use Rattle.spec_machine.specs.Manner.{Manner}
 use Rattle.spec_machine.specs.MoreActs.{states_reach, version_reach, more_add}
 use Rattle.spec_machine.proofs.MoreActs.{of_more, add-more}
-use Rattle.spec_machine.specs.Sums.{SumRequest, sum_refusal, sum_of_reads, sum_of_writes, sum_of_read_writes, given_in_turn}
-use Rattle.spec_machine.specs.MoreSums.{more_sums}
+use Rattle.spec_machine.specs.Sums.{SumRequest, sum_refusal, given_in_turn}
 use Rattle.spec_machine.proofs.MoreSums.{more_sums-none}
 use Rattle.spec_machine.proofs.MoreActs.{more_read_write-none}
-use Rattle.spec_machine.specs.SumPackets.{acts_of, decide_parts, decide_read_write, decide_more, decide_request}
+use Rattle.spec_machine.specs.SumPackets.{acts_of, sum_of_group, known_sum, decide_parts, decide_read_write, decide_request}
 use Rattle.spec_machine.specs.Watches.{Watch, Mode}
 use Rattle.spec_machine.specs.World.{Setup, port_numbered, numbers_from, name_at, names_at, own_name, own_names, VERSION_AT}
 use Rattle.spec_machine.specs.Writes.{Asker}
@@ -74,27 +74,16 @@ replied_parts : (d : Setup) (c : Client) (k : Asker) (s : SumRequest) (o : Optio
 replied_parts d c k s None = tt
 replied_parts d c k s (Some code) = tt
 
-replied_read_write : (d : Setup) (c : Client) (k : Asker) (g : Option Group) (r : Request) (n len : ℕ) (bytes : List ℕ)
-    → IsReplied (decide_read_write d c k g r n len bytes)
-replied_read_write d c k (Some SumRead) r n len bytes =
-    let s = sum_of_reads n bytes in replied_parts d c k s (sum_refusal n s.data_len (length bytes) s.reply_len len)
-replied_read_write d c k (Some SumWrite) r n len bytes =
-    let s = sum_of_writes n bytes in replied_parts d c k s (sum_refusal n s.data_len (length bytes) s.reply_len len)
-replied_read_write d c k (Some SumReadWrite) r n len bytes =
-    let s = sum_of_read_writes n bytes in replied_parts d c k s (sum_refusal n s.data_len (length bytes) s.reply_len len)
-replied_read_write d c k g r n len bytes = tt
-
-replied_more : (d : Setup) (c : Client) (k : Asker) (o : Option (ℕ → List ℕ → SumRequest)) (group n len : ℕ) (bytes : List ℕ)
-    → IsReplied (decide_more d c k o group n len bytes)
-replied_more d c k (Some sum) group n len bytes =
+replied_read_write : (d : Setup) (c : Client) (k : Asker) (o : Option (ℕ → List ℕ → SumRequest)) (group n len : ℕ) (bytes : List ℕ)
+    → IsReplied (decide_read_write d c k o group n len bytes)
+replied_read_write d c k (Some sum) group n len bytes =
     let s = sum n bytes in replied_parts d c k s (sum_refusal n s.data_len (length bytes) s.reply_len len)
-replied_more d c k None group n len bytes =
-    replied_read_write d c k (answered_group READ_WRITE group) (request.ReadWrite group n len bytes) n len bytes
+replied_read_write d c k None group n len bytes = tt
 
 replied_request : (d : Setup) (c : Client) (k : Asker) (r : Request) → IsReplied (decide_request d c k r)
 unfolding decide_request
 replied_request d c k (request.ReadWrite group offset len bytes) =
-    replied_more d c k (more_sums d.profile group) group offset len bytes
+    replied_read_write d c k (known_sum d.profile group) group offset len bytes
 replied_request d c k r = tt
 
 -- who is answered: none where a check fails
@@ -120,7 +109,7 @@ passed_so : (P : Decision → Type 0) (d : Setup) (c : Client) (h : AmsHeader) (
     → (rights : Option Rights) (port : Option PlantPort) (r : Option Request)
     → port_numbered h.target.port d.plant.ports ≡ port → request_of h.command payload ≡ r
     → is_none rights ≡ false → h.target.net ≡ d.plant.net → is_none port ≡ false → is_none r ≡ false
-    → P (decide_passed d c h.source rights port r)
+    → P (decide_passed d c (question h.source rights port r))
 passed_so P d c h payload by None port r p q e net f g = absurd (true_false e)
 passed_so P d c h payload by (Some rights) None r p q e net f g = absurd (true_false f)
 passed_so P d c h payload by (Some rights) (Some port) None p q e net f g = absurd (true_false g)
@@ -137,7 +126,7 @@ decided P d c h payload error ends refused flags other by =
     let r = request_of h.command payload in
     let rights = source_rights d h in
     let response : (h.flags % 2 == 1) ≡ false = rw flags refl in
-    checked_holds P (checks_of d h payload) (decide_passed d c h.source rights port r) (
+    checked_holds P (checks_of d h payload) (decide_passed d c (question_of d h payload)) (
       (λ e. error invalid_ams_length (omega arith)),
       (
         (λ e. absurd (true_false (sym e ∙ response))),
@@ -214,8 +203,10 @@ entry_decided : (d : Setup) (c : Client) (k : Asker) (offset len : ℕ) (name : 
 unfolding decide_request
 entry_decided d c k offset len name =
     let r = request.ReadWrite 0xF009 offset len name in
-    ap (λ o. client_after_acts c (acts_in (decide_more d c k o 0xF009 offset len name))) (more_sums-none d.profile 0xF009 refl)
-    ∙ ap (λ g. client_after_acts c (acts_in (decide_read_write d c k g r offset len name))) entry_group
+    let left : Option (ℕ → List ℕ → SumRequest) → Option Group → Client =
+    λ o g. client_after_acts c (acts_in (decide_read_write d c k (option_or o (sum_of_group g)) 0xF009 offset len name)) in
+    ap (λ o. left o (answered_group READ_WRITE 0xF009)) (more_sums-none d.profile 0xF009 refl)
+    ∙ ap (left None) entry_group
     ∙ ap (client_after_acts c) (one_acts d c k r)
     ∙ one_act c (act_of d c k r) (entry_act d c k offset len name)
 

@@ -1,6 +1,7 @@
 -- What holds of each thing that a packet may lead to holds of what it does lead to.
 use Rattle.std.proofs.Common.{◌≡◌, ℕ, List, [], ◌∷◌, length, Bool, true, false, cond, refl}
 use Rattle.std.specs.Prelude.{Option, Some, None}
+use Rattle.std.specs.Option.{option_or}
 use Rattle.spec_plant.specs.Description.{Rights}
 use Rattle.spec_plant.specs.World.{PlantPort}
 use Rattle.spec_formats.specs.Codes.{target_port_not_found, target_machine_not_found, unknown_command_id, unknown_ams_command, invalid_ams_length, invalid_size}
@@ -16,8 +17,8 @@ use Rattle.spec_machine.specs.Writes.{Asker}
 use Rattle.spec_machine.specs.Sums.{SumRequest, sum_of_reads, sum_of_writes, sum_of_read_writes}
 use Rattle.spec_machine.specs.MoreSums.{more_sums}
 use Rattle.spec_machine.specs.Decisions.{Decision, NoAnswer, EndConnection, AmsError, refuse}
-use Rattle.spec_machine.specs.SumPackets.{decide_single, decide_sum, decide_read_write, decide_more, decide_request}
-use Rattle.spec_machine.specs.Packets.{Check, source_rights, checks_of, checked, decide_passed, decide_header, decide}
+use Rattle.spec_machine.specs.SumPackets.{sum_of_group, decide_single, decide_sum, decide_read_write, decide_request}
+use Rattle.spec_machine.specs.Packets.{Check, source_rights, checks_of, checked, question, decide_passed, decide_header, decide}
 
 -- it holds of each; requests are asked of a port that is there
 pub record EachCase (d : Setup) (c : Client) (P : Decision → Type 0) : Type 0 where
@@ -36,27 +37,26 @@ pub record EachCase (d : Setup) (c : Client) (P : Decision → Type 0) : Type 0 
       → (group : ℕ) (sum : ℕ → List ℕ → SumRequest) → more_sums d.profile group ≡ Some sum
       → (n len : ℕ) (bytes : List ℕ) → P (decide_sum d c k n (length bytes) len (sum n bytes))
 
+group-case : (d : Setup) (c : Client) (P : Decision → Type 0) → EachCase d c P
+    → (k : Asker) (number : ℕ) → port_numbered number d.plant.ports ≡ Some k.port
+    → (group n len : ℕ) (bytes : List ℕ) (g : Option Group) → P (decide_read_write d c k (sum_of_group g) group n len bytes)
+group-case d c P law k number e group n len bytes (Some SumRead) = law.reads k number e n len bytes
+group-case d c P law k number e group n len bytes (Some SumWrite) = law.writes k number e n len bytes
+group-case d c P law k number e group n len bytes (Some SumReadWrite) = law.read_writes k number e n len bytes
+group-case d c P law k number e group n len bytes g = law.single k number e (ReadWrite group n len bytes)
+
 read_write-case : (d : Setup) (c : Client) (P : Decision → Type 0) → EachCase d c P
     → (k : Asker) (number : ℕ) → port_numbered number d.plant.ports ≡ Some k.port
-    → (g : Option Group) (r : Request) (n len : ℕ) (bytes : List ℕ) → P (decide_read_write d c k g r n len bytes)
-read_write-case d c P law k number e (Some SumRead) r n len bytes = law.reads k number e n len bytes
-read_write-case d c P law k number e (Some SumWrite) r n len bytes = law.writes k number e n len bytes
-read_write-case d c P law k number e (Some SumReadWrite) r n len bytes = law.read_writes k number e n len bytes
-read_write-case d c P law k number e g r n len bytes = law.single k number e r
-
-more-case : (d : Setup) (c : Client) (P : Decision → Type 0) → EachCase d c P
-    → (k : Asker) (number : ℕ) → port_numbered number d.plant.ports ≡ Some k.port
     → (group n len : ℕ) (bytes : List ℕ) (o : Option (ℕ → List ℕ → SumRequest)) → more_sums d.profile group ≡ o
-    → P (decide_more d c k o group n len bytes)
-more-case d c P law k number e group n len bytes (Some sum) is = law.more k number e group sum is n len bytes
-more-case d c P law k number e group n len bytes None is =
-    read_write-case d c P law k number e (answered_group READ_WRITE group) (ReadWrite group n len bytes) n len bytes
+    → P (decide_read_write d c k (option_or o (sum_of_group (answered_group READ_WRITE group))) group n len bytes)
+read_write-case d c P law k number e group n len bytes (Some sum) is = law.more k number e group sum is n len bytes
+read_write-case d c P law k number e group n len bytes None is = group-case d c P law k number e group n len bytes (answered_group READ_WRITE group)
 
 request-case : (d : Setup) (c : Client) (P : Decision → Type 0) → EachCase d c P → (k : Asker) (number : ℕ) → port_numbered number d.plant.ports ≡ Some k.port
     → (r : Request) → P (decide_request d c k r)
 unfolding decide_request
 request-case d c P law k number e (ReadWrite group offset len bytes) =
-    more-case d c P law k number e group offset len bytes (more_sums d.profile group) refl
+    read_write-case d c P law k number e group offset len bytes (more_sums d.profile group) refl
 request-case d c P law k number e ReadDeviceInfo = law.single k number e ReadDeviceInfo
 request-case d c P law k number e (Read g o l) = law.single k number e (Read g o l)
 request-case d c P law k number e (Write g o b) = law.single k number e (Write g o b)
@@ -68,7 +68,7 @@ request-case d c P law k number e (DeviceNotification b) = law.single k number e
 
 passed-case : (d : Setup) (c : Client) (P : Decision → Type 0) → EachCase d c P
     → (source : AmsAddress) (number : ℕ) (rights : Option Rights) (port : Option PlantPort)
-    → port_numbered number d.plant.ports ≡ port → (request : Option Request) → P (decide_passed d c source rights port request)
+    → port_numbered number d.plant.ports ≡ port → (request : Option Request) → P (decide_passed d c (question source rights port request))
 passed-case d c P law source number (Some rights) (Some port) e (Some request) =
     request-case d c P law (record { port = port; address = source; rights = rights }) number e request
 passed-case d c P law source number (Some rights) (Some port) e None = law.silent

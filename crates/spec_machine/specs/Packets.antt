@@ -14,6 +14,7 @@ use Rattle.spec_machine.specs.GivenRights.{given_rights}
 use Rattle.spec_machine.specs.World.{Setup, port_numbered}
 use Rattle.spec_machine.specs.Client.{Client}
 use Rattle.spec_machine.specs.Answers.{is_answered, DEVICE_NOTIFICATION}
+use Rattle.spec_machine.specs.Writes.{Asker}
 use Rattle.spec_machine.specs.Decisions.{Decision, NoAnswer, EndConnection, AmsError, refuse}
 use Rattle.spec_machine.specs.SumPackets.{decide_request}
 
@@ -50,20 +51,29 @@ abbrev pub checked : List Check → Decision → Decision
 checked [] decision = decision
 checked (c ∷ cs) decision = if c.stops then c.leads_to else checked cs decision
 
--- the request of a packet that none stops, from a source with these rights to this port
-abbrev pub decide_passed : Setup → Client → AmsAddress → Option Rights → Option PlantPort
-    → Option Request → Decision
-decide_passed d c source (Some rights) (Some port) (Some request) =
-    decide_request d c (record { port = port; address = source; rights = rights }) request
-decide_passed d c source rights port request = NoAnswer
+-- what a packet asks that none stops: who asks, and the request
+pub record Question : Type 0 where
+  pub asker : Asker
+  pub request : Request
+
+-- from a source with these rights, to this port
+abbrev pub question : AmsAddress → Option Rights → Option PlantPort → Option Request → Option Question
+question source (Some rights) (Some port) (Some request) =
+    Some (record { asker = record { port = port; address = source; rights = rights }; request = request })
+question source rights port request = None
+
+abbrev pub question_of : Setup → AmsHeader → List ℕ → Option Question
+question_of d h payload =
+    question h.source (source_rights d h) (port_numbered h.target.port d.plant.ports) (request_of h.command payload)
+
+abbrev pub decide_passed : Setup → Client → Option Question → Decision
+decide_passed d c None = NoAnswer
+decide_passed d c (Some q) = decide_request d c q.asker q.request
 
 -- the packet of a frame has a header
 abbrev pub decide_header : Setup → Client → List ℕ → Option AmsHeader → Decision
 decide_header d c payload None = NoAnswer
-decide_header d c payload (Some h) =
-    checked (checks_of d h payload)
-    (decide_passed d c h.source (source_rights d h)
-    (port_numbered h.target.port d.plant.ports) (request_of h.command payload))
+decide_header d c payload (Some h) = checked (checks_of d h payload) (decide_passed d c (question_of d h payload))
 
 unfoldable pub decide : Setup → Client → List ℕ → Decision
 decide d c packet = decide_header d c (payload_of packet) (header_of packet)

@@ -49,7 +49,7 @@ use Rattle.spec_formats.specs.Request.{Request, Read, Write}
 use Rattle.spec_machine.specs.World.{World}
 use Rattle.spec_machine.specs.Client.{Client}
 use Rattle.spec_machine.specs.MachineState.{MachineState}
-use Rattle.spec_promises.specs.Asked.{Asked, asked_of_move, asked_of_packets, asked_in_turn, question_of, requests_of, names_written, Leads}
+use Rattle.spec_promises.specs.Asked.{Asked, asked_of_move, asked_of_packets, asked_in_turn, requests_of, names_written, Leads}
 use Rattle.spec_frames.proofs.Hex.{hex}
 use Rattle.spec_frames.specs.Frame.{frame_bytes}
 use Rattle.spec_machine.proofs.Plant.{q, packet_from, piece, opened, tick, start, step}
@@ -139,7 +139,7 @@ unfolding ams_length_of is_header front_of packet_of behind_frame frames_from fr
     acts_of_log acts_by_others reply_in_forms outcome_in_all response_packet performed grouped frames_of_samples samples_at watches_after_tick
     reach_of outcomes_of memory_after_acts client_after_acts is_kept memory_after_reload world_after_reload client_reloaded answered_group
     after_packet after_packets after_piece read_group acts_of decide_request decide digits
-    asked_of_move asked_of_packets asked_in_turn question_of requests_of
+    asked_of_move asked_of_packets asked_in_turn requests_of
 asked_rows = record {
   one = refl;
   in_order = refl;

@@ -1,13 +1,12 @@
 -- What the requests of a packet, of a piece and of a move leave is what the machine makes of it.
 use Rattle.std.proofs.Common.{◌≡◌, ℕ, List, [], ◌∷◌, ◌++◌, Bool, true, false, cond, refl, sym, ◌∙◌, ap, subst, inl, inr}
-use Rattle.std.specs.Prelude.{Option, Some, None}
+use Rattle.std.specs.Prelude.{Option, Some, None, is_none, if◌then◌else◌}
 use Rattle.std.specs.List.{list_any}
 use Rattle.std.proofs.lemmas.Bool.{cases_Bool, or_parts}
 use Rattle.std.proofs.lemmas.List.Concat.{flat_map-append}
 use Rattle.spec_plant.specs.Description.{Rights}
 use Rattle.spec_plant.specs.World.{PlantPort, Block}
 use Rattle.spec_formats.specs.Codes.{target_port_not_found, target_machine_not_found, unknown_command_id, unknown_ams_command, invalid_ams_length, invalid_size}
-use Rattle.spec_formats.specs.Groups.{Group, SumRead, SumWrite, SumReadWrite}
 use Rattle.spec_formats.specs.Header.{AmsAddress, AmsHeader, header_of, payload_of}
 use Rattle.spec_formats.specs.Request.{Request, ReadDeviceInfo, Read, Write, ReadState, WriteControl}
 use Rattle.spec_formats.specs.Request.{AddDeviceNotification, DeleteDeviceNotification, DeviceNotification, ReadWrite}
@@ -20,21 +19,18 @@ use Rattle.spec_machine.specs.Piece.{after_outcome, after_packet, after_packets,
 use Rattle.spec_machine.specs.World.{World, Setup, setup_of, port_numbered}
 use Rattle.spec_machine.specs.Client.{Client, client_after}
 use Rattle.spec_machine.specs.Acts.{Act, memory_after_acts, client_after_acts, writes_of_act, writes_of_acts}
-use Rattle.spec_machine.specs.Answers.{answered_group, READ_WRITE}
 use Rattle.spec_machine.specs.Writes.{Asker}
 use Rattle.spec_machine.specs.Requests.{act_of}
-use Rattle.spec_machine.specs.Sums.{SumRequest, sum_of_reads, sum_of_writes, sum_of_read_writes, given_in_turn}
-use Rattle.spec_machine.specs.MoreSums.{more_sums}
+use Rattle.spec_machine.specs.Sums.{SumRequest, given_in_turn}
 use Rattle.spec_machine.specs.SumLaws.{Party, party_after}
 use Rattle.spec_machine.specs.Decisions.{Decision, NoAnswer, EndConnection, AmsError, refuse, acts_in}
-use Rattle.spec_machine.specs.SumPackets.{acts_of, decide_parts, decide_read_write, decide_more, decide_request}
-use Rattle.spec_machine.specs.Packets.{Check, source_rights, checks_of, checked, decide_passed, decide_header, decide}
+use Rattle.spec_machine.specs.SumPackets.{acts_of, known_sum, decide_parts, decide_read_write, decide_request}
+use Rattle.spec_machine.specs.Packets.{Check, source_rights, checks_of, checked, question, question_of, decide_passed, decide_header, decide}
 use Rattle.spec_machine.specs.Replies.{performed}
 use Rattle.spec_machine.specs.Projection.{acts_of_packet, acts_of_packets, acts_of_piece, acts_at}
 use Rattle.spec_laws.proofs.Exchanges.{answer-client, rest-client}
-use Rattle.spec_promises.specs.Asked.{Asked, act_of_asked, after_asked, asked_in_turn, question, question_in}
-use Rattle.spec_promises.specs.Asked.{question_of, parts_unless, requests_in, requests_more, requests_of}
-use Rattle.spec_promises.specs.Asked.{asked_of_question, party_of, asked_of_packet, asked_of_packets, asked_of_piece, asked_at, names_written, Leads}
+use Rattle.spec_promises.specs.Asked.{Asked, act_of_asked, after_asked, asked_in_turn, requests_in, requests_of, asked_of_question, asked_of_header}
+use Rattle.spec_promises.specs.Asked.{party_of, asked_of_packet, asked_of_packets, asked_of_piece, asked_at, names_written, Leads}
 use Rattle.spec_server.specs.Server.{read_description, server_device}
 
 leads-append : (as_ bs : List Asked) (x y z : List Block) → Leads x as_ y → Leads y bs z → Leads x (as_ ++ bs) z
@@ -113,27 +109,20 @@ passed (c ∷ cs) x e =
     rw here (passed cs x (parts.1))
 
 parts : (d : Setup) (k : Asker) (p : Party) (s : SumRequest) (o : Option ℕ)
-    → Matches p (acts_in (decide_parts d p.client k s o)) (asked_in_turn d k p (parts_unless o s.parts))
-unfolding asked_in_turn
+    → Matches p (acts_in (decide_parts d p.client k s o)) (asked_in_turn d k p (if is_none o then s.parts else []))
+unfolding asked_in_turn given_in_turn
 parts d k p s (Some code) = (refused code).matches p
 parts d k p s None = in_turn d k s.parts p
 
-read_write : (d : Setup) (k : Asker) (p : Party) (g : Option Group) (r : Request) (n len : ℕ) (bytes : List ℕ)
-    → Matches p (acts_in (decide_read_write d p.client k g r n len bytes)) (asked_in_turn d k p (requests_in g r n len bytes))
-read_write d k p (Some SumRead) r n len bytes = parts d k p (sum_of_reads n bytes) _
-read_write d k p (Some SumWrite) r n len bytes = parts d k p (sum_of_writes n bytes) _
-read_write d k p (Some SumReadWrite) r n len bytes = parts d k p (sum_of_read_writes n bytes) _
-read_write d k p g r n len bytes = in_turn d k (r ∷ []) p
-
-more : (d : Setup) (k : Asker) (p : Party) (o : Option (ℕ → List ℕ → SumRequest)) (group n len : ℕ) (bytes : List ℕ)
-    → Matches p (acts_in (decide_more d p.client k o group n len bytes)) (asked_in_turn d k p (requests_more o group n len bytes))
-more d k p (Some sum) group n len bytes = parts d k p (sum n bytes) _
-more d k p None group n len bytes = read_write d k p (answered_group READ_WRITE group) (ReadWrite group n len bytes) n len bytes
+read_write : (d : Setup) (k : Asker) (p : Party) (o : Option (ℕ → List ℕ → SumRequest)) (group n len : ℕ) (bytes : List ℕ)
+    → Matches p (acts_in (decide_read_write d p.client k o group n len bytes)) (asked_in_turn d k p (requests_in o group n len bytes))
+read_write d k p (Some sum) group n len bytes = parts d k p (sum n bytes) _
+read_write d k p None group n len bytes = in_turn d k (ReadWrite group n len bytes ∷ []) p
 
 requests : (d : Setup) (k : Asker) (p : Party) (r : Request)
     → Matches p (acts_in (decide_request d p.client k r)) (asked_in_turn d k p (requests_of d.profile r))
 unfolding decide_request requests_of
-requests d k p (ReadWrite group offset len bytes) = more d k p (more_sums d.profile group) group offset len bytes
+requests d k p (ReadWrite group offset len bytes) = read_write d k p (known_sum d.profile group) group offset len bytes
 requests d k p ReadDeviceInfo = in_turn d k (ReadDeviceInfo ∷ []) p
 requests d k p (Read g o l) = in_turn d k (Read g o l ∷ []) p
 requests d k p (Write g o b) = in_turn d k (Write g o b ∷ []) p
@@ -144,14 +133,14 @@ requests d k p (DeleteDeviceNotification h) = in_turn d k (DeleteDeviceNotificat
 requests d k p (DeviceNotification b) = in_turn d k (DeviceNotification b ∷ []) p
 
 passed_on : (d : Setup) (p : Party) (source : AmsAddress) (rights : Option Rights) (port : Option PlantPort) (request : Option Request)
-    → Matches p (acts_in (decide_passed d p.client source rights port request)) (asked_of_question d p (question source rights port request))
+    → Matches p (acts_in (decide_passed d p.client (question source rights port request))) (asked_of_question d p (question source rights port request))
 passed_on d p source (Some rights) (Some port) (Some request) = requests d (record { port = port; address = source; rights = rights }) p request
 passed_on d p source (Some rights) (Some port) None = (no_acts NoAnswer refl).matches p
 passed_on d p source (Some rights) None request = (no_acts NoAnswer refl).matches p
 passed_on d p source None port request = (no_acts NoAnswer refl).matches p
 
 header : (d : Setup) (p : Party) (payload : List ℕ) (o : Option AmsHeader)
-    → Matches p (acts_in (decide_header d p.client payload o)) (asked_of_question d p (question_in d payload o))
+    → Matches p (acts_in (decide_header d p.client payload o)) (asked_of_header d p payload o)
 unfolding AllQuiet
 header d p payload None = (no_acts NoAnswer refl).matches p
 header d p payload (Some h) = go (list_any (λ (c : Check). c.stops) (checks_of d h payload)) refl
@@ -166,7 +155,7 @@ header d p payload (Some h) = go (list_any (λ (c : Check). c.stops) (checks_of 
     port = port_numbered h.target.port d.plant.ports
 
     decision : Decision
-    decision = decide_passed d p.client h.source rights port (request_of h.command payload)
+    decision = decide_passed d p.client (question_of d h payload)
 
     error : (code : ℕ) → Quiet (AmsError code)
     error code = no_acts (AmsError code) refl
@@ -194,15 +183,15 @@ header d p payload (Some h) = go (list_any (λ (c : Check). c.stops) (checks_of 
 
     go : (b : Bool) → list_any (λ (c : Check). c.stops) (checks_of d h payload) ≡ b
         → Matches p (acts_in (checked (checks_of d h payload) decision))
-        (asked_of_question d p (cond b None (question h.source rights port (request_of h.command payload))))
+        (cond b [] (asked_of_question d p (question_of d h payload)))
     go true e = (stopped (checks_of d h payload) decision quiet e).matches p
     go false e =
-        subst (λ x. Matches p (acts_in x) (asked_of_question d p (question h.source rights port (request_of h.command payload))))
+        subst (λ x. Matches p (acts_in x) (asked_of_question d p (question_of d h payload)))
         (sym (passed (checks_of d h payload) decision e)) (passed_on d p h.source rights port (request_of h.command payload))
 
 decision-matches : (d : Setup) (p : Party) (packet : List ℕ)
-    → Matches p (acts_in (decide d p.client packet)) (asked_of_question d p (question_of d packet))
-unfolding decide question_of
+    → Matches p (acts_in (decide d p.client packet)) (asked_of_header d p (payload_of packet) (header_of packet))
+unfolding decide
 decision-matches d p packet = header d p (payload_of packet) (header_of packet)
 
 -- requests lead from one exchange to another, and write the names that these acts write
@@ -223,11 +212,11 @@ packet-takes packet x = go x.connection.closing
     o = performed decision packet x.world x.connection.client
 
     asked : List Asked
-    asked = asked_of_question (setup_of x.world) (party_of x) (question_of (setup_of x.world) packet)
+    asked = asked_of_header (setup_of x.world) (party_of x) (payload_of packet) (header_of packet)
 
     go : (b : Bool) → Takes x (cond b x (after_outcome (performed decision packet x.world x.connection.client) x.connection))
         (cond b [] (acts_in decision))
-        (cond b [] (asked_of_question (setup_of x.world) (party_of x) (question_of (setup_of x.world) packet)))
+        (cond b [] (asked_of_header (setup_of x.world) (party_of x) (payload_of packet) (header_of packet)))
     go true = record { leads = refl; clients = refl; names = refl }
     go false =
         let m = decision-matches (setup_of x.world) (party_of x) packet in

@@ -31,7 +31,8 @@ use Rattle.spec_machine.specs.Writes.{Asker}
 use Rattle.spec_machine.specs.Requests.{act_of}
 use Rattle.spec_machine.specs.SumLaws.{Party, party_after}
 use Rattle.spec_machine.specs.Decisions.{Decision, acts_in}
-use Rattle.spec_machine.specs.Packets.{Check, source_rights, checks_of, decide}
+use Rattle.spec_machine.specs.Sums.{given_in_turn}
+use Rattle.spec_machine.specs.Packets.{Check, source_rights, checks_of, question, question_of, decide}
 use Rattle.spec_machine.specs.Replies.{performed}
 use Rattle.spec_machine.specs.Ticks.{signal_puts, world_after_tick}
 use Rattle.spec_machine.specs.Reloads.{next_version, world_after_reload}
@@ -46,8 +47,8 @@ use Rattle.spec_laws.proofs.FineActs.{IsAsked, act-fine}
 use Rattle.spec_laws.proofs.FineDecisions.{FitsPlant, acts-fit, decide-fine}
 use Rattle.spec_laws.proofs.FirstMemory.{IsNamed}
 use Rattle.spec_laws.proofs.Footprints.{each_both}
-use Rattle.spec_promises.specs.Asked.{Asked, asked_in_turn, question, question_in, question_of, requests_of}
-use Rattle.spec_promises.specs.Asked.{asked_of_question, party_of, asked_of_packet, asked_of_packets, asked_of_piece}
+use Rattle.spec_promises.specs.Asked.{Asked, asked_in_turn, requests_of}
+use Rattle.spec_promises.specs.Asked.{asked_of_question, asked_of_header, party_of, asked_of_packet, asked_of_packets, asked_of_piece}
 use Rattle.spec_promises.specs.Asked.{asked_at, asked_of_move}
 use Rattle.spec_server.specs.Server.{read_description, server_device, server}
 use Rattle.spec_server.proofs.ServerProofs.{reads_descriptions}
@@ -132,7 +133,7 @@ one-alike a m = acts-alike (a ∷ []) m
 in_turn-sees : (d : Setup) (k : Asker) → IsAsked d.plant k.port → (rs : List Request) (p : Party)
     → Alike p.memory (first_memory FIRST_VERSION d.plant) → FitsPlant d.plant p.client
     → Each Sees (asked_in_turn d k p rs)
-unfolding asked_in_turn client_after_acts
+unfolding asked_in_turn given_in_turn client_after_acts
 in_turn-sees d k i [] p m f = tt
 in_turn-sees d k i (r ∷ rs) p m f =
     let a = act_of d p.client k r in
@@ -156,12 +157,11 @@ passed-sees d p sound m f source (Some rights) number None e request = tt
 passed-sees d p sound m f source None number port e request = tt
 
 header-sees : (d : Setup) (p : Party) → IsSoundPlant d.plant → Alike p.memory (first_memory FIRST_VERSION d.plant) → FitsPlant d.plant p.client
-    → (payload : List ℕ) (o : Option AmsHeader) → Each Sees (asked_of_question d p (question_in d payload o))
+    → (payload : List ℕ) (o : Option AmsHeader) → Each Sees (asked_of_header d p payload o)
 header-sees d p sound m f payload None = tt
 header-sees d p sound m f payload (Some h) = go (list_any (λ (c : Check). c.stops) (checks_of d h payload))
   where
-    go : (b : Bool) → Each Sees (asked_of_question d p
-        (cond b None (question h.source (source_rights d h) (port_numbered h.target.port d.plant.ports) (request_of h.command payload))))
+    go : (b : Bool) → Each Sees (cond b [] (asked_of_question d p (question_of d h payload)))
     go true = tt
     go false = passed-sees d p sound m f h.source (source_rights d h) h.target.port (port_numbered h.target.port d.plant.ports) refl
         (request_of h.command payload)
@@ -173,10 +173,9 @@ record Fine (x : Exchange World Client) : Type 0 where
   client : FitsPlant x.world.plant x.connection.client
 
 packet-sees : (packet : List ℕ) (x : Exchange World Client) → Fine x → Each Sees (asked_of_packet packet x)
-unfolding question_of
 packet-sees packet x f = go x.connection.closing
   where
-    go : (b : Bool) → Each Sees (cond b [] (asked_of_question (setup_of x.world) (party_of x) (question_of (setup_of x.world) packet)))
+    go : (b : Bool) → Each Sees (cond b [] (asked_of_header (setup_of x.world) (party_of x) (payload_of packet) (header_of packet)))
     go true = tt
     go false = header-sees (setup_of x.world) (party_of x) f.sound f.memory f.client (payload_of packet) (header_of packet)
 
