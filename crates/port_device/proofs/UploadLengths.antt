@@ -1,15 +1,9 @@
--- How many bytes the upload of symbols has, and which symbols the rows of a table are.
+-- How many bytes an entry has, and which symbols the rows of a table are.
 use Rattle.std.proofs.Common.{◌≡◌, ℕ, List, [], ◌∷◌, map, length, refl, ◌∙◌, ap, arith}
-use Rattle.std.proofs.lemmas.List.{length-append}
-use Rattle.std.proofs.lemmas.List.Sums.{sum_by-cons}
 use Rattle.spec_plant.specs.Listed.{NamedType}
 use Rattle.spec_plant.specs.Description.{Symbol}
-use Rattle.spec_plant.specs.World.{plant_symbol}
-use Rattle.spec_plant.specs.Entries.{symbol_entry_length, upload_size}
-use Rattle.spec_formats.specs.SymbolEntry.{SymbolEntry, entry_len, entry_bytes, upload_bytes}
+use Rattle.spec_formats.specs.SymbolEntry.{SymbolEntry, entry_len, entry_bytes}
 use Rattle.spec_formats.proofs.EntryLemmas.{length-entry_fields}
-use Rattle.spec_machine.specs.Manner.{Manner}
-use Rattle.spec_machine.specs.Entries.{entry_of_symbol}
 use Rattle.std.specs.Prelude.{Result, Ok, Err, IfOk}
 use Rattle.ads_base.specs.declared.no_memory.NoMemory.{NoMemory}
 use Rattle.spec_plant.specs.Description.{Port}
@@ -20,19 +14,6 @@ use Rattle.port_device.specs.Uploads.{described}
 
 pub length-entry_bytes : (e : SymbolEntry) → length (entry_bytes e) ≡ entry_len e
 length-entry_bytes e = let fields = length-entry_fields e in omega (arith, fields)
-
-length-entry : (x : Manner) (types : List NamedType) (s : Symbol) → length (entry_bytes (entry_of_symbol x (plant_symbol types s))) ≡ symbol_entry_length types s
-length-entry x types s = let e = length-entry_fields (entry_of_symbol x (plant_symbol types s)) in omega (arith, e)
-
-pub length-upload : (x : Manner) (types : List NamedType) (ss : List Symbol)
-    → length (upload_bytes (map (entry_of_symbol x) (map (plant_symbol types) ss))) ≡ upload_size types ss
-length-upload x types [] = refl
-length-upload x types (s ∷ ss) =
-    let one = length-entry x types s in
-    let rest = length-upload x types ss in
-    let all = length-append (entry_bytes (entry_of_symbol x (plant_symbol types s))) (upload_bytes (map (entry_of_symbol x) (map (plant_symbol types) ss))) in
-    let sum = sum_by-cons (symbol_entry_length types) s ss in
-    omega (arith, one, rest, all, sum)
 
 -- the rows of a table
 

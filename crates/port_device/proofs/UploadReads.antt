@@ -28,7 +28,8 @@ use Rattle.port_device.specs.Answers.{AnswersAct}
 use Rattle.port_device.specs.Uploads.{upload_act, described, symbols_upload, types_upload}
 use Rattle.port_device.proofs.GroupLemmas.{is_false}
 use Rattle.port_device.proofs.ReadLemmas.{answers_along}
-use Rattle.port_device.proofs.UploadLengths.{described_symbols, length-upload}
+use Rattle.spec_laws.proofs.Modest.{length-upload}
+use Rattle.port_device.proofs.UploadLengths.{described_symbols}
 use Rattle.index_groups.specs.declared.groups.UploadGroup.{UploadGroup}
 use Rattle.index_groups.specs.declared.groups.UploadGroup.TheVariants.{Symbols, Info, Types, InfoWithTypes}
 use Rattle.index_groups.specs.Groups.{upload_meant}

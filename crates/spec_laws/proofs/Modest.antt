@@ -63,15 +63,15 @@ abbrev pub IsModestPlant : Plant → Type 0
 IsModestPlant plant = Each IsModestPort plant.ports
 
 -- the upload has the size that is accepted
-entry-len : (x : Manner) (types : List NamedType) (s : Symbol) → length (entry_bytes (entry_of_symbol x (plant_symbol types s))) ≡ symbol_entry_length types s
-entry-len x types s = let e = length-entry_fields (entry_of_symbol x (plant_symbol types s)) in omega (arith, e)
+length-entry : (x : Manner) (types : List NamedType) (s : Symbol) → length (entry_bytes (entry_of_symbol x (plant_symbol types s))) ≡ symbol_entry_length types s
+length-entry x types s = let e = length-entry_fields (entry_of_symbol x (plant_symbol types s)) in omega (arith, e)
 
-upload-len : (x : Manner) (types : List NamedType) (ss : List Symbol)
+pub length-upload : (x : Manner) (types : List NamedType) (ss : List Symbol)
     → length (upload_bytes (map (entry_of_symbol x) (map (plant_symbol types) ss))) ≡ upload_size types ss
-upload-len x types [] = refl
-upload-len x types (s ∷ ss) =
-    let one = entry-len x types s in
-    let rest = upload-len x types ss in
+length-upload x types [] = refl
+length-upload x types (s ∷ ss) =
+    let one = length-entry x types s in
+    let rest = length-upload x types ss in
     let all = length-append (entry_bytes (entry_of_symbol x (plant_symbol types s))) (upload_bytes (map (entry_of_symbol x) (map (plant_symbol types) ss))) in
     let sum = sum_by-cons (symbol_entry_length types) s ss in
     omega (arith, one, rest, all, sum)
@@ -123,7 +123,7 @@ port-modest types a signals p e =
     let most = leb-true (upload_size types p.symbols) 2000000 (fine.2) in
     record {
       facts = facts-name p.facts (fine.0);
-      upload = λ x. let len = upload-len x types p.symbols in omega (arith, len, most);
+      upload = λ x. let len = length-upload x types p.symbols in omega (arith, len, most);
       symbols = symbols-modest types a p.sizes signals p.symbols (fine.1);
     }
   where

@@ -1,9 +1,9 @@
 -- The type at a place of a list, as a text names it.
 use Rattle.std.proofs.Common.{◌≡◌, ℕ, Bool, true, false, cond, List, refl}
-use Rattle.std.specs.Prelude.{Option, Some, slice_get}
+use Rattle.std.specs.Prelude.{Some, slice_get}
 use Rattle.std.specs.Option.{option_map_or}
 use Rattle.spec_plant.specs.Listed.{Struct, Enum, NamedType, Structure, Enumeration, is_structure}
-use Rattle.spec_plant.specs.Trees.{TypeTree, elem_tree, tree_at, trees_of}
+use Rattle.spec_plant.specs.Trees.{elem_tree, tree_at, trees_of}
 use Rattle.spec_plant.specs.AcceptedTypes.{AreTypes}
 use Rattle.spec_plant.specs.Shapes.{elem_at}
 use Rattle.spec_plant.proofs.TypeLemmas.{stands_at}
