@@ -88,7 +88,8 @@ named_value w c p len name place answer old new (Some led) e finds read =
     (read named finds)
 
 pub unknown_value : (w : World) (c : client.Client) (p : PlantPort) (len : ℕ) (name : List ℕ) (code : Code) (out : List ℕ) (o : Option plant.Found)
-    → found_of p.symbols name ≡ o → FindsPlace w p o (Err code) → AnswersAct w (read_write_group (setup_of w) c p (Some ValueByName) len name) (Err code) out out
+    → found_of p.symbols name ≡ o → FindsPlace w p o (Err code)
+    → AnswersAct w (read_write_group (setup_of w) c p (Some ValueByName) len name) (Err code) out out
 unfolding read_write_group
 unknown_value w c p len name code out None e finds =
     refusal_answers w (if_found (found_of p.symbols name) (λ f. value_act p len (place_of f))) code out
@@ -146,7 +147,8 @@ info_found w c p types len name old new found (Some led) h e finds put =
 pub entry_asked : (s : Setup) (c : client.Client) (p : PlantPort) (path : List Step) (len : ℕ) (name : List ℕ) → steps_of (plant.without_nul name) ≡ Some path
     → read_write_group s c p (Some ExtendedInfoByName) len name ≡ path_entry_act s.profile.manner p path len
 unfolding read_write_group
-entry_asked s c p path len name e = sym (ap (λ o. if_found o (λ f. fixed_reply len (entry_bytes (entry_of_part s.profile.manner f)))) (found_by_path p.symbols name path e))
+entry_asked s c p path len name e =
+    sym (ap (λ o. if_found o (λ f. fixed_reply len (entry_bytes (entry_of_part s.profile.manner f)))) (found_by_path p.symbols name path e))
 
 pub entry_unknown : (w : World) (c : client.Client) (p : PlantPort) (len : ℕ) (name out : List ℕ) → steps_of (plant.without_nul name) ≡ None
     → AnswersAct w (read_write_group (setup_of w) c p (Some ExtendedInfoByName) len name) (Err C710) out out

@@ -57,7 +57,8 @@ each_of_built d types may e k x u =
     there (p ∷ ps) (suc i) h = there ps i (omega (arith, h))
 
 -- the bytes of one of them
-first-bytes : (d : Description) (types : List NamedType) (version : ℕ) (manner : Manner) (port : Port) (m : PortMemory) → IsSoundPlant (plant_of d) → d.types ≡ types
+first-bytes : (d : Description) (types : List NamedType) (version : ℕ) (manner : Manner) (port : Port) (m : PortMemory)
+    → IsSoundPlant (plant_of d) → d.types ≡ types
     → IsSoundPort (plant_of d).ports (plant_port types port) → IsFirstPort types port version manner m
     → Holds (first_memory version (plant_of d)) (plant_port types port) m.bytes
 first-bytes d types version manner port m sound e p first =
@@ -69,8 +70,8 @@ first-bytes d types version manner port m sound e p first =
     subst (Holds (first_memory version (plant_of d)) (plant_port types port)) same held
 
 -- each holds its port
-first_each : (profile : Profile) (d : Description) (waves : List Wave) (types : List NamedType) (ps : List Port) (ms : List PortMemory) → IsSoundPlant (plant_of d)
-    → d.types ≡ types
+first_each : (profile : Profile) (d : Description) (waves : List Wave) (types : List NamedType) (ps : List Port) (ms : List PortMemory)
+    → IsSoundPlant (plant_of d) → d.types ≡ types
     → Each (IsSoundPort (plant_of d).ports) (map (plant_port types) ps) → AreFirstPorts types 1 profile.manner ps ms
     → HoldEach (world_in profile d waves) (map (plant_port types) ps) ms
 first_each profile d waves types [] [] sound e ports first = tt
@@ -94,8 +95,9 @@ first_each profile d waves types (p ∷ ps) (m ∷ ms) sound e ports first =
       first_each profile d waves types ps ms sound e (ports.1) (first.1),
     )
 
-pub first_ports_hold : (profile : Profile) (d : Description) (waves : List Wave) (types : List NamedType) (ms : List PortMemory) → MayBeBuilt d → d.types ≡ types
-    → AreFirstPorts types 1 profile.manner d.ports ms → HoldsPorts (world_in profile d waves) (record { types = types; version = 1; manner = profile.manner; ports = ms })
+pub first_ports_hold : (profile : Profile) (d : Description) (waves : List Wave) (types : List NamedType) (ms : List PortMemory)
+    → MayBeBuilt d → d.types ≡ types → AreFirstPorts types 1 profile.manner d.ports ms
+    → HoldsPorts (world_in profile d waves) (record { types = types; version = 1; manner = profile.manner; ports = ms })
 first_ports_hold profile d waves types ms may e first =
     let sound = begun_is_sound d may.signals may.is in
     let P : List NamedType → Type 0 = λ ts. HoldEach (world_in profile d waves) (map (plant_port ts) d.ports) ms in

@@ -38,7 +38,8 @@ use Rattle.port_device.proofs.PartTexts.{found_short}
 use Rattle.port_device.proofs.ReadLemmas.{answers_along}
 
 -- what was written of what was found: its name, the text of its type, and an entry with these
-pub record IsWritten (x : Manner) (types : List NamedType) (table : SymbolTable) (path : List Step) (found : Found) (name kind : List ℕ) (e : Entry) : Type 0 where
+pub record IsWritten (x : Manner) (types : List NamedType) (table : SymbolTable) (path : List Step) (found : Found)
+    (name kind : List ℕ) (e : Entry) : Type 0 where
   pub name_is : PutsName types table path found.place.symbol [] name
   pub kind_is : kind ≡ type_text (tree_of types (shape_of_ref found.kind))
   pub entry_is : (s : TableSymbol) → slice_get table.symbols found.place.symbol ≡ Some s
@@ -63,7 +64,8 @@ is_written x types named said told table path found start name before kind shown
       ∙ ap (λ (t : List ℕ). entry_at x types s found.place (shape_of_ref found.kind) name t found.comment.now) ek;
 }
 
-part_told : (x : Manner) (types : List NamedType) (table : SymbolTable) (port : Port) (path : List Step) (found : Found) (name kind : List ℕ) (e : Entry) (led : plant.Found)
+part_told : (x : Manner) (types : List NamedType) (table : SymbolTable) (port : Port) (path : List Step) (found : Found)
+    (name kind : List ℕ) (e : Entry) (led : plant.Found)
     → IsTableOf types port table → IsWritten x types table path found name kind e → found_of_steps (map (plant_symbol types) port.symbols) path ≡ Some led
     → IsFound types (map (plant_symbol types) port.symbols) led found → entry_meant e ≡ entry_of_part x led
 unfolding entry_of_part
@@ -109,7 +111,8 @@ found_entry_short x types table port path e is_of texts t =
     short x t.led e t.tells s.name s.type s.comment
 
 -- such an entry can be written
-pub written_short : (x : Manner) (types : List NamedType) (table : SymbolTable) (port : Port) (path : List Step) (found : Found) (name kind : List ℕ) (e : Entry)
+pub written_short : (x : Manner) (types : List NamedType) (table : SymbolTable) (port : Port) (path : List Step) (found : Found)
+    (name kind : List ℕ) (e : Entry)
     → IsTableOf types port table → list_all has_short_texts table.symbols ≡ true
     → Finds types (map (plant_symbol types) port.symbols) (found_of_steps (map (plant_symbol types) port.symbols) path) (Some found)
     → IsWritten x types table path found name kind e → HasShortTexts e

@@ -41,8 +41,9 @@ of_accepted-whole types port table a is_of =
     subst P (sym is_of.same) (all_whole types (plant_port types port) port.symbols sound.symbols)
 
 -- one more port
-pub reloaded-more : (old : List PortMemory) (types : List NamedType) (version : ℕ) (manner : Manner) (ps : List Port) (ms : List PortMemory) (p : Port) (m : PortMemory)
-    → AreReloadedPorts old types version manner ps ms → IsReloadedPort old types p version manner m → AreReloadedPorts old types version manner (ps ++ p ∷ []) (ms ++ m ∷ [])
+pub reloaded-more : (old : List PortMemory) (types : List NamedType) (version : ℕ) (manner : Manner) (ps : List Port) (ms : List PortMemory)
+    (p : Port) (m : PortMemory) → AreReloadedPorts old types version manner ps ms → IsReloadedPort old types p version manner m
+    → AreReloadedPorts old types version manner (ps ++ p ∷ []) (ms ++ m ∷ [])
 reloaded-more old types version manner [] [] p m h new = (new, tt)
 reloaded-more old types version manner [] (n ∷ ms) p m h new = absurd h
 reloaded-more old types version manner (q ∷ ps) [] p m h new = absurd h
@@ -66,8 +67,8 @@ fresh-bytes w d types version manner port m sound p first none =
     subst (Holds (memory_of w d version) (plant_port types port)) same held
 
 -- a port that was
-kept-bytes : (w : World) (d : Description) (types : List NamedType) (version : ℕ) (manner : Manner) (port : Port) (was first : PortMemory) → IsSoundPlant w.plant
-    → IsSoundPlant (plant_of d) → IsSoundPort (plant_of d).ports (plant_port types port) → IsFirstPort types port version manner first
+kept-bytes : (w : World) (d : Description) (types : List NamedType) (version : ℕ) (manner : Manner) (port : Port) (was first : PortMemory)
+    → IsSoundPlant w.plant → IsSoundPlant (plant_of d) → IsSoundPort (plant_of d).ports (plant_port types port) → IsFirstPort types port version manner first
     → IsHeldAs w port.number was → Holds (memory_of w d version) (plant_port types port) (with_kept was first).bytes
 kept-bytes w d types version manner port was first old sound p is_first held =
     let h = held.holds in
@@ -123,15 +124,17 @@ reloaded-bytes w old d types version manner port first h sound p is_first = by_p
     none None f = refl
     none (Some q) f = absurd f
 
-    by_port : (o : Option PortMemory) → memory_numbered port.number old.ports ≡ o → Holds (memory_of w d version) (plant_port types port) (after_reload o first).bytes
+    by_port : (o : Option PortMemory) → memory_numbered port.number old.ports ≡ o
+        → Holds (memory_of w d version) (plant_port types port) (after_reload o first).bytes
     by_port None e =
         let found = subst (HoldsFound w (port_numbered port.number w.plant.ports)) e (found_is_held w old port.number h) in
         fresh-bytes w d types version manner port first sound p is_first (none (port_numbered port.number w.plant.ports) found)
     by_port (Some was) e = kept-bytes w d types version manner port was first h.plant_sound sound p is_first (held-as w old port.number was h e)
 
 -- each port holds its port of the plant
-reloaded-holds : (w : World) (old : PortsMemory) (d : Description) (types : List NamedType) (version : ℕ) (manner : Manner) (port : Port) (m : PortMemory) → HoldsPorts w old
-    → IsSoundPlant (plant_of d) → d.types ≡ types → (w.version + 1) % 256 ≡ version → w.profile.manner ≡ manner → IsSoundPort (plant_of d).ports (plant_port types port)
+reloaded-holds : (w : World) (old : PortsMemory) (d : Description) (types : List NamedType) (version : ℕ) (manner : Manner) (port : Port) (m : PortMemory)
+    → HoldsPorts w old → IsSoundPlant (plant_of d) → d.types ≡ types → (w.version + 1) % 256 ≡ version → w.profile.manner ≡ manner
+    → IsSoundPort (plant_of d).ports (plant_port types port)
     → IsReloadedPort old.ports types port version manner m → HoldsPort (world_after_reload w d) (plant_port types port) m
 unfolding world_after_reload
 reloaded-holds w old d types version manner port m h sound e v same p new =
@@ -156,9 +159,11 @@ reloaded-holds w old d types version manner port m h sound e v same p new =
           (reloaded-bytes w old d types version manner port new.first h sound p f));
     }
 
-reloaded-each : (w : World) (old : PortsMemory) (d : Description) (types : List NamedType) (version : ℕ) (manner : Manner) (ps : List Port) (ms : List PortMemory)
+reloaded-each : (w : World) (old : PortsMemory) (d : Description) (types : List NamedType) (version : ℕ) (manner : Manner)
+    (ps : List Port) (ms : List PortMemory)
     → HoldsPorts w old
-    → IsSoundPlant (plant_of d) → d.types ≡ types → (w.version + 1) % 256 ≡ version → w.profile.manner ≡ manner → Each (IsSoundPort (plant_of d).ports) (map (plant_port types) ps)
+    → IsSoundPlant (plant_of d) → d.types ≡ types → (w.version + 1) % 256 ≡ version → w.profile.manner ≡ manner
+    → Each (IsSoundPort (plant_of d).ports) (map (plant_port types) ps)
     → AreReloadedPorts old.ports types version manner ps ms → HoldEach (world_after_reload w d) (map (plant_port types) ps) ms
 reloaded-each w old d types version manner [] [] h sound e v same ports new = tt
 reloaded-each w old d types version manner [] (m ∷ ms) h sound e v same ports new = absurd new
@@ -168,8 +173,9 @@ reloaded-each w old d types version manner (p ∷ ps) (m ∷ ms) h sound e v sam
   reloaded-each w old d types version manner ps ms h sound e v same (ports.1) (new.1),
 )
 
-pub reloaded-ports-hold : (w : World) (old : PortsMemory) (d : Description) (types : List NamedType) (version : ℕ) (manner : Manner) (ms : List PortMemory) → HoldsPorts w old
-    → WasAccepted d → d.types ≡ types → (w.version + 1) % 256 ≡ version → w.profile.manner ≡ manner → AreReloadedPorts old.ports types version manner d.ports ms
+pub reloaded-ports-hold : (w : World) (old : PortsMemory) (d : Description) (types : List NamedType) (version : ℕ) (manner : Manner) (ms : List PortMemory)
+    → HoldsPorts w old → WasAccepted d → d.types ≡ types → (w.version + 1) % 256 ≡ version → w.profile.manner ≡ manner
+    → AreReloadedPorts old.ports types version manner d.ports ms
     → HoldsPorts (world_after_reload w d) (record { types = types; version = version; manner = manner; ports = ms })
 unfolding world_after_reload
 reloaded-ports-hold w old d types version manner ms h was e v same new =

@@ -1,6 +1,8 @@
 -- The type that a text names, and its entry.
-use Rattle.std.proofs.Common.{◌≡◌, ◌≢◌, ℕ, zero, suc, ◌-◌, ◌*◌, ◌<◌, ◌≤◌, List, [], ◌∷◌, ◌++◌, length, map, take, drop, true, false, refl, sym, ◌∙◌, ap, subst, inl, inr, arith}
-use Rattle.std.specs.Prelude.{Bool, Option, Some, None, is_some, option_map, option_and_then, nat_le, ◌==◌, ◌&&◌, ◌||◌, not, codes, slice_get, slice_index, if◌then◌else◌}
+use Rattle.std.proofs.Common.{◌≡◌, ◌≢◌, ℕ, zero, suc, ◌-◌, ◌*◌, ◌<◌, ◌≤◌, List, [], ◌∷◌, ◌++◌, length, map, take, drop, true, false}
+use Rattle.std.proofs.Common.{refl, sym, ◌∙◌, ap, subst, inl, inr, arith}
+use Rattle.std.specs.Prelude.{Bool, Option, Some, None, is_some, option_map, option_and_then, nat_le, ◌==◌, ◌&&◌, ◌||◌, not}
+use Rattle.std.specs.Prelude.{codes, slice_get, slice_index, if◌then◌else◌}
 use Rattle.std.specs.List.{list_all, before_first}
 use Rattle.std.specs.Prelude.{Result, Ok, Err, IfOk, OnOk, nat_lt, position}
 use Rattle.std.proofs.lemmas.Bool.{cases_Bool, and_parts, eqb-true, eq-eqb, leb-true, le-leb, false≢true}
@@ -12,7 +14,8 @@ use Rattle.name_index.proofs.CallerLemmas.{position-map}
 use Rattle.name_paths.specs.Identifier.{is_identifier}
 use Rattle.name_paths.specs.Number.{is_decimal, number_of_digits}
 use Rattle.spec_plant.specs.Plain.{Kind, kind_id}
-use Rattle.spec_plant.specs.Listed.{Bound, Elem, Plain, Text, Struct, Enum, One, Array, NamedType, Structure, Enumeration, type_name, is_structure, is_enumeration}
+use Rattle.spec_plant.specs.Listed.{Bound, Elem, Plain, Text, Struct, Enum, One, Array, NamedType, Structure, Enumeration}
+use Rattle.spec_plant.specs.Listed.{type_name, is_structure, is_enumeration}
 use Rattle.spec_plant.specs.Trees.{TypeTree, PlainTree, TextTree, ArrayTree, elem_tree, tree_at, tree_of, trees_of}
 use Rattle.spec_plant.specs.Sizes.{element_count, type_size}
 use Rattle.spec_plant.specs.Spelling.{type_text}
@@ -269,7 +272,8 @@ read_elem types t e a h none is =
 
 -- what is answered
 
-pub no_type : (w : World) (o : Option TypeTree) (len : ℕ) (start entry out : List ℕ) → IsPut o false start entry → AnswersAct w (if_type o len) (Err C710) out out
+pub no_type : (w : World) (o : Option TypeTree) (len : ℕ) (start entry out : List ℕ) → IsPut o false start entry
+    → AnswersAct w (if_type o len) (Err C710) out out
 no_type w None len start entry out put = (refl, refl)
 no_type w (Some tree) len start entry out put = absurd (false≢true (put.0))
 

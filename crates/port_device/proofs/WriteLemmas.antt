@@ -39,7 +39,8 @@ pub ends_along : (old new : PortMemory) (g h : Option Group) (offset : ℕ) (byt
 ends_along old new g h offset bytes rights net answer e ends = subst (λ x. EndsWrite old x offset bytes rights net answer new) e ends
 
 -- the port holds the world after an act that leaves these bytes, with the same version
-pub holds_after : (w : World) (p : PlantPort) (m : PortMemory) (act : Act) (b : PortBytes) → HoldsPort w p m → b.version ≡ m.bytes.version → Holds (memory_after w.memory act) p b
+pub holds_after : (w : World) (p : PlantPort) (m : PortMemory) (act : Act) (b : PortBytes) → HoldsPort w p m → b.version ≡ m.bytes.version
+    → Holds (memory_after w.memory act) p b
     → HoldsPort (world_after_act w act) p (record m { bytes = b })
 holds_after w p m act b h same after = record {
   port = h.port;
@@ -56,7 +57,8 @@ holds_after w p m act b h same after = record {
 }
 
 -- an act that is permitted puts
-pub put : (w : World) (k : Asker) (m : PortMemory) (bytes : List ℕ) (places : List Addressed) (b : PortBytes) → HoldsPort w k.port m → b.version ≡ m.bytes.version
+pub put : (w : World) (k : Asker) (m : PortMemory) (bytes : List ℕ) (places : List Addressed) (b : PortBytes)
+    → HoldsPort w k.port m → b.version ≡ m.bytes.version
     → are_writable k.address.net k.port places ≡ true → Holds (memory_after w.memory (writing (puts_of places bytes))) k.port b
     → EndsAs w k.port (write_act k bytes (Ok places)) (Ok tt) (record m { bytes = b })
 put w k m bytes places b h same may after =

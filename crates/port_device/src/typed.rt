@@ -1,6 +1,7 @@
 //! The entry of the type that a text names.
 
-ghost use Rattle.std.specs.Prelude.{◌≡◌, ◌≢◌, ◌<◌, ◌≤◌, ◌^◌, ◌++◌, [], ◌∷◌, length, map, nat_le, nat_lt, ◌||◌, true, position, option_map, IsTrue, IfOk, IfSome, OnOk, OnErr};
+ghost use Rattle.std.specs.Prelude.{◌≡◌, ◌≢◌, ◌<◌, ◌≤◌, ◌^◌, ◌++◌, [], ◌∷◌, length, map, nat_le, nat_lt, ◌||◌, true, position, option_map};
+ghost use Rattle.std.specs.Prelude.{IsTrue, IfOk, IfSome, OnOk, OnErr};
 ghost use Rattle.spec_plant.specs.AcceptedTypes.{AreTypes, IsSized, LIMIT, is_elem, are_bounds};
 ghost use Rattle.spec_plant.specs.Listed.{Array, type_name};
 ghost use Rattle.spec_plant.specs.Sizes.{element_count};

@@ -25,6 +25,8 @@ loop-d-preserved c =
     = take_more c.args.ports.now i x c.loop-d-test.true ∙ ap (λ y. before ++ y ∷ []) (sym c.d-item.is) in
     let ports : ports_of (take (i + 1) c.args.ports.now) ≡ ports_of before ++ port_of x ∷ [] = ap ports_of taken ∙ map-append port_of before (x ∷ []) in
     let built = c.loop-d.built.items in
-    let more = first_ports-more types c.args.version (manner_of c.args.manner) (ports_of before) built (port_of x) c.in_ok-port.port c.loop-d.invariant c.in_ok-port.ensures in
+    let more = first_ports-more types c.args.version (manner_of c.args.manner) (ports_of before) built (port_of x) c.in_ok-port.port
+    c.loop-d.invariant c.in_ok-port.ensures in
     let P : List Port → Type 0 = λ ps. AreFirstPorts types c.args.version (manner_of c.args.manner) ps (c.loop-d.built.items ++ c.in_ok-port.port ∷ []) in
-    subst (AreFirstPorts types c.args.version (manner_of c.args.manner) (ports_of (take (i + 1) c.args.ports.now))) (sym c.in_ok-push.ensures.items) (subst P (sym ports) more)
+    subst (AreFirstPorts types c.args.version (manner_of c.args.manner) (ports_of (take (i + 1) c.args.ports.now)))
+    (sym c.in_ok-push.ensures.items) (subst P (sym ports) more)

@@ -28,5 +28,7 @@ loop-d-preserved c = λ before compared all.
     let ports : ports_of (take (i + 1) c.args.ports.now) ≡ ports_of first ++ port_of x ∷ [] = ap ports_of taken ∙ map-append port_of first (x ∷ []) in
     let more = reloaded-more old types c.args.version (manner_of c.args.manner) (ports_of first) c.loop-d.built.items (port_of x) c.in_ok-port.port
     (c.loop-d.invariant before compared all) (c.in_ok-port.ensures before compared all) in
-    let P : List Port → Type 0 = λ ps. AreReloadedPorts old types c.args.version (manner_of c.args.manner) ps (c.loop-d.built.items ++ c.in_ok-port.port ∷ []) in
-    subst (AreReloadedPorts old types c.args.version (manner_of c.args.manner) (ports_of (take (i + 1) c.args.ports.now))) (sym c.in_ok-push.ensures.items) (subst P (sym ports) more)
+    let P : List Port → Type 0 = λ ps.
+    AreReloadedPorts old types c.args.version (manner_of c.args.manner) ps (c.loop-d.built.items ++ c.in_ok-port.port ∷ []) in
+    subst (AreReloadedPorts old types c.args.version (manner_of c.args.manner) (ports_of (take (i + 1) c.args.ports.now)))
+    (sym c.in_ok-push.ensures.items) (subst P (sym ports) more)

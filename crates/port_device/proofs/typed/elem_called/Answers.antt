@@ -10,7 +10,8 @@ use Rattle.port_device.proofs.typed.elem_called.Goals as goal
 
 pub elem_at-requires-clause-there : goal.elem_at-requires-clause-there
 elem_at-requires-clause-there c =
-    position-within (λ t. is_same_word (type_name (named_type_of t)) c.args.name.now) c.args.types.now c.in-Some.place (sym c.place_named.ensures.place ∙ c.in-Some.is)
+    position-within (λ t. is_same_word (type_name (named_type_of t)) c.args.name.now) c.args.types.now c.in-Some.place
+    (sym c.place_named.ensures.place ∙ c.in-Some.is)
 
 pub returns-in-Some-clause-tree : goal.returns-in-Some-clause-tree
 returns-in-Some-clause-tree c =

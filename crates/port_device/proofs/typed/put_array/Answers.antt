@@ -18,7 +18,8 @@ returns-then-count-gt-GREATEST-clause-put c =
     let bounds = map bound_between (ends_read t) in
     let tree = elem_tree (trees_of (types_of c.args.types.now)) (elem_of c.args.elem) in
     put_none (if_small (tree_with (ends_read t) tree)) c.args.out.now
-    (ap if_small (array_with t tree c.requires.array) ∙ too_many bounds tree c.element_count-count.result c.element_count-count.ensures.count c.if-count-gt-GREATEST.true)
+    (ap if_small (array_with t tree c.requires.array)
+    ∙ too_many bounds tree c.element_count-count.result c.element_count-count.ensures.count c.if-count-gt-GREATEST.true)
 
 pub put_bounds-requires-clause-small : goal.put_bounds-requires-clause-small
 put_bounds-requires-clause-small c =

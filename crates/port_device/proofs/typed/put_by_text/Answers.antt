@@ -32,4 +32,5 @@ unfolding tree_of_text shape_of_text
 returns-in-None-clause-put c =
     let types = types_of c.args.types.now in
     let read : type_text_of c.args.text.now ≡ None = sym c.read_type_text.ensures.value ∙ ap (option_map text_of) c.in-None.is in
-    put_none (tree_of_text types c.args.text.now) c.args.out.now (ap (λ o. option_and_then if_small (option_map (tree_of types) (option_and_then (shape_named types) o))) read)
+    put_none (tree_of_text types c.args.text.now) c.args.out.now
+    (ap (λ o. option_and_then if_small (option_map (tree_of types) (option_and_then (shape_named types) o))) read)

@@ -17,7 +17,8 @@ returns-in_default c =
     let other : is_name g ≡ false = search rules in
     record {
       answer = λ w d p h. refusal_answers w (read_write_group (setup_of w) d p (without_handles (group_of x.group)) x.len x.name.now) C702 x.out.now
-          (ap (λ o. read_write_group (setup_of w) d p (without_handles o) x.len x.name.now) (sym (known c.of.result g g x.group c.in_default.is refl c.of.ensures))
+          (ap (λ o. read_write_group (setup_of w) d p (without_handles o) x.len x.name.now)
+          (sym (known c.of.result g g x.group c.in_default.is refl c.of.ensures))
           ∙ asked_otherwise (setup_of w) d p g x.len x.name.now other);
       no_memory = tt;
     }

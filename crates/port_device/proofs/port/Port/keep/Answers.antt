@@ -24,7 +24,8 @@ pub returns : goal.returns
 returns c =
     let m : PortMemory = memory_in c.self.inside in
     let was = c.args.was.now in
-    let V : ℕ → ℕ → List ℕ → PortMemory = λ ads device image. record m { bytes = record { image = image; ads = ads; device = device; version = m.bytes.version } } in
+    let V : ℕ → ℕ → List ℕ → PortMemory = λ ads device image.
+    record m { bytes = record { image = image; ads = ads; device = device; version = m.bytes.version } } in
     let P : PortMemory
     → Type 0 = λ x. AreCompared was.types x.types c.args.same.now → V c.was.inside.ads c.was.inside.device c.put_reloaded.new.image ≡ with_kept was x in
     subst P c.self.view_is (λ compared.

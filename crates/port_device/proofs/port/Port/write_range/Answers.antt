@@ -41,7 +41,8 @@ write_bytes-requires c =
     let area = area_of c.in-Ok-Bytes.area in
     let bytes = c.args.bytes.now in
     let rule = rw c.in-Ok-Bytes.field-0-is at c.in-Ok-Bytes.ensures.rule in
-    let e = reached sizes (Some (group_meant c.args.group)) c.args.offset c.short_len.result (length bytes) (Ok (Bytes area at_ c.in-Ok-Bytes.field-0-2)) c.short_len.ensures rule in
+    let e = reached sizes (Some (group_meant c.args.group)) c.args.offset c.short_len.result (length bytes)
+    (Ok (Bytes area at_ c.in-Ok-Bytes.field-0-2)) c.short_len.ensures rule in
     let len = range_len (Some (group_meant c.args.group)) sizes c.args.offset (length bytes) (Bytes area at_ c.in-Ok-Bytes.field-0-2) e in
     let within = rw c.in-Ok-Bytes.field-0-is at c.in-Ok-Bytes.ensures.within in
     let ends = within.ends in

@@ -26,7 +26,9 @@ returns c =
     let types = types_of (arc_value c.in_ok-types.types) in
     let P : List PortDesc → Type 0 = λ ps. AreFirstPorts types 1 (manner_of c.args.manner) (ports_of ps) c.in_ok-ports.ports.items in
     let first = subst P c.as_slice.ensures c.in_ok-ports.ensures in
-    λ others signals. first_ports_hold (record { manner = manner_of c.args.manner; others = others }) (description_of c.args.d.now) signals types c.in_ok-ports.ports.items c.requires (sym c.in_ok-types.ensures) first
+    λ others signals.
+    first_ports_hold (record { manner = manner_of c.args.manner; others = others }) (description_of c.args.d.now) signals types
+    c.in_ok-ports.ports.items c.requires (sym c.in_ok-types.ensures) first
 
 pub invariant_of-result : goal.invariant_of-result
 invariant_of-result c = subst AreTypes (sym c.in_ok-types.ensures) (types_of_built (description_of c.args.d.now) c.requires)
