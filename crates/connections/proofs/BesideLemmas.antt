@@ -1,13 +1,13 @@
 -- A column beside the connections, read by their numbers.
-use Rattle.std.proofs.Common.{◌≡◌, ◌≢◌, ℕ, zero, suc, List, [], ◌∷◌, ◌++◌, length, set, cond, refl, sym, ap, ◌∙◌, inl, inr, arith}
+use Rattle.std.proofs.Common.{◌≡◌, ◌≢◌, ℕ, zero, suc, List, [], ◌∷◌, ◌++◌, length, set, cond, refl, sym, ap, ◌∙◌, arith}
 use Rattle.std.specs.Prelude.{◌==◌, remove, slice_get, Some, None}
 use Rattle.std.proofs.lemmas.Bool.{cond-true, cond-false}
 use Rattle.spec_machine.proofs.Find.{test_same, test_other}
 use Rattle.connections.specs.declared.outlet.Outlet.{Outlet}
 use Rattle.connections.specs.Entries.{IsEntry, IsNoEntry}
-use Rattle.connections.specs.Outlets.{Outlets, beside, change_of, change_at, without_number}
-use Rattle.connections.proofs.EntryLemmas.{entry_behind, no_first, none_behind_first, entry_or_not}
-use Rattle.connections.proofs.OutletLemmas.{changed_at, unchanged_of, without_at}
+use Rattle.connections.specs.Outlets.{Outlets, beside, without_number}
+use Rattle.connections.proofs.EntryLemmas.{entry_behind, no_first, none_behind_first}
+use Rattle.connections.proofs.OutletLemmas.{without_at}
 
 module _ {X : Type 0} where
   -- the place of a number is where it stands
@@ -18,26 +18,6 @@ module _ {X : Type 0} where
   beside_at (e ∷ es) (x ∷ xs) n (suc i) at same =
       cond-false (e.0 == n) (Some x) (beside n es xs) (test_other e.0 n (at.first 0 0 (omega arith)))
       ∙ beside_at es xs n i (entry_behind e es n i at) (omega (arith, same))
-
-  pub beside_none : (es : Outlets) (xs : List X) (n : ℕ) → IsNoEntry es n → beside n es xs ≡ None
-  beside_none [] xs n none = refl
-  beside_none (e ∷ es) [] n none = refl
-  beside_none (e ∷ es) (x ∷ xs) n none =
-      cond-false (e.0 == n) (Some x) (beside n es xs) (test_other e.0 n (no_first e es n none)) ∙ beside_none es xs n (none_behind_first e es n none)
-
-  -- an outlet changes, and the column does not
-  pub beside_changed_at : (change : Outlet → Outlet) (es : Outlets) (xs : List X) (m i : ℕ) → beside m (change_at change i es) xs ≡ beside m es xs
-  beside_changed_at change [] xs m i = refl
-  beside_changed_at change (e ∷ es) [] m zero = refl
-  beside_changed_at change (e ∷ es) [] m (suc i) = refl
-  beside_changed_at change (e ∷ es) (x ∷ xs) m zero = refl
-  beside_changed_at change (e ∷ es) (x ∷ xs) m (suc i) = ap (λ o. cond (e.0 == m) (Some x) o) (beside_changed_at change es xs m i)
-
-  pub beside_changed_of : (change : Outlet → Outlet) (es : Outlets) (xs : List X) (m n : ℕ) → beside m (change_of change n es) xs ≡ beside m es xs
-  beside_changed_of change es xs m n = elim (entry_or_not es n) [
-    | inl e ↦ ap (λ fs. beside m fs xs) (changed_at change es n e.i e.place) ∙ beside_changed_at change es xs m e.i
-    | inr none ↦ ap (λ fs. beside m fs xs) (unchanged_of change es n none)
-  ]
 
   -- one element of the column changes
   pub beside_set_own : (es : Outlets) (xs : List X) (n i : ℕ) (x : X) → IsEntry es n i → length xs ≡ length es → beside n es (set xs i x) ≡ Some x

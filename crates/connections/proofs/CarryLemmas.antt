@@ -190,16 +190,6 @@ module _ {C : Type 0} where
           let same : (n, at.o) ≡ e = (let both = sym at.entry ∙ t in cc) in
           subst (λ (g : ℕ × Outlet). (let o = change g.1 in o.blocked ≡ is_among g.0 new)) same mark
 
-  -- one connection changes, and this stands for it from then on
-  pub changed : (es : Outlets) (blocked : List ℕ) (ks : List (Connection C)) (n i : ℕ) (o p : Outlet) (l : Connection C)
-      → Carries es blocked ks → IsEntry es n i → outlet_at es i ≡ Some o → IsOutlet p l → l.number ≡ n → l.gone ≡ false → p.blocked ≡ o.blocked
-      → Carries (change_at (λ q. p) i es) blocked (put_back l ks)
-  changed es blocked ks n i o p l c place here stands number there mark =
-      let at = at_number es blocked ks n i c place in
-      let same : o ≡ at.o = (let both = sym here ∙ at.outlet in cc) in
-      changed_by (λ q. p) es blocked blocked ks n i l c at stands number there (λ m other. refl)
-      (mark ∙ ap (λ (q : Outlet). q.blocked) same ∙ at.mark)
-
   -- one connection changes, and what waits for it does not
   pub quiet : (es : Outlets) (blocked : List ℕ) (ks : List (Connection C)) (n i : ℕ) (l : Connection C)
       → Carries es blocked ks → (at : AtNumber es blocked ks n i) → IsOutlet at.o l → l.number ≡ n → l.gone ≡ false → Carries es blocked (put_back l ks)
@@ -316,8 +306,3 @@ module _ {C : Type 0} where
     marked = marked_added blocked es n c.marked (c.known n new);
     known = λ m none. c.known m (was_none_append m ks (fresh_connection client n ∷ []) none);
   }
-
-  -- a number that a new connection may have is not kept
-  pub new_number : (es : Outlets) (blocked : List ℕ) (ks : List (Connection C)) (n i : ℕ)
-      → Carries es blocked ks → connection_of n ks ≡ None → IsEntry es n i → ⊥
-  new_number es blocked ks n i c none place = let at = at_number es blocked ks n i c place in let both = sym none ∙ at.found in cc

@@ -46,15 +46,6 @@ module _ {X C : Type 0} (Stands : X → Connection C → Type 0) where
   each_set (y ∷ ys) (p ∷ ps) zero x k each now = (now, each.1)
   each_set (y ∷ ys) (p ∷ ps) (suc i) x k each now = (each.0, each_set ys ps i x k each.1 now)
 
-  -- the connection alone changes, and what stands beside it stands for it still
-  pub each_kept : (xs : List X) (ps : List (Connection C)) (i : ℕ) (k : Connection C) → EachBeside Stands xs ps
-      → ((x : X) → slice_get xs i ≡ Some x → Stands x k) → EachBeside Stands xs (set ps i k)
-  each_kept [] [] i k each now = tt
-  each_kept [] (p ∷ ps) i k each now = absurd each
-  each_kept (y ∷ ys) [] i k each now = absurd each
-  each_kept (y ∷ ys) (p ∷ ps) zero k each now = (now y refl, each.1)
-  each_kept (y ∷ ys) (p ∷ ps) (suc i) k each now = (each.0, each_kept ys ps i k each.1 now)
-
   -- both go
   pub each_removed : (xs : List X) (ps : List (Connection C)) (i : ℕ) → EachBeside Stands xs ps → EachBeside Stands (remove xs i) (remove ps i)
   each_removed [] [] zero each = tt

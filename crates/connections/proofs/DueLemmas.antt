@@ -1,5 +1,5 @@
 -- The numbers of the connections that are to be served.
-use Rattle.std.proofs.Common.{◌≡◌, ◌≢◌, ℕ, zero, suc, ◌<◌, List, [], ◌∷◌, ◌++◌, length, take, false}
+use Rattle.std.proofs.Common.{◌≡◌, ◌≢◌, ℕ, zero, suc, ◌<◌, List, [], ◌∷◌, ◌++◌, take, false}
 use Rattle.std.proofs.Common.{refl, sym, ap, ◌∙◌, subst, inl, inr, arith}
 use Rattle.std.specs.Prelude.{filter, slice_get, Some, Result, OnOk}
 use Rattle.std.proofs.lemmas.Result.{on_ok_weaker}
@@ -61,12 +61,6 @@ more_due (e ∷ es) (suc i) =
     ap (λ ns. ns ++ number_if_due (slice_get es i)) (due_cons e (take i es))
     ∙ append_assoc (number_if_due (Some e)) (numbers_due (take i es)) (number_if_due (slice_get es i))
     ∙ ap (λ ns. number_if_due (Some e) ++ ns) (more_due es i) ∙ sym (due_cons e (take (suc i) es))
-
--- the first of all is at no place
-pub all_idle : (es : Outlets) → ((k : ℕ) → k < length es → due_at es k ≡ false) → (k : ℕ) → due_at es k ≡ false
-all_idle [] idle k = refl
-all_idle (e ∷ es) idle zero = idle 0 (omega arith)
-all_idle (e ∷ es) idle (suc k) = all_idle es (λ j below. idle (suc j) (omega (arith, below))) k
 
 -- numbers that are put into room in which none stands
 pub one_put : {A E : Type 0} (r : Result A E) (es : Outlets) (a : ℕ) (old new : List ℕ) → ((k : ℕ) → k ≢ a → due_at es k ≡ false)

@@ -6,7 +6,7 @@ use Rattle.std.specs.List.{IsDistinct, AllByRecursion, prefix_len}
 use Rattle.std.specs.Map.{keys_of}
 use Rattle.std.proofs.lemmas.List.Quantifiers.{position-Some}
 use Rattle.std.proofs.lemmas.Bool.{cases_Bool, cond-true, cond-false, eqb-true, ltb-false, not_from_true, not_from_false}
-use Rattle.indexmap.specs.IndexMap.{insert_entry, set_value_at}
+use Rattle.indexmap.specs.IndexMap.{insert_entry}
 use Rattle.spec_machine.proofs.Find.{test_same, test_other}
 use Rattle.connections.specs.Entries.{IsEntry, IsNoEntry}
 
@@ -67,12 +67,6 @@ entry_of_key (e ∷ es) n (suc i) distinct there =
       number = λ d. rest.number d;
       first = λ k d below. first_or_later e es n i (none_before es e.0 n i distinct.0 there) rest.first k d below;
     }
-
--- a change of the value at a place
-pub keys_set : {X : Type 0} (es : List (ℕ × X)) (i : ℕ) (w : X) → keys_of (set_value_at es i w) ≡ keys_of es
-keys_set [] i w = refl
-keys_set (e ∷ es) zero w = refl
-keys_set (e ∷ es) (suc i) w = ap (λ ks. e.0 ∷ ks) (keys_set es i w)
 
 -- what holds of each key behind the first, and of the first
 none_of_all : (j : ℕ) (js : List ℕ) (n : ℕ) → (n == j) ≡ false

@@ -1,6 +1,6 @@
 -- What waits for a connection while bytes of it are taken, or a frame is produced.
 use Rattle.std.proofs.Common.{◌≡◌, ℕ, ◌+◌, ◌-◌, ◌<◌, List, [], ◌∷◌, ◌++◌, length, true, false, cond, refl, sym, ap, ◌∙◌, subst, arith}
-use Rattle.std.specs.Prelude.{Bool, not, ◌&&◌, map, nat_le}
+use Rattle.std.specs.Prelude.{Bool, map, nat_le}
 use Rattle.std.proofs.lemmas.List.{map-append, length-append}
 use Rattle.std.proofs.lemmas.List.Concat.{flat_map-append}
 use Rattle.spec_machine.specs.Device.{Produced}
@@ -10,7 +10,7 @@ use Rattle.spec_machine.proofs.Waiting.{joined, joined_bytes}
 use Rattle.out_queue.specs.Queue.{queued, frames_after, FitsFront}
 use Rattle.connections.specs.declared.outlet.Outlet.{Outlet}
 use Rattle.connections.specs.Offering.{FitsFirst}
-use Rattle.connections.specs.Outlets.{taken, freed, given, closed, has_room, is_fitting}
+use Rattle.connections.specs.Outlets.{taken, freed, given, closed, has_room}
 use Rattle.connections.specs.Carries.{IsOutlet}
 use Rattle.connections.proofs.QueueLemmas.{left_after-push, queued-left_after, left_after-took, took_fits, fits_front}
 
@@ -58,10 +58,6 @@ module _ {C : Type 0} where
   pub room_is : (o : Outlet) (k : Connection C) (f : Produced) → IsOutlet o k → has_room (bytes_of f) o ≡ fits f k
   unfolding has_room
   room_is o k f s = ap (λ n. nat_le (n + length (bytes_of f)) 4194304) (queued_bytes o k s)
-
-  -- whether it waits
-  pub fitting_is : (o : Outlet) (k : Connection C) (f : Produced) → IsOutlet o k → k.closing ≡ false → is_fitting (bytes_of f) o ≡ fits f k
-  fitting_is o k f s open_ = ap (λ b. not b && has_room (bytes_of f) o) (s.closing ∙ open_) ∙ room_is o k f s
 
   with_frame_is : (o : Outlet) (k : Connection C) (f : Produced) → IsOutlet o k → 0 < length (bytes_of f)
       → IsOutlet (record o { out = o.out ++ bytes_of f ∷ [] }) (with_frame f k)

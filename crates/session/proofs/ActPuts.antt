@@ -9,7 +9,7 @@ use Rattle.spec_formats.specs.Codes.{general_device_error, not_permitted, invali
 use Rattle.spec_formats.specs.Codes.{symbol_not_found, no_more_notifications, watch_too_big}
 use Rattle.spec_formats.specs.Codes.{notification_handle_invalid}
 use Rattle.spec_formats.specs.Numbers.{number32}
-use Rattle.spec_formats.specs.Groups.{Group, AreaBytes, AreaBit, ValueByHandle, ReleaseHandle, HandleByName, SumRead, SumWrite, SumReadWrite}
+use Rattle.spec_formats.specs.Groups.{Group, AreaBytes, AreaBit, ValueByHandle, ReleaseHandle, HandleByName}
 use Rattle.spec_formats.specs.Ranges.{Range, Bytes, Bit, Size, range_in}
 use Rattle.spec_formats.specs.Request.{Request, ReadDeviceInfo, Read, Write, ReadState, WriteControl}
 use Rattle.spec_formats.specs.Request.{AddDeviceNotification, DeleteDeviceNotification, DeviceNotification}

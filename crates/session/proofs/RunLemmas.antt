@@ -18,12 +18,12 @@ use Rattle.spec_formats.specs.Reply.{written_bytes, facts_bytes, facts_at}
 use Rattle.spec_formats.specs.Request.{Request, ReadDeviceInfo, Read, Write, ReadState, WriteControl}
 use Rattle.spec_formats.specs.Request.{AddDeviceNotification, DeleteDeviceNotification, DeviceNotification}
 use Rattle.spec_formats.specs.Request.{ReadWrite, command_of}
-use Rattle.spec_machine.specs.World.{Setup, setup_of, state_names, state_bytes, RUN, STOP}
+use Rattle.spec_machine.specs.World.{setup_of, state_names, state_bytes, RUN, STOP}
 use Rattle.spec_machine.specs.Access.{Addressed, WholeByte, Put, puts_of, values_at, memory_after_puts}
 use Rattle.spec_machine.specs.Acts.{Act, Outcome, Refusal, Allowed, writing, effect_of, outcomes_of, memory_after, memory_after_acts, client_after_acts}
 use Rattle.spec_machine.specs.Answers.{if_answered, answered_group, READ_WRITE}
 use Rattle.spec_machine.specs.Client as client
-use Rattle.spec_machine.specs.Client.{Client, Effect, NoEffect, client_after}
+use Rattle.spec_machine.specs.Client.{Effect, NoEffect, client_after}
 use Rattle.spec_machine.specs.Handles.{Handle}
 use Rattle.sym_handles.specs.Kept.{Kept}
 use Rattle.spec_machine.specs.Watches.{Watch}

@@ -25,11 +25,9 @@ use Rattle.spec_formats.specs.Header.{AmsHeader, header_of}
 use Rattle.spec_formats.specs.Request.{Request, ReadWrite, command_of}
 use Rattle.spec_machine.specs.World.{World, Setup, setup_of}
 use Rattle.spec_machine.specs.Acts.{outcomes_of, memory_after_acts, client_after_acts}
-use Rattle.spec_machine.specs.Answers.{answered_group, READ_WRITE}
 use Rattle.spec_machine.specs.Client.{Client, client_after}
 use Rattle.spec_machine.specs.Decisions.{Decision, NoAnswer, EndConnection, AmsError, Perform, acts_in, refuse}
 use Rattle.spec_machine.specs.Device.{Answer, Answered, FrameOutcome}
-use Rattle.spec_formats.specs.Groups.{Group, SumRead, SumWrite, SumReadWrite}
 use Rattle.spec_machine.specs.Packets.{decide}
 use Rattle.spec_machine.specs.Replies.{response_packet, reply_payload, answer_to, answer_of, performed, outcome_in_all}
 use Rattle.spec_machine.specs.Sums.{SumRequest}

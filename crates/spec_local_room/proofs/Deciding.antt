@@ -14,11 +14,11 @@ use Rattle.spec_formats.specs.Codes.{invalid_ams_length, unknown_ams_command, ta
 use Rattle.spec_formats.specs.Codes.{invalid_size, invalid_offset, invalid_group, symbol_not_found, symbol_version_invalid}
 use Rattle.spec_formats.specs.Commands.{ADD_DEVICE_NOTIFICATION, DEVICE_NOTIFICATION, READ_WRITE}
 use Rattle.spec_formats.specs.Ranges.{Bytes, Bit, greatest_len, byte_range, bit_range, range_in}
-use Rattle.spec_formats.specs.Groups.{AreaBytes, AreaBit, ValueByHandle, Group, ExtendedInfoByName, SumRead, SumWrite, SumReadWrite, group_of, group_in}
+use Rattle.spec_formats.specs.Groups.{AreaBytes, AreaBit, ValueByHandle, Group, ExtendedInfoByName, group_of, group_in}
 use Rattle.spec_formats.specs.Header.{AmsHeader, request_flags}
 use Rattle.spec_formats.specs.Numbers.{number32}
 use Rattle.spec_formats.specs.Request as request
-use Rattle.spec_formats.specs.Request.{Request, request_of, request_in, request_bytes, command_of}
+use Rattle.spec_formats.specs.Request.{Request, request_of, request_in, request_bytes}
 use Rattle.spec_formats.specs.SymbolEntry.{entry_bytes}
 use Rattle.spec_machine.specs.Access.{Addressed, WholeByte, OneBit}
 use Rattle.spec_machine.specs.Acts.{Act, Refusal, Allowed, changing, effect_of, client_after_acts}
