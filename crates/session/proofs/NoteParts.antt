@@ -50,7 +50,6 @@ adds-leave s group offset len mode delay cycle t (Ok answer) adds = λ x h.
       asks = changed-asks x.asking (act_asked x.asking r) s.port.now s.handles.now t h.asks changes;
       asker = h.asker;
       address = h.address;
-      number = h.number;
       lent = record { handles = h.lent.handles; watches = h.lent.watches; port = h.lent.port; keeps = h.lent.keeps };
       notes = changes.notes;
     }
@@ -62,30 +61,32 @@ adds-want s request t (Ok answer) = tt
 adds-want s request t (Err no_memory) = λ x h.
     record { handles = h.lent.handles; watches = h.lent.watches; port = h.lent.port; keeps = h.lent.keeps }
 
--- what a deletion says, of those for whom the service stands
-abbrev Deletes : Single → ℕ → WatchTable → Result (Unit {0}) Code → Type 0
-Deletes s handle t answer = (a : Asking) → NotesFor a.world.plant.ports a.client s.watches.now → s.asker.ams_port ≡ a.asker.port.number
+-- what a deletion at the port with a number says, of those for whom the service stands
+abbrev Deletes : Single → (number handle : ℕ) → WatchTable → Result (Unit {0}) Code → Type 0
+Deletes s number handle t answer = (a : Asking) → NotesFor a.world.plant.ports a.client s.watches.now → number ≡ a.asker.port.number
     → DeletesAs a (act_asked a (DeleteDeviceNotification handle)) answer t
 
-deletes-as : (s : Single) (handle : ℕ) (t : WatchTable) (answer : Result (Unit {0}) Code) → Deletes s handle t answer → (x : SumState) → IsSingle s x
+deletes-as : (s : Single) (number handle : ℕ) (t : WatchTable) (answer : Result (Unit {0}) Code) → number ≡ s.port.now.number
+    → Deletes s number handle t answer → (x : SumState) → IsSingle s x
     → DeletesAs x.asking (act_asked x.asking (DeleteDeviceNotification handle)) answer t
-deletes-as s handle t answer deletes x h =
-    deletes x.asking h.notes (h.number ∙ port-number x.asking.world x.asking.asker.port s.port.now h.asks.held)
+deletes-as s number handle t answer is deletes x h =
+    deletes x.asking h.notes (is ∙ port-number x.asking.world x.asking.asker.port s.port.now h.asks.held)
 
-pub deletes-code : (s : Single) (handle : ℕ) (t : WatchTable) (answer : Result (Unit {0}) Code) → Deletes s handle t answer
-    → (x : SumState) → IsSingle s x → code_in answer ≡ (part_outcome x (DeleteDeviceNotification handle)).code
-deletes-code s handle t answer deletes x h =
-    nothing-code (outcome_asked x.asking (DeleteDeviceNotification handle)) answer (deletes-as s handle t answer deletes x h).ends
+pub deletes-code : (s : Single) (number handle : ℕ) (t : WatchTable) (answer : Result (Unit {0}) Code) → number ≡ s.port.now.number
+    → Deletes s number handle t answer → (x : SumState) → IsSingle s x
+    → code_in answer ≡ (part_outcome x (DeleteDeviceNotification handle)).code
+deletes-code s number handle t answer is deletes x h =
+    nothing-code (outcome_asked x.asking (DeleteDeviceNotification handle)) answer (deletes-as s number handle t answer is deletes x h).ends
 
-pub deletes-leave : (s : Single) (handle : ℕ) (t : WatchTable) (answer : Result (Unit {0}) Code) → Deletes s handle t answer
-    → (x : SumState) → IsSingle s x → IsSingle (with_watches s t) (state_after x (DeleteDeviceNotification handle))
-deletes-leave s handle t answer deletes x h =
-    let changes = (deletes-as s handle t answer deletes x h).changes in
+pub deletes-leave : (s : Single) (number handle : ℕ) (t : WatchTable) (answer : Result (Unit {0}) Code) → number ≡ s.port.now.number
+    → Deletes s number handle t answer → (x : SumState) → IsSingle s x
+    → IsSingle (with_watches s t) (state_after x (DeleteDeviceNotification handle))
+deletes-leave s number handle t answer is deletes x h =
+    let changes = (deletes-as s number handle t answer is deletes x h).changes in
     record {
       asks = changed-asks x.asking (act_asked x.asking (DeleteDeviceNotification handle)) s.port.now s.handles.now t h.asks changes;
       asker = h.asker;
       address = h.address;
-      number = h.number;
       lent = record { handles = h.lent.handles; watches = h.lent.watches; port = h.lent.port; keeps = h.lent.keeps };
       notes = changes.notes;
     }

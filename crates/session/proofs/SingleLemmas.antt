@@ -103,7 +103,8 @@ unfolding act_of plain_act
 read-act-idle a group offset len =
     let d = setup_of a.world in
     let meant = read_len_in d.profile.manner a.client a.asker.port (answered_group READ group) offset len in
-    of_more IsIdle (more_read d.profile.manner a.asker.port.number group offset len) (read_group d a.client a.asker.port (answered_group READ group) offset meant)
+    of_more IsIdle (more_read d.profile.manner a.asker.port.number group offset len)
+    (read_group d a.client a.asker.port (answered_group READ group) offset meant)
     (read-more IsIdle d.profile.manner a.asker.port.number group offset len (reached-idle (states_reach a.asker.port.number offset len)))
     (read-idle d a.client a.asker.port (answered_group READ group) offset meant)
 
@@ -115,9 +116,6 @@ read-leaves a group offset len m kept asks =
 pub keeps-both : (first second third : PortMemory) → KeepsDescription first second → KeepsDescription second third → KeepsDescription first third
 keeps-both first second third one two =
     let b = third.bytes in two ∙ ap (λ (m : PortMemory). record m { bytes = record b { version = m.bytes.version } }) one
-
-pub keeps-number : (old new : PortMemory) → KeepsDescription old new → new.number ≡ old.number
-keeps-number old new keeps = ap (λ (m : PortMemory). m.number) keeps
 
 -- what is given to one who asks is given in every state that the service stands for
 pub gives-all : (s : Single) (r : Request) (answered : Result (Result (Unit {0}) Code) NoMemory) (old new : List ℕ)

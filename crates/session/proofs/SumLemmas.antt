@@ -207,8 +207,8 @@ sum-runs a group n len bytes m m' s s' before after old mid whole new start numb
 
 -- what is lent stands for one who asks with these rights and from this address
 pub stands-for-some : (s : declared.Single) (a : Asking) → Asks a s.port.now s.handles.now → NotesFor a.world.plant.ports a.client s.watches.now
-    → s.asker.ams_port ≡ s.port.now.number → StandsForSome IsSingle s
-stands-for-some s a asks notes number = record {
+    → StandsForSome IsSingle s
+stands-for-some s a asks notes = record {
   state = record {
     asking = record {
       world = a.world;
@@ -221,7 +221,6 @@ stands-for-some s a asks notes number = record {
     asks = record { held = asks.held; handles = asks.handles };
     asker = record { net_is = refl; rights_are = refl };
     address = refl;
-    number = number;
     lent = record { handles = refl; watches = refl; port = refl; keeps = refl };
     notes = notes;
   };
@@ -236,7 +235,6 @@ begins-now s x h = record {
   asks = h.asks;
   asker = h.asker;
   address = h.address;
-  number = h.number;
   lent = record { handles = refl; watches = refl; port = refl; keeps = refl };
   notes = h.notes;
 }

@@ -1,5 +1,5 @@
 -- What comes of a packet, by what its checks said.
-use Rattle.std.proofs.Common.{◌≡◌, ◌+◌, ℕ, List, [], ◌∷◌, ◌++◌, length, take, drop, true, false, cond, refl, sym, ◌∙◌, ap, subst, append-nil}
+use Rattle.std.proofs.Common.{◌≡◌, ◌+◌, ℕ, List, [], ◌++◌, length, take, drop, refl, sym, ◌∙◌, ap, subst, append-nil}
 use Rattle.ads_base.specs.Octets.{Extends}
 use Rattle.ads_base.proofs.OctetsLemmas.{Extends-same, Extends-append}
 use Rattle.ads_base.specs.declared.ams_addr.AmsAddr.{AmsAddr}
@@ -10,8 +10,7 @@ use Rattle.ads_commands.specs.Request.{request_meant}
 use Rattle.type_layout.specs.declared.description.Rights.{Rights}
 use Rattle.type_layout.specs.Descriptions.{rights_of}
 use Rattle.session.specs.declared.examined.Examined.TheVariants as examined
-use Rattle.std.specs.Prelude.{Bool, Option, Some, None, is_some, Result, Ok, Err, IfOk, ◌==◌}
-use Rattle.std.proofs.lemmas.Bool.{eqb-true, false≢true}
+use Rattle.std.specs.Prelude.{Option, Some, None, Result, Ok, Err, IfOk}
 use Rattle.ads_base.specs.declared.no_memory.NoMemory.{NoMemory}
 use Rattle.return_codes.specs.declared.code.Code.{Code}
 use Rattle.return_codes.specs.Code.{number_of}
@@ -53,16 +52,6 @@ use Rattle.session.proofs.FrameLemmas.{behind-old, frame-behind, kept-front}
 use Rattle.session.proofs.OtherPorts.{ports-held}
 
 -- the port that was found is held
-
-pub numbered-is : (number : ℕ) (ms : List PortMemory) (m : PortMemory) → memory_numbered number ms ≡ Some m → m.number ≡ number
-numbered-is number [] m found = absurd (false≢true (ap is_some found))
-numbered-is number (x ∷ xs) m found = go (x.number == number) refl found (λ behind. numbered-is number xs m behind)
-  where
-    go : (b : Bool) → (x.number == number) ≡ b → cond b (Some x) (memory_numbered number xs) ≡ Some m
-        → (memory_numbered number xs ≡ Some m → m.number ≡ number) → m.number ≡ number
-    go true e found_ rest = let same : x ≡ m = cc in ap (λ (k : PortMemory). k.number) (sym same) ∙ eqb-true x.number number e
-    go false e found_ rest = rest found_
-
 pub record FoundPort (w : World) (number : ℕ) (m : PortMemory) : Type 0 where
   pub port : PlantPort
   pub found : port_numbered number w.plant.ports ≡ Some port

@@ -32,7 +32,6 @@ pub record IsSingle (s : Single) (x : SumState) : Type 0 where
   pub asks : Asks x.asking s.port.now s.handles.now
   pub asker : IsAsker x.asking.asker (rights_of s.asker.rights) s.asker.source.net.bytes
   pub address : x.asking.asker.address ≡ address_of s.asker.source
-  pub number : s.asker.ams_port ≡ s.port.now.number
   pub lent : StillLent x.begun s
   pub notes : NotesFor x.asking.world.plant.ports x.asking.client s.watches.now
 

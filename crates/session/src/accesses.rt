@@ -24,17 +24,15 @@ impl Session {
         &self,
         alloc: Global,
         port: &Port,
-        ams_port: u16,
         asked: &ReadRequest,
         out: &mut Octets,
     ) -> Result<(), NoMemory>
         requires some { SomeAsks port.now self.now.handles }
-        requires number { ams_port ≡ port.now.number }
         ensures runs { OnOk result ((a : Asking) → AsksSession a port.now self.now
             → Runs a (format.Read asked.now.group asked.now.offset asked.now.len) out.old out.new port.now self.now) }
         ensures no_memory { OnErr result (Extends out.old out.new) }
     {
-        read_reply(alloc, &self.handles, port, ams_port, *asked, out)
+        read_reply(alloc, &self.handles, port, *asked, out)
     }
 
     /// Writes, and appends the result.
@@ -47,7 +45,6 @@ impl Session {
         out: &mut Octets,
     ) -> Result<(), NoMemory>
         requires some { SomeAsks port.old self.old.handles }
-        requires number { asker.ams_port ≡ port.old.number }
         ensures runs { OnOk result ((a : Asking) → AsksSession a port.old self.old → IsFrom a asker.source asker.rights
             → Runs a (format.Write asked.now.group asked.now.offset asked.now.bytes.now) out.old out.new port.new self.new) }
         ensures keeps { KeepsDescription port.old port.new }
@@ -69,7 +66,6 @@ impl Session {
     ) -> Result<(), NoMemory>
         requires some { SomeAsks port.old self.old.handles }
         requires served { SomeSession port.old self.old }
-        requires number { asker.ams_port ≡ port.old.number }
         ensures runs { OnOk result ((a : Asking) → AsksSession a port.old self.old → IsFrom a asker.source asker.rights
             → Runs a (format.ReadWrite asked.now.group asked.now.offset asked.now.len asked.now.bytes.now) out.old out.new port.new self.new) }
         ensures keeps { KeepsDescription port.old port.new }
@@ -79,6 +75,6 @@ impl Session {
         if takes_parts(port, asked.group) {
             return self.sum(alloc, port, asker, asked, out);
         }
-        read_write_reply(alloc, &mut self.handles, port, asker.ams_port, *asked, out)
+        read_write_reply(alloc, &mut self.handles, port, *asked, out)
     }
 }

@@ -28,17 +28,16 @@ use symbol_table::Place;
 const TYPE_BY_TEXT: u32 = 0xF011;
 
 /// Grants a handle for a name, or appends what the port gives of a name. A wide port takes a name without its NULs and one
-/// full stop in front, gives of a value what it has, where more is asked, and gives the entry of a type by its text. Beckhoff Information System, "ADS Read Write".
+/// full stop in front, gives of a value what it has, where more is asked, and gives the entry of a type by its text.
+/// Beckhoff Information System, "ADS Read Write".
 pub(crate) fn read_write(
     alloc: Global,
     handles: &mut Handles,
     port: &Port,
-    ams_port: u16,
     asked: &ReadWriteRequest<'_>,
     out: &mut Octets,
 ) -> Result<Result<(), Code>, NoMemory>
     requires some { SomeAsks port.now handles.old }
-    requires number { ams_port ≡ port.now.number }
     ensures answer { IfOk result (λ answer. (a : Asking) → Asks a port.now handles.old
         → AnswersAct a.world (act_asked a (ReadWrite asked.now.group asked.now.offset asked.now.len asked.now.bytes.now)) answer out.old out.new) }
     ensures leaves { OnOk result ((a : Asking) → Asks a port.now handles.old
@@ -47,7 +46,7 @@ pub(crate) fn read_write(
     ensures no_memory { OnErr result (out.new ≡ out.old) }
 {
     if !port.is_wide() {
-        return read_write_plain(alloc, handles, port, ams_port, asked, out);
+        return read_write_plain(alloc, handles, port, asked, out);
     }
     if asked.group == TYPE_BY_TEXT {
         return type_by_text(alloc, port, asked, out);
@@ -60,7 +59,7 @@ pub(crate) fn read_write(
         len,
         bytes,
     };
-    read_write_plain(alloc, handles, port, ams_port, &meant, out)
+    read_write_plain(alloc, handles, port, &meant, out)
 }
 
 // The entry of the type that a text names, which ends at its first NUL.
@@ -82,11 +81,9 @@ fn read_write_plain(
     alloc: Global,
     handles: &mut Handles,
     port: &Port,
-    ams_port: u16,
     asked: &ReadWriteRequest<'_>,
     out: &mut Octets,
 ) -> Result<Result<(), Code>, NoMemory>
-    requires number { ams_port ≡ port.now.number }
     ensures answer { IfOk result (λ answer. (a : Asking) → Asks a port.now handles.old
         → AnswersAct a.world (plain_asked a (ReadWrite asked.now.group asked.now.offset asked.now.len asked.now.bytes.now)) answer out.old out.new) }
     ensures leaves { OnOk result ((a : Asking) → Asks a port.now handles.old
@@ -94,7 +91,7 @@ fn read_write_plain(
     ensures no_memory { OnErr result (out.new ≡ out.old) }
 {
     if is_handle_by_name(asked.group) {
-        return grant(alloc, handles, port, ams_port, asked, out);
+        return grant(alloc, handles, port, asked, out);
     }
     port.ask(alloc, asked.group, asked.len, asked.bytes, out)
 }
@@ -105,11 +102,9 @@ fn grant(
     alloc: Global,
     handles: &mut Handles,
     port: &Port,
-    ams_port: u16,
     asked: &ReadWriteRequest<'_>,
     out: &mut Octets,
 ) -> Result<Result<(), Code>, NoMemory>
-    requires number { ams_port ≡ port.now.number }
     ensures answer { IfOk result (λ answer. (a : Asking) → Asks a port.now handles.old
         → AnswersAct a.world (handle_act a asked.now.len asked.now.bytes.now) answer out.old out.new) }
     ensures leaves { OnOk result ((a : Asking) → Asks a port.now handles.old
@@ -120,7 +115,7 @@ fn grant(
         return Ok(Err(Code::C705));
     }
     match port.place(asked.bytes) {
-        Ok(place) => grant_place(alloc, handles, ams_port, place, out),
+        Ok(place) => grant_place(alloc, handles, port.number(), place, out),
         Err(code) => Ok(Err(code)),
     }
 }

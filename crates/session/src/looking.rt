@@ -34,18 +34,16 @@ pub(crate) fn read_value(
     alloc: Global,
     handles: &Handles,
     port: &Port,
-    ams_port: u16,
     asked: &ReadRequest,
     out: &mut Octets,
 ) -> Result<Result<(), Code>, NoMemory>
     requires some { SomeAsks port.now handles.now }
-    requires number { ams_port ≡ port.now.number }
     ensures answer { IfOk result (λ answer. (a : Asking) → Asks a port.now handles.now
         → AnswersAct a.world (read_act (addressed_by_status a.asker.port.number
         (machine.kept_status a.client.handles asked.now.offset a.asker.port.number) asked.now.len)) answer out.old out.new) }
     ensures no_memory { OnErr result (out.new ≡ out.old) }
 {
-    match look(handles, ams_port, asked.offset) {
+    match look(handles, port.number(), asked.offset) {
         Ok(place) => port.read_place(alloc, place, asked.len, out),
         Err(code) => Ok(Err(code)),
     }

@@ -17,15 +17,14 @@ use sym_handles::Handles;
 
 /// How many bytes a Read asks for: of a wide port by a live handle no more than its value has.
 #[inline(always)]
-pub(crate) fn read_len(handles: &Handles, port: &Port, ams_port: u16, asked: &ReadRequest) -> u32
-    requires number { ams_port ≡ port.now.number }
+pub(crate) fn read_len(handles: &Handles, port: &Port, asked: &ReadRequest) -> u32
     ensures { (a : Asking) → Asks a port.now handles.now
         → result ≡ machine.read_len_in a.world.profile.manner a.client a.asker.port (answered_group READ asked.now.group) asked.now.offset asked.now.len }
 {
     if !port.is_wide() {
         return asked.len;
     }
-    held_len(handles, ams_port, asked)
+    held_len(handles, port.number(), asked)
 }
 
 // The same of a wide port.

@@ -29,12 +29,10 @@ pub(crate) fn read(
     alloc: Global,
     handles: &Handles,
     port: &Port,
-    ams_port: u16,
     asked: &ReadRequest,
     out: &mut Octets,
 ) -> Result<Result<(), Code>, NoMemory>
     requires some { SomeAsks port.now handles.now }
-    requires number { ams_port ≡ port.now.number }
     ensures answer { IfOk result (λ answer. (a : Asking) → Asks a port.now handles.now
         → AnswersAct a.world (act_asked a (Read asked.now.group asked.now.offset asked.now.len)) answer out.old out.new) }
     ensures asked { OnOk result (length out.new ≤ length out.old + asked.now.len) }
@@ -42,12 +40,12 @@ pub(crate) fn read(
 {
     // Most reads are of data, which needs no further look at the group.
     if asked.group == PROCESS_BYTES {
-        return read_meant(alloc, handles, port, ams_port, asked, out);
+        return read_meant(alloc, handles, port, asked, out);
     }
     if is_device_data(port, asked.group) {
         return port.read_states(alloc, asked.offset, asked.len, out);
     }
-    read_meant(alloc, handles, port, ams_port, asked, out)
+    read_meant(alloc, handles, port, asked, out)
 }
 
 /// The bytes that a Read gives, where it is one of data or of a value by its handle that is not refused or cut.
@@ -55,11 +53,9 @@ pub(crate) fn read(
 pub(crate) fn data_asked<'a>(
     handles: &Handles,
     port: &'a Port,
-    ams_port: u16,
     asked: &ReadRequest,
 ) -> Option<&'a [u8]>
     requires some { SomeAsks port.now handles.now }
-    requires number { ams_port ≡ port.now.number }
     ensures { IfSome result (λ bytes. (a : Asking) → Asks a port.now handles.now
         → AnswersAct a.world (act_asked a (Read asked.now.group asked.now.offset asked.now.len)) (Ok tt) [] bytes.now) }
 {
@@ -67,7 +63,7 @@ pub(crate) fn data_asked<'a>(
         return data_in(port, asked);
     }
     if is_value_by_handle(asked.group) {
-        return value_in(handles, port, ams_port, asked);
+        return value_in(handles, port, asked);
     }
     None
 }
@@ -87,19 +83,13 @@ fn data_in<'a>(port: &'a Port, asked: &ReadRequest) -> Option<&'a [u8]>
 
 // The same of a value by its handle, which is the offset.
 #[inline(always)]
-fn value_in<'a>(
-    handles: &Handles,
-    port: &'a Port,
-    ams_port: u16,
-    asked: &ReadRequest,
-) -> Option<&'a [u8]>
+fn value_in<'a>(handles: &Handles, port: &'a Port, asked: &ReadRequest) -> Option<&'a [u8]>
     requires some { SomeAsks port.now handles.now }
-    requires number { ams_port ≡ port.now.number }
     requires group { groups.is_value_by_handle (group_of asked.now.group) ≡ true }
     ensures { IfSome result (λ bytes. (a : Asking) → Asks a port.now handles.now
         → AnswersAct a.world (act_asked a (Read asked.now.group asked.now.offset asked.now.len)) (Ok tt) [] bytes.now) }
 {
-    let Ok(place) = look(handles, ams_port, asked.offset) else {
+    let Ok(place) = look(handles, port.number(), asked.offset) else {
         return None;
     };
     if asked.len > place.len {
@@ -114,23 +104,21 @@ fn read_meant(
     alloc: Global,
     handles: &Handles,
     port: &Port,
-    ams_port: u16,
     asked: &ReadRequest,
     out: &mut Octets,
 ) -> Result<Result<(), Code>, NoMemory>
     requires some { SomeAsks port.now handles.now }
-    requires number { ams_port ≡ port.now.number }
     ensures answer { IfOk result (λ answer. (a : Asking) → Asks a port.now handles.now
         → AnswersAct a.world (plain_asked a (meant_in a (Read asked.now.group asked.now.offset asked.now.len))) answer out.old out.new) }
     ensures no_memory { OnErr result (out.new ≡ out.old) }
 {
-    let len = read_len(handles, port, ams_port, asked);
+    let len = read_len(handles, port, asked);
     let meant = ReadRequest {
         group: asked.group,
         offset: asked.offset,
         len,
     };
-    read_plain(alloc, handles, port, ams_port, &meant, out)
+    read_plain(alloc, handles, port, &meant, out)
 }
 
 // The same of a Read that is taken as it is written.
@@ -139,18 +127,16 @@ fn read_plain(
     alloc: Global,
     handles: &Handles,
     port: &Port,
-    ams_port: u16,
     asked: &ReadRequest,
     out: &mut Octets,
 ) -> Result<Result<(), Code>, NoMemory>
     requires some { SomeAsks port.now handles.now }
-    requires number { ams_port ≡ port.now.number }
     ensures answer { IfOk result (λ answer. (a : Asking) → Asks a port.now handles.now
         → AnswersAct a.world (plain_asked a (Read asked.now.group asked.now.offset asked.now.len)) answer out.old out.new) }
     ensures no_memory { OnErr result (out.new ≡ out.old) }
 {
     if is_value_by_handle(asked.group) {
-        return read_value(alloc, handles, port, ams_port, asked, out);
+        return read_value(alloc, handles, port, asked, out);
     }
     port.read(alloc, asked.group, asked.offset, asked.len, out)
 }

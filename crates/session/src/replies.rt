@@ -39,19 +39,17 @@ pub(crate) fn read_reply(
     alloc: Global,
     handles: &Handles,
     port: &Port,
-    ams_port: u16,
     asked: ReadRequest,
     out: &mut Octets,
 ) -> Result<(), NoMemory>
     requires some { SomeAsks port.now handles.now }
-    requires number { ams_port ≡ port.now.number }
     ensures reply { OnOk result ((a : Asking) → Asks a port.now handles.now
         → out.new ≡ out.old ++ reply_payload READ (outcome_asked a (Read asked.group asked.offset asked.len))) }
     ensures no_memory { OnErr result (Extends out.old out.new) }
 {
     let start = out.len();
     put_room(alloc, out, FRONT)?;
-    let answer = reading::read(alloc, handles, port, ams_port, &asked, out)?;
+    let answer = reading::read(alloc, handles, port, &asked, out)?;
     fill_front(out, start, number_in(answer));
     Ok(())
 }
@@ -61,12 +59,10 @@ pub(crate) fn read_write_reply(
     alloc: Global,
     handles: &mut Handles,
     port: &Port,
-    ams_port: u16,
     asked: ReadWriteRequest<'_>,
     out: &mut Octets,
 ) -> Result<(), NoMemory>
     requires some { SomeAsks port.now handles.old }
-    requires number { ams_port ≡ port.now.number }
     ensures reply { OnOk result ((a : Asking) → Asks a port.now handles.old
         → out.new ≡ out.old ++ reply_payload READ_WRITE
         (outcome_asked a (ReadWrite asked.entry.group asked.entry.offset asked.entry.len asked.entry.bytes.now))) }
@@ -76,7 +72,7 @@ pub(crate) fn read_write_reply(
 {
     let start = out.len();
     put_room(alloc, out, FRONT)?;
-    let answer = granting::read_write(alloc, handles, port, ams_port, &asked, out)?;
+    let answer = granting::read_write(alloc, handles, port, &asked, out)?;
     fill_front(out, start, number_in(answer));
     Ok(())
 }

@@ -38,7 +38,6 @@ impl Session {
     ) -> Result<(), NoMemory>
         requires some { SomeAsks port.old self.old.handles }
         requires served { SomeSession port.old self.old }
-        requires number { asker.ams_port ≡ port.old.number }
         ensures runs { OnOk result ((a : Asking) → AsksSession a port.old self.old → IsFrom a asker.source asker.rights
             → Runs a (request_meant request.entry) out.old out.new port.new self.new) }
         ensures keeps { KeepsDescription port.old port.new }
@@ -49,7 +48,7 @@ impl Session {
             Request::DeviceInfo => self.info(alloc, port, out),
             Request::Read { group, offset, len } => {
                 let asked = ReadRequest { group, offset, len };
-                self.read(alloc, port, asker.ams_port, &asked, out)
+                self.read(alloc, port, &asked, out)
             }
             Request::Write {
                 group,
@@ -76,7 +75,7 @@ impl Session {
                 let asked = NoteRequest::new(group, offset, len, mode, cycle);
                 self.add(alloc, port, asker, &asked, out)
             }
-            Request::Delete { handle } => self.delete(alloc, asker.ams_port, handle, out),
+            Request::Delete { handle } => self.delete(alloc, port.number(), handle, out),
             Request::Note(_) => self.note(alloc, out),
             Request::ReadWrite {
                 group,
@@ -140,7 +139,6 @@ impl Session {
         out: &mut Octets,
     ) -> Result<(), NoMemory>
         requires some { SomeAsks port.now self.old.handles }
-        requires number { asker.ams_port ≡ port.now.number }
         ensures runs { OnOk result ((a : Asking) (delay : ℕ) → AsksSession a port.now self.old → IsFrom a asker.source asker.rights
             → Runs a (format.AddDeviceNotification asked.now.group asked.now.offset asked.now.len asked.now.mode delay asked.now.cycle)
             out.old out.new port.now self.new) }
@@ -162,7 +160,6 @@ impl Session {
         asked: &NoteRequest,
     ) -> Result<Result<u32, Code>, NoMemory>
         requires some { SomeAsks port.now self.old.handles }
-        requires number { asker.ams_port ≡ port.now.number }
         ensures adds { IfOk result (λ answer. (a : Asking) (delay : ℕ) → AsksSession a port.now self.old
             → a.asker.address ≡ address_of asker.source
             → AddsAs a (act_asked a (format.AddDeviceNotification asked.now.group asked.now.offset asked.now.len asked.now.mode delay asked.now.cycle))

@@ -44,8 +44,7 @@ impl PartService for Single<'_> {
         out: &mut Octets,
     ) -> Result<Result<(), Code>, NoMemory> {
         let asked = ReadRequest { group, offset, len };
-        let ams_port = self.asker.ams_port;
-        reading::read(alloc, &*self.handles, &*self.port, ams_port, &asked, out)
+        reading::read(alloc, &*self.handles, &*self.port, &asked, out)
     }
 
     #[inline(always)]
@@ -77,15 +76,7 @@ impl PartService for Single<'_> {
             len: read_len,
             bytes,
         };
-        let ams_port = self.asker.ams_port;
-        granting::read_write(
-            alloc,
-            &mut *self.handles,
-            &*self.port,
-            ams_port,
-            &asked,
-            out,
-        )
+        granting::read_write(alloc, &mut *self.handles, &*self.port, &asked, out)
     }
 
     fn add(
@@ -116,6 +107,6 @@ impl PartService for Single<'_> {
     }
 
     fn delete(&mut self, handle: u32) -> Result<(), Code> {
-        watching::delete(&mut *self.watches, self.asker.ams_port, handle)
+        watching::delete(&mut *self.watches, self.port.number(), handle)
     }
 }

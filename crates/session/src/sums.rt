@@ -36,7 +36,6 @@ impl Session {
         out: &mut Octets,
     ) -> Result<(), NoMemory>
         requires some { SomeSession port.old self.old }
-        requires number { asker.ams_port ≡ port.old.number }
         requires sum { IsSumOf port.old.manner asked.now.group }
         ensures runs { OnOk result ((a : Asking) → AsksSession a port.old self.old → IsFrom a asker.source asker.rights
             → Runs a (format.ReadWrite asked.now.group asked.now.offset asked.now.len asked.now.bytes.now) out.old out.new port.new self.new) }

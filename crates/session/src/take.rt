@@ -196,7 +196,6 @@ impl Session {
         let start = out.len();
         put_room(alloc, out, HEADERS)?;
         let asker = Asker {
-            ams_port: h.target.port,
             source: h.source,
             rights,
         };

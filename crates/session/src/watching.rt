@@ -1,5 +1,5 @@
-//! A notification is added or deleted: by one request of a packet, or by a part of a sum. Beckhoff Information System, "ADS Add Device Notification", "ADS Delete Device
-//! Notification".
+//! A notification is added or deleted: by one request of a packet, or by a part of a sum.
+//! Beckhoff Information System, "ADS Add Device Notification", "ADS Delete Device Notification".
 
 ghost use Rattle.std.specs.Prelude.{◌≡◌, ◌≤◌, ℕ, List, Some, option_map, IfOk, OnErr};
 ghost use Rattle.spec_formats.specs.Groups.{group_of};
@@ -56,7 +56,6 @@ pub(crate) fn add(
     asked: &NoteRequest,
 ) -> Result<Result<u32, Code>, NoMemory>
     requires some { SomeAsks port.now handles.now }
-    requires number { asker.ams_port ≡ port.now.number }
     ensures adds { IfOk result (λ answer. (a : Asking) (delay : ℕ) → Asks a port.now handles.now
         → NotesFor a.world.plant.ports a.client watches.old → a.asker.address ≡ address_of asker.source
         → AddsAs a (act_asked a (AddDeviceNotification asked.now.group asked.now.offset asked.now.len asked.now.mode delay asked.now.cycle))
@@ -85,7 +84,6 @@ fn spec_asked(
     asked: &NoteRequest,
 ) -> Result<Spec, Code>
     requires some { SomeAsks port.now handles.now }
-    requires number { asker.ams_port ≡ port.now.number }
     ensures asked { (a : Asking) (delay : ℕ) → Asks a port.now handles.now → a.asker.address ≡ address_of asker.source
         → IsSpecAsked a (act_asked a (AddDeviceNotification asked.now.group asked.now.offset asked.now.len asked.now.mode delay asked.now.cycle))
         result }
@@ -105,7 +103,6 @@ fn spec_with_mode(
     mode: Mode,
 ) -> Result<Spec, Code>
     requires some { SomeAsks port.now handles.now }
-    requires number { asker.ams_port ≡ port.now.number }
     requires mode { Some (mode_meant mode) ≡ mode_of (mode_in port.now.manner asked.now.mode) }
     ensures asked { (a : Asking) (delay : ℕ) → Asks a port.now handles.now → a.asker.address ≡ address_of asker.source
         → IsSpecAsked a (act_asked a (AddDeviceNotification asked.now.group asked.now.offset asked.now.len asked.now.mode delay asked.now.cycle))
@@ -115,13 +112,13 @@ fn spec_with_mode(
     if asked.len > MOST_BYTES {
         return Err(Code::C717);
     }
-    match watched(handles, port, asker.ams_port, asked) {
+    match watched(handles, port, asked) {
         Ok(watched) => {
             if asked.len == 0 {
                 return Err(Code::C705);
             }
             Ok(Spec {
-                port: asker.ams_port,
+                port: port.number(),
                 to: asker.source,
                 watched,
                 mode,
@@ -156,34 +153,22 @@ fn mode_named(mode: u32) -> Option<Mode>
 }
 
 // What a notification is to watch, or the code that refuses it.
-fn watched(
-    handles: &Handles,
-    port: &Port,
-    ams_port: u16,
-    asked: &NoteRequest,
-) -> Result<Watched, Code>
+fn watched(handles: &Handles, port: &Port, asked: &NoteRequest) -> Result<Watched, Code>
     requires some { SomeAsks port.now handles.now }
-    requires number { ams_port ≡ port.now.number }
     ensures watched { (a : Asking) → Asks a port.now handles.now
         → IsWatched a.world.plant.ports a.asker.port.number asked.now.len
         (addition_reach a.world.profile.manner a.client a.asker.port asked.now.group asked.now.offset asked.now.len) result }
     ensures len { IfOk result (λ watched. watched_len (watched_meant watched) ≡ asked.now.len) }
 {
     if !port.is_wide() {
-        return watched_plain(handles, port, ams_port, asked);
+        return watched_plain(handles, port, asked);
     }
-    watched_wide(handles, port, ams_port, asked)
+    watched_wide(handles, port, asked)
 }
 
 // The same of a wide port, whose own bytes may be watched too.
-fn watched_wide(
-    handles: &Handles,
-    port: &Port,
-    ams_port: u16,
-    asked: &NoteRequest,
-) -> Result<Watched, Code>
+fn watched_wide(handles: &Handles, port: &Port, asked: &NoteRequest) -> Result<Watched, Code>
     requires some { SomeAsks port.now handles.now }
-    requires number { ams_port ≡ port.now.number }
     ensures watched { (a : Asking) → Asks a port.now handles.now
         → IsWatched a.world.plant.ports a.asker.port.number asked.now.len
         (addition_reach Wide a.client a.asker.port asked.now.group asked.now.offset asked.now.len) result }
@@ -195,7 +180,7 @@ fn watched_wide(
     if asked.group == SYMBOL_VERSION {
         return watched_version(asked.len);
     }
-    watched_plain(handles, port, ams_port, asked)
+    watched_plain(handles, port, asked)
 }
 
 // So many bytes of the state words.
@@ -226,21 +211,15 @@ fn watched_version(len: u32) -> Result<Watched, Code>
 }
 
 // The same of the groups that every port has.
-fn watched_plain(
-    handles: &Handles,
-    port: &Port,
-    ams_port: u16,
-    asked: &NoteRequest,
-) -> Result<Watched, Code>
+fn watched_plain(handles: &Handles, port: &Port, asked: &NoteRequest) -> Result<Watched, Code>
     requires some { SomeAsks port.now handles.now }
-    requires number { ams_port ≡ port.now.number }
     ensures watched { (a : Asking) → Asks a port.now handles.now
         → IsWatched a.world.plant.ports a.asker.port.number asked.now.len
         (reach_of a.client a.asker.port (answered_group ADD_DEVICE_NOTIFICATION asked.now.group) asked.now.offset asked.now.len) result }
     ensures len { IfOk result (λ watched. watched_len (watched_meant watched) ≡ asked.now.len) }
 {
     if is_value_by_handle(asked.group) {
-        return watched_by_handle(handles, ams_port, asked.offset, asked.len);
+        return watched_by_handle(handles, port.number(), asked.offset, asked.len);
     }
     if !is_bytes_or_bit(asked.group) {
         return Err(Code::C702);

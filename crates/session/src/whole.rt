@@ -42,7 +42,6 @@ impl Session {
         out: &mut Octets,
     ) -> Result<(), NoMemory>
         requires some { SomeAsks port.old self.old.handles }
-        requires number { packet.h.target.port ≡ port.old.number }
         requires header { header_of ams.now ≡ Some (ams_header_of packet.h) }
         requires long { 32 + plain_len packet.kind ≤ length ams.now }
         ensures whole { OnOk result ((a : Asking) → AsksSession a port.old self.old → IsFrom a packet.h.source packet.rights
@@ -70,14 +69,12 @@ impl Session {
     ) -> Result<(), NoMemory>
         requires some { SomeAsks port.now self.now.handles }
         requires long { 44 ≤ length ams.now }
-        requires number { (h : AmsHeader) → header_of ams.now ≡ Some h → h.target.port ≡ port.now.number }
         ensures whole { OnOk result ((a : Asking) (h : AmsHeader) → header_of ams.now ≡ Some h → AsksSession a port.now self.now
             → RunsWhole a h (plain_meant Plain.Read (payload_of ams.now)) out.old out.new port.now self.now) }
         ensures appends { OnOk result (AppendsFrame out.old out.new) }
         ensures no_memory { OnErr result (out.new ≡ out.old) }
     {
-        let ams_port = header_in(ams).target.port;
-        match data_asked(&self.handles, port, ams_port, &read_in(payload_in(ams))) {
+        match data_asked(&self.handles, port, &read_in(payload_in(ams))) {
             Some(bytes) => put_data_frame(alloc, ams, bytes, out),
             None => self.read_behind(alloc, port, ams, out),
         }
@@ -94,7 +91,6 @@ impl Session {
     ) -> Result<(), NoMemory>
         requires some { SomeAsks port.now self.now.handles }
         requires long { 44 ≤ length ams.now }
-        requires number { (h : AmsHeader) → header_of ams.now ≡ Some h → h.target.port ≡ port.now.number }
         ensures whole { OnOk result ((a : Asking) (h : AmsHeader) → header_of ams.now ≡ Some h → AsksSession a port.now self.now
             → RunsWhole a h (plain_meant Plain.Read (payload_of ams.now)) out.old out.new port.now self.now) }
         ensures appends { OnOk result (AppendsFrame out.old out.new) }
@@ -104,7 +100,7 @@ impl Session {
         let asked = read_in(payload_in(ams));
         let start = out.len();
         put_room(alloc, out, HEADERS)?;
-        match read_reply(alloc, &self.handles, port, h.target.port, asked, out) {
+        match read_reply(alloc, &self.handles, port, asked, out) {
             Ok(()) => framed(&h, 0, start, out),
             Err(no_memory) => {
                 out.cut(start);
@@ -124,7 +120,6 @@ impl Session {
     ) -> Result<(), NoMemory>
         requires some { SomeAsks port.old self.old.handles }
         requires long { 44 ≤ length ams.now }
-        requires number { (h : AmsHeader) → header_of ams.now ≡ Some h → h.target.port ≡ port.old.number }
         ensures whole { OnOk result ((a : Asking) (h : AmsHeader) → header_of ams.now ≡ Some h → AsksSession a port.old self.old
             → a.asker.address ≡ h.source → a.asker.rights ≡ rights_of rights
             → RunsWhole a h (plain_meant Plain.Write (payload_of ams.now)) out.old out.new port.new self.new) }
@@ -135,7 +130,6 @@ impl Session {
     {
         let h = header_in(ams);
         let asker = Asker {
-            ams_port: h.target.port,
             source: h.source,
             rights,
         };

@@ -28,13 +28,12 @@ pub(crate) fn write(
     asked: &WriteRequest<'_>,
 ) -> Result<(), Code>
     requires some { SomeAsks port.old handles.old }
-    requires number { asker.ams_port ≡ port.old.number }
     ensures ends { (a : Asking) → Asks a port.old handles.old → IsAsker a.asker (rights_of asker.rights) asker.source.net.bytes
         → EndsAct a (act_asked a (Write asked.now.group asked.now.offset asked.now.bytes.now)) result port.new handles.new }
     ensures keeps { KeepsDescription port.old port.new }
 {
     if is_release(asked.group) {
-        return release(handles, asker.ams_port, asked.bytes);
+        return release(handles, port.number(), asked.bytes);
     }
     if is_value_by_handle(asked.group) {
         return write_value(handles, port, asker, asked.offset, asked.bytes);
@@ -63,7 +62,6 @@ fn write_value(
     bytes: &[u8],
 ) -> Result<(), Code>
     requires some { SomeAsks port.old handles.now }
-    requires number { asker.ams_port ≡ port.old.number }
     ensures ends { (a : Asking) → Asks a port.old handles.now → IsAsker a.asker (rights_of asker.rights) asker.source.net.bytes
         → EndsAct a (value_write_act a handle bytes.now) result port.new handles.now }
     ensures keeps { KeepsDescription port.old port.new }
@@ -71,7 +69,7 @@ fn write_value(
     if !may_write(asker.rights) {
         return Err(Code::C704);
     }
-    match look(handles, asker.ams_port, handle) {
+    match look(handles, port.number(), handle) {
         Ok(place) => port.write_place(place, bytes, asker.rights, asker.source.net),
         Err(code) => Err(code),
     }

@@ -8,14 +8,14 @@ returns-in-Ok-clause-answer c =
     let asked = c.args.asked.now in
     handle-answers c.args.port.now c.args.handles.now asked.len asked.bytes.now c.in-Ok.place c.grant_place.result _ _
     (λ a asks. found-handle a asked.len asked.bytes.now c.in-Ok.place c.if-asked-lt4.false (c.in-Ok.ensures.found a.world a.asker.port asks.held))
-    (c.grant_place.ensures.answer c.args.port.now c.requires.number)
+    (c.grant_place.ensures.answer c.args.port.now c.number.ensures)
 
 pub returns-in-Ok-clause-leaves : goal.returns-in-Ok-clause-leaves
 returns-in-Ok-clause-leaves c =
     let asked = c.args.asked.now in
     handle-leaves c.args.port.now c.args.handles.now _ asked.len asked.bytes.now c.in-Ok.place c.grant_place.result
     (λ a asks. found-handle a asked.len asked.bytes.now c.in-Ok.place c.if-asked-lt4.false (c.in-Ok.ensures.found a.world a.asker.port asks.held))
-    (c.grant_place.ensures.leaves c.args.port.now c.requires.number)
+    (c.grant_place.ensures.leaves c.args.port.now c.number.ensures)
 
 pub returns-then-asked-lt4-clause-answer : goal.returns-then-asked-lt4-clause-answer
 returns-then-asked-lt4-clause-answer c = λ a asks.

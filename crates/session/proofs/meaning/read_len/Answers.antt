@@ -10,4 +10,4 @@ returns-then-not-is_wide c = λ a asks.
 pub returns : goal.returns
 returns c = λ a asks.
     read-wide a c.args.port.now c.args.handles.now c.args.asked.now.group c.args.asked.now.offset c.args.asked.now.len c.held_len.result asks
-    (sym c.is_wide.ensures ∙ c.if-not-is_wide.false) (c.held_len.ensures a c.args.port.now c.requires.number asks)
+    (sym c.is_wide.ensures ∙ c.if-not-is_wide.false) (c.held_len.ensures a c.args.port.now c.number.ensures asks)

@@ -4,7 +4,7 @@ use Rattle.session.proofs.reading.value_in.Goals as goal
 
 pub lent-requires : goal.lent-requires
 lent-requires c =
-    let within = place-fits c.args.port.now c.args.handles.now c.args.ams_port c.args.asked.now.offset c.in-Ok.place c.requires.some c.requires.number
+    let within = place-fits c.args.port.now c.args.handles.now c.number.result c.args.asked.now.offset c.in-Ok.place c.requires.some c.number.ensures
     c.in-Ok.ensures.looks in
     let few = c.if-asked-place.false in
     omega (arith, within, few)
@@ -12,5 +12,5 @@ lent-requires c =
 pub returns : goal.returns
 returns c = λ a asks.
     let x = c.args.asked.now in
-    value-answered a c.args.port.now c.args.handles.now c.args.ams_port x.group x.offset x.len c.in-Ok.place c.lent.result.now asks c.requires.number
+    value-answered a c.args.port.now c.args.handles.now c.number.result x.group x.offset x.len c.in-Ok.place c.lent.result.now asks c.number.ensures
     c.requires.group c.in-Ok.ensures.looks c.if-asked-place.false c.lent.ensures.bytes

@@ -27,7 +27,7 @@ returns-then-asked-eq0-clause-asked c = (λ a delay asks address.
 pub returns-else-asked-eq0-clause-asked : goal.returns-else-asked-eq0-clause-asked
 returns-else-asked-eq0-clause-asked c = (λ a delay asks address.
     asked_for a c.args.asked.now.group c.args.asked.now.offset c.args.asked.now.len c.args.asked.now.mode delay c.args.asked.now.cycle
-    (record { port = c.args.asker.ams_port; to = c.args.asker.source; watched = c.in-Ok.watched; mode = c.args.mode; cycle = c.args.asked.now.cycle })
+    (record { port = c.number.result; to = c.args.asker.source; watched = c.in-Ok.watched; mode = c.args.mode; cycle = c.args.asked.now.cycle })
     (c.requires.mode ∙ ap (λ (x : Manner). mode_of (mode_in x c.args.asked.now.mode)) asks.held.manner) (omega arith) (omega arith)
     (c.in-Ok.ensures.watched a asks)
-    (c.requires.number ∙ port-number a.world a.asker.port c.args.port.now asks.held) address refl)
+    (c.number.ensures ∙ port-number a.world a.asker.port c.args.port.now asks.held) address refl)

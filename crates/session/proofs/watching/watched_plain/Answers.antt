@@ -11,7 +11,7 @@ pub returns-then-is_value_by_handle-clause-watched : goal.returns-then-is_value_
 returns-then-is_value_by_handle-clause-watched c = λ a asks.
     let x = c.args.asked.now in
     watched_by_value a x.group x.offset x.len c.watched_by_handle.result
-    (sym c.is_value_by_handle.ensures ∙ c.if-is_value_by_handle.true) (c.watched_by_handle.ensures.watched a c.args.port.now c.requires.number asks)
+    (sym c.is_value_by_handle.ensures ∙ c.if-is_value_by_handle.true) (c.watched_by_handle.ensures.watched a c.args.port.now c.number.ensures asks)
 
 pub returns-then-not-is_bytes_or_bit-clause-watched : goal.returns-then-not-is_bytes_or_bit-clause-watched
 returns-then-not-is_bytes_or_bit-clause-watched c = λ a asks.

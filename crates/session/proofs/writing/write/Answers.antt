@@ -11,7 +11,7 @@ returns-then-is_release-clause-ends c = λ a asks asker.
     let x = c.args.asked.now in
     ends-along a (release_act a.client a.asker.port x.bytes.now) (act_asked a (Write x.group x.offset x.bytes.now)) _ _ _
     (write-releases a x.group x.offset x.bytes.now (sym c.if-is_release.ensures))
-    (c.release.ensures.ends a c.args.port.now c.requires.number asks)
+    (c.release.ensures.ends a c.args.port.now c.number.ensures asks)
 
 pub returns-then-is_value_by_handle-clause-ends : goal.returns-then-is_value_by_handle-clause-ends
 returns-then-is_value_by_handle-clause-ends c = λ a asks asker.

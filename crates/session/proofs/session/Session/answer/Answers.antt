@@ -5,7 +5,7 @@ use Rattle.ams_header.specs.Header.{ams_header_of}
 use Rattle.port_device.specs.PortMemory.{memory_numbered}
 use Rattle.session.proofs.FrameLemmas.{begins-kept, kept-front, on-err}
 use Rattle.session.proofs.PortsKept.{keep-same, keep-with}
-use Rattle.session.proofs.TakeLemmas.{no-port, some-asks, some-session, numbered-is, same-port, answers-asked, extends-room}
+use Rattle.session.proofs.TakeLemmas.{no-port, some-asks, some-session, same-port, answers-asked, extends-room}
 use Rattle.session.proofs.session.Session.answer.Goals as goal
 
 pub returns-in_default-clause-answers : goal.returns-in_default-clause-answers
@@ -27,9 +27,6 @@ run-requires-clause-some c =
 pub run-requires-clause-served : goal.run-requires-clause-served
 run-requires-clause-served c =
     some-session c.args.ports.now c.args.self.now c.args.h.now.target.port c.in-Some.port.now c.requires.served (sym c.in-Some.ensures.value)
-
-pub run-requires-clause-number : goal.run-requires-clause-number
-run-requires-clause-number c = sym (numbered-is c.args.h.now.target.port c.args.ports.now.ports c.in-Some.port.now (sym c.in-Some.ensures.value))
 
 pub framed-requires : goal.framed-requires
 framed-requires c =

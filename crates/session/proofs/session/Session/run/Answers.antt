@@ -27,4 +27,4 @@ returns-in-Note-clause-runs c = ok-then c.note.result _ _ (λ said a h from.
 pub returns-in-Delete-clause-runs : goal.returns-in-Delete-clause-runs
 returns-in-Delete-clause-runs c = ok-then c.delete.result _ _ (λ said a h from.
     let R : Request → Type 0 = λ q. Runs a (request_meant q) c.args.out.now c.delete.new.out c.args.port.now c.delete.new.self in
-    subst R (sym c.in-Delete.is) (said a c.args.port.now c.requires.number h)) c.delete.ensures.runs
+    subst R (sym c.in-Delete.is) (said a c.args.port.now c.number.ensures h)) c.delete.ensures.runs

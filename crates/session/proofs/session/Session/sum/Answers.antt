@@ -11,7 +11,7 @@ pub run_parts-requires-clause-some : goal.run_parts-requires-clause-some
 run_parts-requires-clause-some c =
     let S : SessionState → Type 0 = λ s. SomeSession c.args.port.now s in
     let own = subst S (sym c.self.view_is) c.requires.some in
-    stands-for-some _ own.asking (asks-of own.asking _ _ own.asks) (notes-of own.asking _ _ own.asks) c.requires.number
+    stands-for-some _ own.asking (asks-of own.asking _ _ own.asks) (notes-of own.asking _ _ own.asks)
 
 pub fill_front-requires-clause-there : goal.fill_front-requires-clause-there
 fill_front-requires-clause-there c = omega (arith, c.len-start.ensures, c.in_ok-put_room.ensures.long, c.in_ok-answer.ensures.grows)
@@ -30,7 +30,6 @@ returns-clause-runs c = λ a h from.
       asks = record { held = own.held; handles = own.stands.handles };
       address = from.address;
       asker = record { net_is = ap (λ (x : AmsAddress). x.net) from.address; rights_are = from.rights_are };
-      number = c.requires.number;
       lent = record { handles = refl; watches = refl; port = refl; keeps = refl };
       notes = notes-of a _ _ own;
     })

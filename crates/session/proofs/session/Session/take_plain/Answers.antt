@@ -1,16 +1,12 @@
 use Rattle.std.proofs.Common.{◌≤◌, ◌+◌, length, sym, arith, length-drop}
 use Rattle.session.proofs.PlainLemmas.{plain-takes}
 use Rattle.session.proofs.PortsKept.{keep-with}
-use Rattle.session.proofs.TakeLemmas.{some-asks, numbered-is}
+use Rattle.session.proofs.TakeLemmas.{some-asks}
 use Rattle.session.proofs.session.Session.take_plain.Goals as goal
 
 pub answer_plain-requires-clause-some : goal.answer_plain-requires-clause-some
 answer_plain-requires-clause-some c =
     some-asks c.args.ports.now c.args.self.now c.args.packet.h.target.port c.in-Some.port.now c.requires.served (sym c.in-Some.ensures.value)
-
-pub answer_plain-requires-clause-number : goal.answer_plain-requires-clause-number
-answer_plain-requires-clause-number c =
-    sym (numbered-is c.args.packet.h.target.port c.args.ports.now.ports c.in-Some.port.now (sym c.in-Some.ensures.value))
 
 pub answer_plain-requires-clause-long : goal.answer_plain-requires-clause-long
 answer_plain-requires-clause-long c = omega (arith, c.requires.plain.payload.long, length-drop 32 c.args.ams.now, c.requires.packet.least)

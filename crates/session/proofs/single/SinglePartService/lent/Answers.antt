@@ -12,7 +12,6 @@ returns-clause-leaves c = on-some c.data_lent.result _ (λ s h. record {
   asks = read-leaves s.asking c.args.group c.args.offset c.args.len c.args.self.now.port.now c.args.self.now.handles.now h.asks;
   asker = h.asker;
   address = h.address;
-  number = h.number;
   lent = record { handles = h.lent.handles; watches = h.lent.watches; port = h.lent.port; keeps = h.lent.keeps };
   notes = notes-kept _ s.asking.client _ _ h.notes (same-notes s.asking.client _ (read-effect s.asking c.args.group c.args.offset c.args.len));
 })

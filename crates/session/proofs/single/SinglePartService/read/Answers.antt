@@ -12,7 +12,6 @@ returns-clause-leaves c = on-ok c.read.result _ (λ s h. record {
   asks = read-leaves s.asking c.args.group c.args.offset c.args.len c.args.self.now.port.now c.args.self.now.handles.now h.asks;
   asker = h.asker;
   address = h.address;
-  number = h.number;
   lent = record { handles = h.lent.handles; watches = h.lent.watches; port = h.lent.port; keeps = h.lent.keeps };
   notes = notes-kept _ s.asking.client _ _ h.notes (same-notes s.asking.client _ (read-effect s.asking c.args.group c.args.offset c.args.len));
 })
@@ -23,4 +22,6 @@ returns-clause-refused c =
     (record { asking = c.requires.state.asking; asks = c.requires.stands.asks }) c.read.ensures.answer
 
 pub returns-clause-wants : goal.returns-clause-wants
-returns-clause-wants c = wants-all c.args.self.now c.read.result _ (λ x h. record { handles = h.lent.handles; watches = h.lent.watches; port = h.lent.port; keeps = h.lent.keeps })
+returns-clause-wants c =
+    wants-all c.args.self.now c.read.result _
+    (λ x h. record { handles = h.lent.handles; watches = h.lent.watches; port = h.lent.port; keeps = h.lent.keeps })

@@ -14,7 +14,6 @@ returns-clause-leaves c =
       asks = after;
       asker = h.asker;
       address = h.address;
-      number = h.number;
       lent = record { handles = h.lent.handles; watches = h.lent.watches; port = h.lent.port; keeps = h.lent.keeps };
       notes =
           notes-kept _ x.asking.client _ _ h.notes
@@ -22,7 +21,9 @@ returns-clause-leaves c =
     }) c.read_write.ensures.leaves
 
 pub returns-clause-wants : goal.returns-clause-wants
-returns-clause-wants c = wants-all c.args.self.now c.read_write.result _ (λ x h. record { handles = h.lent.handles; watches = h.lent.watches; port = h.lent.port; keeps = h.lent.keeps })
+returns-clause-wants c =
+    wants-all c.args.self.now c.read_write.result _
+    (λ x h. record { handles = h.lent.handles; watches = h.lent.watches; port = h.lent.port; keeps = h.lent.keeps })
 
 pub returns-clause-refused : goal.returns-clause-refused
 returns-clause-refused c =

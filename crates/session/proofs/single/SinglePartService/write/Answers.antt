@@ -1,5 +1,4 @@
-use Rattle.std.proofs.Common.{sym, ◌∙◌}
-use Rattle.session.proofs.SingleLemmas.{code-ends, keeps-both, keeps-number}
+use Rattle.session.proofs.SingleLemmas.{code-ends, keeps-both}
 use Rattle.session.proofs.EffectLemmas.{notes-kept, same-notes, write-effect}
 use Rattle.session.proofs.single.SinglePartService.write.Goals as goal
 
@@ -11,7 +10,6 @@ returns-clause-leaves c = λ s h. record {
   asks = (c.write.ensures.ends s.asking h.asks h.asker).after;
   asker = h.asker;
   address = h.address;
-  number = h.number ∙ sym (keeps-number c.args.self.now.port.now c.write.new.port c.write.ensures.keeps);
   lent = record {
     handles = h.lent.handles;
     watches = h.lent.watches;
