@@ -83,7 +83,8 @@ data-act a m kept offset len at n area asks rule =
     ∙ data-group (setup_of a.world) a.client a.world a.asker.port m offset len at n area asks.held rule
 
 -- the bytes at the range answer it
-pub data-answered : (a : Asking) (m : PortMemory) (kept : Kept) (group offset len at n : ℕ) (area : Area) (bytes : List ℕ) → Asks a m kept → group ≡ process_bytes
+pub data-answered : (a : Asking) (m : PortMemory) (kept : Kept) (group offset len at n : ℕ) (area : Area) (bytes : List ℕ)
+    → Asks a m kept → group ≡ process_bytes
     → range_of m.table.sizes process_bytes offset len ≡ Ok (Bytes area at n)
     → bytes ≡ values_at a.world.memory (map WholeByte (names_at a.asker.port area at n))
     → AnswersAct a.world (act_asked a (Read group offset len)) (Ok tt) [] bytes
@@ -159,13 +160,14 @@ lent-to m kept r None said = tt
 lent-to m kept r (Some bytes) said = λ a asks. said a kept asks
 
 -- a Read of data is answered so
-pub data-whole : (a : Asking) (h : AmsHeader) (r : Request) (group offset len : ℕ) (m : PortMemory) (s : SessionState) (bytes old new : List ℕ) → AsksSession a m s
-    → Read group offset len ≡ r → AnswersAct a.world (act_asked a (Read group offset len)) (Ok tt) [] bytes
+pub data-whole : (a : Asking) (h : AmsHeader) (r : Request) (group offset len : ℕ) (m : PortMemory) (s : SessionState) (bytes old new : List ℕ)
+    → AsksSession a m s → Read group offset len ≡ r → AnswersAct a.world (act_asked a (Read group offset len)) (Ok tt) [] bytes
     → new ≡ old ++ frame_bytes (response_packet h no_error (data_payload no_error bytes)) → RunsWhole a h r old new m s
 data-whole a h r group offset len m s bytes old new asks meant answers is =
     let o = outcome_asked a (Read group offset len) in
     let payload : data_payload no_error bytes ≡ reply_payload 2 o =
-    ap (λ n. data_payload n bytes) (sym answers.0) ∙ ap (data_payload o.code) answers.1 ∙ sym (read-payload a.world.memory (act_asked a (Read group offset len))) in
+    ap (λ n. data_payload n bytes) (sym answers.0) ∙ ap (data_payload o.code) answers.1
+    ∙ sym (read-payload a.world.memory (act_asked a (Read group offset len))) in
     let runs = read-runs a group offset len m s [] (reply_payload 2 o) asks refl in
     let R : Request → Type 0 = λ x. RunsWhole a h x old new m s in
     subst R meant (record {

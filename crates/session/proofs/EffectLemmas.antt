@@ -107,7 +107,8 @@ least-effect : (b : Bool) (act : Act) → IsOfHandles (effect_of act) → IsOfHa
 least-effect true act h = tt
 least-effect false act h = h
 
-named-effect : (d : Setup) (c : Client) (p : PlantPort) (g : Option Group) (len : ℕ) (name : List ℕ) → IsOfHandles (effect_of (read_write_group d c p g len name))
+named-effect : (d : Setup) (c : Client) (p : PlantPort) (g : Option Group) (len : ℕ) (name : List ℕ)
+    → IsOfHandles (effect_of (read_write_group d c p g len name))
 unfolding read_write_group
 named-effect d c p (Some HandleByName) len name =
     least-effect (nat_lt len 4) (if_found (found_of p.symbols name) (λ f. grant_act c p (place_of f))) (found-effect c p (found_of p.symbols name))

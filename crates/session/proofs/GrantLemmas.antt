@@ -274,7 +274,8 @@ least-idle : (b : Bool) (act : Act) → IsIdle act → IsIdle (if b then Refusal
 least-idle true act idle = tt
 least-idle false act idle = idle
 
-pub port-idle : (d : Setup) (c : client.Client) (p : PlantPort) (g : Option Group) (len : ℕ) (name : List ℕ) → IsIdle (read_write_group d c p (without_handles g) len name)
+pub port-idle : (d : Setup) (c : client.Client) (p : PlantPort) (g : Option Group) (len : ℕ) (name : List ℕ)
+    → IsIdle (read_write_group d c p (without_handles g) len name)
 unfolding read_write_group
 port-idle d c p (Some ValueByName) len name = found-idle (found_of p.symbols name) _ (λ f. value-idle p len (place_of f))
 port-idle d c p (Some InfoByName) len name =

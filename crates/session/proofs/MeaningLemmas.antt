@@ -239,7 +239,8 @@ more_asked a r = more_act (setup_of a.world) a.client a.asker r
 pub nothing-strict : (a : Asking) (r : Request) (m : PortMemory) (kept : Kept) → Asks a m kept → is_wide m.manner ≡ false → more_asked a r ≡ None
 nothing-strict a r m kept asks f = more_act-strict (setup_of a.world) a.client a.asker r (sym (strict-world a m kept asks f))
 
-pub nothing-other : (a : Asking) (group offset len : ℕ) (bytes : List ℕ) → (group == type_by_text) ≡ false → more_asked a (ReadWrite group offset len bytes) ≡ None
+pub nothing-other : (a : Asking) (group offset len : ℕ) (bytes : List ℕ) → (group == type_by_text) ≡ false
+    → more_asked a (ReadWrite group offset len bytes) ≡ None
 nothing-other a group offset len bytes e = more_read_write-none a.world.profile.manner (setup_of a.world) group len bytes e
 
 -- an entry of a type, which a wide port gives

@@ -128,7 +128,8 @@ whole-of a h r start old room out new m s runs is_start long kept is_new =
     record { framed = frame-behind h no_error start old room out _ new is_start long runs.reply kept is_new; after = runs.after }
 
 -- and is answered so
-pub answers-whole : (a : Asking) (h : AmsHeader) (r : format.Request) (ports : PortsMemory) (number : ℕ) (m' : PortMemory) (s' : SessionState) (old new : List ℕ)
+pub answers-whole : (a : Asking) (h : AmsHeader) (r : format.Request) (ports : PortsMemory) (number : ℕ)
+    (m' : PortMemory) (s' : SessionState) (old new : List ℕ)
     → HoldsPorts a.world ports → port_numbered number a.world.plant.ports ≡ Some a.asker.port → RunsWhole a h r old new m' s'
     → AnswersAsked a h r (taken.Answer (drop (length old) new)) (with_port ports number m') s'
 answers-whole a h r ports number m' s' old new held found whole =

@@ -95,7 +95,8 @@ all_in_old_world old new moves ports are number [] (y ∷ ys) h = absurd h
 all_in_old_world old new moves ports are number (x ∷ xs) [] h = absurd h
 
 -- the places of live handles lie in the old world
-pub places_in_old_world : (moves : List KeptPlace) (ports : List ℕ) (s : SessionState) → IsReloadable moves ports s → All (HasPlaceInOldWorld moves) s.handles.handles
+pub places_in_old_world : (moves : List KeptPlace) (ports : List ℕ) (s : SessionState) → IsReloadable moves ports s
+    → All (HasPlaceInOldWorld moves) s.handles.handles
 places_in_old_world moves ports s is =
     let k = is.stands.handles in
     subst (All (HasPlaceInOldWorld moves)) (sym k.represented.handles)
@@ -159,7 +160,8 @@ reloaded_frames time net w v c moves ports s ended frames are stands net_is told
     (watched_after moves ports) (watched_move w.plant v.plant moves ports are)).ended c.watches s.watches.watches stands.watches in
     let samples : samples_of_ended ended ≡ end_samples (ended_of (is_kept w.plant v.plant) c) =
     samples-of ended (ended_watches (watched_after moves ports) s.watches.watches) told
-    ∙ ends-same w.plant.ports (ended_watches (kept_bytes (is_kept w.plant v.plant)) c.watches) (ended_watches (watched_after moves ports) s.watches.watches) agree in
+    ∙ ends-same w.plant.ports (ended_watches (kept_bytes (is_kept w.plant v.plant)) c.watches)
+    (ended_watches (watched_after moves ports) s.watches.watches) agree in
     made ∙ (ap (λ n. frames_of_samples n time (samples_of_ended ended)) (sym net_is) ∙ ap (frames_of_samples w.plant.net time) samples)
 
 -- at most 512 end

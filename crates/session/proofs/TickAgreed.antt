@@ -104,7 +104,8 @@ module _ (w : World) where
       h
 
   watches_alike : (now : ℕ) (us : List (Watch (List Addressed))) (vs : List (Watch Watched)) → AgreeingWatches (is_same_watched w.plant.ports) us vs
-      → AgreeingWatches (is_same_watched w.plant.ports) (watches_after_tick w.memory now us) (map (λ (v : Watch Watched). checked_watch now (found_in w v) v) vs)
+      → AgreeingWatches (is_same_watched w.plant.ports) (watches_after_tick w.memory now us)
+      (map (λ (v : Watch Watched). checked_watch now (found_in w v) v) vs)
   unfolding watches_after_tick
   watches_alike now [] [] h = tt
   watches_alike now (u ∷ us) (v ∷ vs) h = (

@@ -13,7 +13,8 @@ use Rattle.spec_plant.specs.World.{PlantPort, PlantSymbol, symbol_size, lower_na
 use Rattle.spec_plant.proofs.BlockLemmas.{same_area-true}
 use Rattle.spec_plant.proofs.SoundLemmas.{each-get}
 use Rattle.spec_formats.specs.Groups.{Group, AreaBytes, AreaBit, AreaSize, ValueByHandle, HandleByName, ValueByName, ReleaseHandle, InfoByName, SymbolVersion}
-use Rattle.spec_formats.specs.Groups.{ExtendedInfoByName, SymbolUpload, UploadInfo, TypeUpload, UploadInfoWithTypes, SumRead, SumWrite, SumReadWrite, group_of, symbol_version}
+use Rattle.spec_formats.specs.Groups.{ExtendedInfoByName, SymbolUpload, UploadInfo, TypeUpload, UploadInfoWithTypes, SumRead, SumWrite, SumReadWrite}
+use Rattle.spec_formats.specs.Groups.{group_of, symbol_version}
 use Rattle.spec_formats.specs.Ranges.{Range, Size, range_in, range_of, byte_range, bit_range, greatest_len}
 use Rattle.spec_machine.specs.Access.{Addressed, WholeByte, OneBit}
 use Rattle.spec_machine.specs.Answers.{if_answered, answered_group, ADD_DEVICE_NOTIFICATION}

@@ -1,6 +1,7 @@
 -- A notification is added or deleted, in the session and in the machine.
 use Rattle.std.proofs.Common.{◌≡◌, ℕ, ◌+◌, ◌<◌, ◌≤◌, Bool, true, false, not, cond, List, [], ◌∷◌, ◌++◌, length, inl, inr, refl, sym, ap, subst, ◌∙◌, arith}
-use Rattle.std.specs.Prelude.{Option, Some, None, option_map, unwrap_or, Result, Ok, Err, IsTrue, IsErr, IsOk, IfOk, IfErr, OnOk, OnErr, ◌↔◌, ◌||◌, ◌&&◌, ◌==◌, nat_le, filter}
+use Rattle.std.specs.Prelude.{Option, Some, None, option_map, unwrap_or, Result, Ok, Err, IsTrue, IsErr, IsOk, IfOk, IfErr, OnOk, OnErr}
+use Rattle.std.specs.Prelude.{◌↔◌, ◌||◌, ◌&&◌, ◌==◌, nat_le, filter}
 use Rattle.std.specs.List.{list_any}
 use Rattle.std.specs.Int.{w32, to_le_bytes}
 use Rattle.std.proofs.lemmas.Bool.{cases_Bool, lt-ltb, le-ltb, eq-eqb, ne_eqb, false≢true}
@@ -68,7 +69,8 @@ module _ (a : Asking) (group offset len mode delay cycle : ℕ) where
       asked-is ∙ (ap (λ o. add_of_reach a.client a.asker len cycle o reached) (sym is)
       ∙ rw (lt-ltb 2048 len big) refl)
 
-  reached-is : (m : machine.Mode) → Some m ≡ mode_of (mode_in a.world.profile.manner mode) → len ≤ 2048 → asked ≡ add_reached a.client a.asker m len cycle reached
+  reached-is : (m : machine.Mode) → Some m ≡ mode_of (mode_in a.world.profile.manner mode) → len ≤ 2048
+      → asked ≡ add_reached a.client a.asker m len cycle reached
   reached-is m is few =
       asked-is ∙ (ap (λ o. add_of_reach a.client a.asker len cycle o reached) (sym is)
       ∙ rw (le-ltb 2048 len few) refl)

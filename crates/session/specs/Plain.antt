@@ -62,7 +62,8 @@ pub record IsPlain (ams net : List ℕ) (admitted : Admitted) (p : PlainPacket) 
 
 -- what stands behind the addresses in the header of an answer without an AMS error: command 2, flags 2, data length 4, error code 4, invoke id 4
 abbrev pub answer_fields : ℕ → ℕ → ℕ → List ℕ
-answer_fields command len id = to_le_bytes w16 command ++ to_le_bytes w16 response_flags ++ to_le_bytes w32 len ++ to_le_bytes w32 no_error ++ to_le_bytes w32 id
+answer_fields command len id =
+    to_le_bytes w16 command ++ to_le_bytes w16 response_flags ++ to_le_bytes w32 len ++ to_le_bytes w32 no_error ++ to_le_bytes w32 id
 
 -- what stands in front of an AMS packet of so many bytes: reserved 2, length 4
 abbrev pub frame_front : ℕ → List ℕ
