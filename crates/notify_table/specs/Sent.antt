@@ -1,11 +1,17 @@
 -- Which bytes a value of `SentBytes` holds. Private: no public clause cites this file.
-use Rattle.std.specs.Prelude.{◌≡◌, ℕ, List, length, take, nat_le, if◌then◌else◌, true, nat_lt}
+use Rattle.std.specs.Prelude.{ℕ, List, take}
 use Rattle.notify_table.specs.declared.sent.SentBytes.TheInside.{Inside}
+use Rattle.notify_table.specs.declared.sent.Few as code
+use Rattle.notify_table.specs.declared.sent.Kept.{Kept}
+use Rattle.notify_table.specs.declared.sent.Kept.TheVariants.{Few, Many}
 
 -- up to eight stand in place
-abbrev pub bytes_in : Inside → List ℕ
-bytes_in s = if nat_le s.len 8 then take s.len s.few else s.many.items
+abbrev pub few_bytes : code.Few → List ℕ
+few_bytes few = take few.len few.bytes
 
--- where there are more, there is room for them
-abbrev pub IsAsLong : Inside → Type 0
-IsAsLong s = nat_lt 8 s.len ≡ true → length s.many.items ≡ s.len
+abbrev pub bytes_kept : Kept → List ℕ
+bytes_kept (Few few) = few_bytes few
+bytes_kept (Many many) = many.items
+
+abbrev pub bytes_in : Inside → List ℕ
+bytes_in s = bytes_kept s.kept

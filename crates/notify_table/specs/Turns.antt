@@ -4,7 +4,6 @@ use Rattle.std.specs.Prelude.{None, Some, All}
 use Rattle.std.specs.List.Sorted.{IsNonDecreasingBy}
 use Rattle.spec_machine.specs.WatchedRanges.{Watched}
 use Rattle.spec_machine.specs.Watches.{Watch}
-use Rattle.notify_table.specs.declared.turn.Turn.{Turn}
 
 -- 0 before the first check, then the last check and the cycle
 abbrev pub moment_after : Option ℕ → ℕ → ℕ
@@ -14,29 +13,29 @@ moment_after (Some last) cycle = last + max cycle 1
 abbrev pub next_moment : Watch Watched → ℕ
 next_moment w = moment_after w.last w.cycle
 
--- turns stand by their moment, and at one moment by their handle
-abbrev pub turn_rank : Turn → ℕ
-turn_rank t = t.next * 4294967296 + t.handle
+-- notifications stand by the moment of their next check, and at one moment by their handle
+abbrev pub rank_of : ℕ → ℕ → ℕ
+rank_of next handle = next * 4294967296 + handle
 
-abbrev pub HasHandle : Turn → Type 0
-HasHandle t = t.handle < 4294967296
+abbrev pub turn_rank : Watch Watched → ℕ
+turn_rank w = rank_of (next_moment w) w.handle
 
-pub record AreInTurn (turns : List Turn) : Type 0 where
-  pub handles : All HasHandle turns
-  pub rise : IsNonDecreasingBy turn_rank turns
+abbrev pub HasHandle : Watch Watched → Type 0
+HasHandle w = w.handle < 4294967296
 
-abbrev pub is_turn_due : ℕ → Turn → Bool
-is_turn_due now t = nat_le t.next now
+pub record AreInTurn (watches : List (Watch Watched)) : Type 0 where
+  pub handles : All HasHandle watches
+  pub rise : IsNonDecreasingBy turn_rank watches
 
-abbrev pub handle_of_turn : Turn → ℕ
-handle_of_turn t = t.handle
+abbrev pub is_turn_due : ℕ → Watch Watched → Bool
+is_turn_due now w = nat_le (next_moment w) now
 
--- what stands before a place comes before the turn, and what stands from there on does not
-pub record IsPlaceOf (t : Turn) (turns : List Turn) (place : ℕ) : Type 0 where
-  pub within : place ≤ length turns
-  pub before : (k : ℕ) (d : Turn) → k < place → turn_rank (slice_index_or turns k d) ≤ turn_rank t
-  pub behind : (k : ℕ) (d : Turn) → place ≤ k → k < length turns → turn_rank t ≤ turn_rank (slice_index_or turns k d)
+-- what stands before a place comes before this rank, and what stands from there on does not
+pub record IsPlaceOf (rank : ℕ) (watches : List (Watch Watched)) (place : ℕ) : Type 0 where
+  pub within : place ≤ length watches
+  pub before : (k : ℕ) (d : Watch Watched) → k < place → turn_rank (slice_index_or watches k d) ≤ rank
+  pub behind : (k : ℕ) (d : Watch Watched) → place ≤ k → k < length watches → rank ≤ turn_rank (slice_index_or watches k d)
 
 -- a check of each of them is due
-abbrev pub AllDue : ℕ → List Turn → Type 0
-AllDue now turns = All (λ t. is_turn_due now t ≡ true) turns
+abbrev pub AllDue : ℕ → List (Watch Watched) → Type 0
+AllDue now watches = All (λ w. is_turn_due now w ≡ true) watches

@@ -4,11 +4,11 @@
 mod going_round;
 mod laws;
 mod record;
+mod ring;
 mod round;
 mod schedule;
 mod sent;
 mod spec;
-mod turn;
 mod watches;
 
 pub use laws::histories_determine_notifications;

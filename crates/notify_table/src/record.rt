@@ -12,21 +12,27 @@ ghost use Rattle.notify_table.specs.Table.{watched_len, CanBeWatched};
 
 use crate::sent::SentBytes;
 use crate::{Ended, Mode, Spec, Watched};
-use ads_base::NoMemory;
+use ads_base::{AmsAddr, NoMemory};
 use index_groups::Reach;
 use std::alloc::Global;
 use std::marker::Model;
 use symbol_table::Moves;
 use type_layout::Area;
 
-// A live notification.
+// A live notification, in 64 bytes.
 #[derive(Drop)]
 pub(crate) struct Record {
-    handle: u32,
-    spec: Spec,
-    last: Option<u64>,
+    // The moment of its last check, where there was one.
+    last: u64,
     // As many bytes as are watched, from the addition on; sent where there was a check.
     sent: SentBytes,
+    watched: Watched,
+    handle: u32,
+    cycle: u32,
+    to: AmsAddr,
+    port: u16,
+    mode: Mode,
+    checked: bool,
 }
 
 impl Model for Record {
@@ -52,26 +58,52 @@ impl Record {
     {
         let sent = SentBytes::new(alloc, len_of(spec.watched))?;
         Ok(Record {
-            handle,
-            spec,
-            last: None,
+            last: 0,
             sent,
+            watched: spec.watched,
+            handle,
+            cycle: spec.cycle,
+            to: spec.to,
+            port: spec.port,
+            mode: spec.mode,
+            checked: false,
         })
     }
 
     pub fn spec(&self) -> Spec
         ensures { new_watch self.now.handle result ≡ before_checks self.now }
     {
-        self.spec
+        Spec {
+            port: self.port,
+            to: self.to,
+            watched: self.watched,
+            mode: self.mode,
+            cycle: self.cycle,
+        }
+    }
+
+    #[inline(always)]
+    pub fn handle(&self) -> u32
+        ensures { result ≡ self.now.handle }
+    {
+        self.handle
+    }
+
+    #[inline(always)]
+    pub fn cycle(&self) -> u32
+        ensures { result ≡ self.now.cycle }
+    {
+        self.cycle
     }
 
     // The moment from which on the next check is due.
     pub fn next(&self) -> u128
         ensures { result ≡ next_moment self.now }
     {
-        match self.last {
-            None => 0,
-            Some(last) => u128::from(last) + u128::from(self.spec.cycle.max(1)),
+        if self.checked {
+            u128::from(self.last) + u128::from(self.cycle.max(1))
+        } else {
+            0
         }
     }
 
@@ -84,7 +116,8 @@ impl Record {
     {
         let same = self.sent.renew(bytes);
         let sent = self.sends(same);
-        self.last = Some(now);
+        self.last = now;
+        self.checked = true;
         sent
     }
 
@@ -93,7 +126,7 @@ impl Record {
         ensures moved { option_map watched_meant result ≡ watched_after m.now ports.now self.now.port self.now.watched }
         ensures len { IfSome result (λ watched. watched_len (watched_meant watched) ≡ watched_len self.now.watched) }
     {
-        moved_watched(m, ports, self.spec.port, self.spec.watched)
+        moved_watched(m, ports, self.port, self.watched)
     }
 
     // As many bytes are watched elsewhere.
@@ -101,7 +134,7 @@ impl Record {
         requires { watched_len (watched_meant watched) ≡ watched_len self.old.watched }
         ensures { self.new ≡ record self.old { watched = watched_meant watched } }
     {
-        self.spec.watched = watched;
+        self.watched = watched;
     }
 
     pub fn ended(&self) -> Ended
@@ -109,8 +142,8 @@ impl Record {
     {
         Ended {
             handle: self.handle,
-            port: self.spec.port,
-            to: self.spec.to,
+            port: self.port,
+            to: self.to,
         }
     }
 
@@ -119,10 +152,7 @@ impl Record {
     fn sends(&self, same: bool) -> bool
         ensures { result ≡ (not (is_some self.now.last) || sends_by_mode self.now.mode same) }
     {
-        match self.last {
-            None => true,
-            Some(_) => self.spec.mode == Mode::Cycle || !same,
-        }
+        !self.checked || self.mode == Mode::Cycle || !same
     }
 }
 

@@ -9,9 +9,7 @@ ghost use Rattle.notify_table.specs.Numbered.{AreGranted, table_from};
 
 use crate::Spec;
 use crate::record::Record;
-use crate::schedule::{Schedule, check_record, spec_of};
-use crate::turn::Turn;
-use slab::Slab;
+use crate::schedule::Schedule;
 use std::collections::VecDeque;
 use std::marker::Model;
 
@@ -19,9 +17,8 @@ use std::marker::Model;
 /// notifications, the handles of those that are checked, the moment, and how many checks were made.
 #[derive(Drop)]
 pub struct Round {
-    pub(crate) records: Slab<Record>,
     // Those that are due stand in front, in the order of their checks.
-    pub(crate) turns: VecDeque<Turn>,
+    pub(crate) ring: VecDeque<Record>,
     pub(crate) granted: u32,
     pub(crate) moment: u64,
     pub(crate) due: usize,
@@ -62,7 +59,7 @@ impl Round {
         requires { HasNext self.now }
         ensures { result ≡ next_handle self.now }
     {
-        self.turns[self.made].handle
+        self.ring[self.made].handle()
     }
 
     /// What the notification that is checked next was added as, and what it watches now.
@@ -72,8 +69,7 @@ impl Round {
         ensures spec { IsSomeAnd (next_watch self.now) (λ w. new_watch (next_handle self.now) result ≡ before_checks w) }
         ensures table { IsTable self.now.table }
     {
-        let turn = self.turns[self.made];
-        spec_of(&self.records, turn.key)
+        self.ring[self.made].spec()
     }
 
     /// Makes the next check, of a notification that is due and whose bytes are these: whether a sample is to be sent. The
@@ -86,9 +82,7 @@ impl Round {
         ensures sent { IfSome (next_watch self.old) (λ w. result ≡ is_sent bytes.now w) }
         ensures new { self.new ≡ round_after bytes.now self.old }
     {
-        let turn = &mut self.turns[self.made];
-        let (sent, next) = check_record(&mut self.records, turn.key, self.moment, bytes);
-        turn.next = next;
+        let sent = self.ring[self.made].check(self.moment, bytes);
         self.made += 1;
         sent
     }
@@ -101,14 +95,13 @@ impl Round {
         ensures granted { AreGranted result.0 result.1 }
     {
         let Round {
-            records,
-            mut turns,
+            mut ring,
             granted,
             moment: _,
             due,
             made: _,
         } = self;
-        turns.rotate_left(due);
-        (Schedule::of_parts(records, turns), granted)
+        ring.rotate_left(due);
+        (Schedule::of_ring(ring), granted)
     }
 }

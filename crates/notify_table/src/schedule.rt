@@ -1,75 +1,71 @@
 //! The live notifications of one connection, in the order in which their checks become due.
 
 ghost use Rattle.std.specs.Prelude.{◌≡◌, ℕ, ◌+◌, ◌<◌, ◌≤◌, [], map, filter, length, insert, remove, position};
-ghost use Rattle.std.specs.Prelude.{nat_eq, IsSome, IfSome, Some, IsTrue, All, option_map, IfOk, IfErr, OnOk, OnErr};
+ghost use Rattle.std.specs.Prelude.{IfSome, Some, IsTrue, IfOk, IfErr, OnOk, OnErr};
 ghost use Rattle.std.specs.List.Sorted.{IsStrictlyIncreasing};
-ghost use Rattle.slab.specs.Slab.{get, slab_len, Updates};
 ghost use Rattle.spec_machine.specs.Watches.{is_due, is_sent, after_check, watch_after_reload, watches_after_reload};
 ghost use Rattle.notify_table.specs.Specs.{watched_meant, new_watch, before_checks};
 ghost use Rattle.notify_table.specs.Table.{watched_len, CanBeWatched, handle_of, is_numbered};
-ghost use Rattle.notify_table.specs.Turns.{next_moment, handle_of_turn};
-ghost use Rattle.notify_table.specs.Schedules.{watch_under, watch_at, nth_watch, AreScheduled, IsKept, IsSettled};
+ghost use Rattle.notify_table.specs.Turns.{AreInTurn};
+ghost use Rattle.notify_table.specs.Schedules.{nth_watch, IsSettled};
 ghost use Rattle.notify_table.specs.Numbered.{AreGranted, table_from};
 ghost use Rattle.notify_table.specs.Rounds.{round_at};
 ghost use Rattle.notify_table.specs.Reloads.{watched_after, is_ended, end_of, ended_meant};
 
 use crate::going_round::go_round;
 use crate::record::Record;
+use crate::ring::{count_due, due_of_ring, put_record, take_record};
 use crate::round::Round;
-use crate::turn::{Turn, count_due, due_turns, put_turn, take_turn};
-use crate::{Ended, Spec, Watched};
+use crate::{Ended, Spec};
 use ads_base::{NoMemory, Steps};
-use slab::Slab;
 use std::alloc::Global;
 use std::collections::VecDeque;
 use std::marker::Model;
 use std::sync::ledger::Ledger;
 use symbol_table::Moves;
 
-// The notifications, which contracts see as their list in the order of their turns.
+// The notifications, which contracts see as their list in the order in which their checks become due.
 #[derive(Drop)]
 pub(crate) struct Schedule {
-    records: Slab<Record>,
     // By the moment from which on the next check is due, and by handle. One that is checked leaves the front and, mostly,
     // goes to the back, so nothing between them is moved.
-    turns: VecDeque<Turn>,
+    ring: VecDeque<Record>,
 }
 
 impl Model for Schedule {
-    ghost use Rattle.std.specs.Prelude.{List, map};
+    ghost use Rattle.std.specs.Prelude.{List};
     ghost use Rattle.spec_machine.specs.WatchedRanges.{Watched};
     ghost use Rattle.spec_machine.specs.Watches.{Watch};
-    ghost use Rattle.notify_table.specs.Schedules.{watch_at, AreScheduled};
+    ghost use Rattle.notify_table.specs.Turns.{AreInTurn};
 
     ghost Value = { List (Watch Watched) };
 
-    ghost view = { λ s. map (watch_at s.records) s.turns.items };
+    ghost view = { λ s. s.ring.items };
 
-    ghost invariant = { λ s. AreScheduled s.records s.turns.items };
+    ghost invariant = { λ s. AreInTurn s.ring.items };
 }
 
 impl Schedule {
-    // Of the records and the turns of a round all of whose checks were made.
-    pub fn of_parts(records: Slab<Record>, turns: VecDeque<Turn>) -> Schedule
-        requires { AreScheduled records turns.items }
-        ensures { result ≡ map (watch_at records) turns.items }
+    // Of the notifications of a round all of whose checks were made.
+    pub fn of_ring(ring: VecDeque<Record>) -> Schedule
+        requires { AreInTurn ring.items }
+        ensures { result ≡ ring.items }
     {
-        Schedule { records, turns }
+        Schedule { ring }
     }
 
     pub fn new(alloc: Global) -> Schedule
         ensures { result ≡ [] }
     {
         Schedule {
-            records: Slab::new(alloc),
-            turns: VecDeque::new(alloc),
+            ring: VecDeque::new(alloc),
         }
     }
 
     pub fn len(&self) -> usize
         ensures { result ≡ length self.now }
     {
-        self.turns.len()
+        self.ring.len()
     }
 
     // Adds a notification, whose first check is due at once. All memory that its checks need is taken here.
@@ -80,15 +76,8 @@ impl Schedule {
         ensures no_memory { OnErr result (self.new ≡ self.old) }
     {
         let record = Record::new(alloc, handle, spec)?;
-        self.turns.reserve(1)?;
-        let key = self.records.insert(record)?;
-        let turn = Turn {
-            next: 0,
-            handle,
-            cycle: spec.cycle,
-            key,
-        };
-        put_turn(&mut self.turns, turn);
+        self.ring.reserve(1)?;
+        put_record(&mut self.ring, record);
         Ok(())
     }
 
@@ -96,23 +85,21 @@ impl Schedule {
     pub fn find(&self, handle: u32) -> Option<usize>
         ensures { result ≡ position (is_numbered handle) self.now }
     {
-        place_of_handle(&self.turns, handle)
+        place_of_handle(&self.ring, handle)
     }
 
     pub fn spec(&self, at: usize) -> Spec
         requires { at < length self.now }
         ensures { new_watch (nth_watch self.now at).handle result ≡ before_checks (nth_watch self.now at) }
     {
-        let turn = self.turns[at];
-        spec_of(&self.records, turn.key)
+        self.ring[at].spec()
     }
 
     pub fn remove(&mut self, at: usize)
         requires { at < length self.old }
         ensures { self.new ≡ remove self.old at }
     {
-        let turn = take_turn(&mut self.turns, at);
-        let _ = self.records.remove(turn.key);
+        let _ = take_record(&mut self.ring, at);
     }
 
     // Checks a notification at a moment: whether its bytes are to be sent.
@@ -123,15 +110,9 @@ impl Schedule {
         ensures new { (place : ℕ) × (place ≤ length (remove self.old at))
             × (self.new ≡ insert (remove self.old at) place (after_check now bytes.now (nth_watch self.old at))) }
     {
-        let turn = take_turn(&mut self.turns, at);
-        let (sent, next) = check_record(&mut self.records, turn.key, now, bytes);
-        let turn = Turn {
-            next,
-            handle: turn.handle,
-            cycle: turn.cycle,
-            key: turn.key,
-        };
-        put_turn(&mut self.turns, turn);
+        let mut record = take_record(&mut self.ring, at);
+        let sent = record.check(now, bytes);
+        put_record(&mut self.ring, record);
         sent
     }
 
@@ -146,14 +127,14 @@ impl Schedule {
         ensures cost { steps.new ≤ steps.old + (length (map handle_of (filter (λ w. is_due now w) self.now)) + 1) }
         ensures counted { OnOk result (steps.old + length (map handle_of (filter (λ w. is_due now w) self.now)) ≤ steps.new) }
     {
-        due_turns(alloc, &self.turns, now, steps)
+        due_of_ring(alloc, &self.ring, now, steps)
     }
 
     // How many notifications are due.
     pub fn count_due(&self, now: u64) -> usize
         ensures { result ≡ length (map handle_of (filter (λ w. is_due now w) self.now)) }
     {
-        count_due(&self.turns, now)
+        count_due(&self.ring, now)
     }
 
     // The round of those that are due at a moment, where at least one is, their handles rise in the order of their turns, and
@@ -164,14 +145,13 @@ impl Schedule {
         ensures rising { IfOk result (λ round. IsStrictlyIncreasing round.handles) }
         ensures same { IfErr result (λ schedule. schedule ≡ self) }
     {
-        let Schedule { records, turns } = self;
-        let due = count_due(&turns, now);
-        if due == 0 || !go_round(&turns, due, now) {
-            return Err(Schedule { records, turns });
+        let Schedule { ring } = self;
+        let due = count_due(&ring, now);
+        if due == 0 || !go_round(&ring, due, now) {
+            return Err(Schedule { ring });
         }
         Ok(Round {
-            records,
-            turns,
+            ring,
             granted,
             moment: now,
             due,
@@ -183,15 +163,14 @@ impl Schedule {
     pub fn ending(&self, alloc: Global, m: &Moves, ports: &[u16]) -> Result<Vec<u32>, NoMemory>
         ensures { IfOk result (λ handles. handles.items ≡ map handle_of (filter (is_ended m.now ports.now) self.now)) }
     {
-        ending_turns(alloc, &self.records, &self.turns, m, ports)
+        ending_of(alloc, &self.ring, m, ports)
     }
 
     pub fn ended(&self, at: usize) -> Ended
         requires { at < length self.now }
         ensures { ended_meant result ≡ end_of (nth_watch self.now at) }
     {
-        let turn = self.turns[at];
-        ended_of(&self.records, turn.key)
+        self.ring[at].ended()
     }
 
     // After a reload: those that it ends are gone, and the others watch their bytes at their new place.
@@ -210,10 +189,9 @@ impl Schedule {
         ensures { IsSettled (watch_after_reload (watched_after m.now ports.now) (nth_watch self.old at))
             self.old self.new at result }
     {
-        let turn = self.turns[at];
-        match moved_of(&self.records, turn.key, m, ports) {
+        match self.ring[at].moved(m, ports) {
             Some(watched) => {
-                put_watched(&mut self.records, turn.key, watched);
+                self.ring[at].put(watched);
                 at + 1
             }
             None => {
@@ -224,131 +202,48 @@ impl Schedule {
     }
 }
 
-fn place_of_handle(turns: &VecDeque<Turn>, handle: u32) -> Option<usize>
-    ensures { result ≡ position (λ t. nat_eq (handle_of_turn t) handle) turns.now.items }
+fn place_of_handle(ring: &VecDeque<Record>, handle: u32) -> Option<usize>
+    ensures { result ≡ position (is_numbered handle) ring.now.items }
 {
     // The first is due the longest, so mostly it is looked for.
-    if is_first(turns, handle) {
+    if is_first(ring, handle) {
         return Some(0);
     }
-    place_by_walk(turns, handle)
+    place_by_walk(ring, handle)
 }
 
 // The same, apart from the code of the caller.
 #[inline(never)]
-fn place_by_walk(turns: &VecDeque<Turn>, handle: u32) -> Option<usize>
-    ensures { result ≡ position (λ t. nat_eq (handle_of_turn t) handle) turns.now.items }
+fn place_by_walk(ring: &VecDeque<Record>, handle: u32) -> Option<usize>
+    ensures { result ≡ position (is_numbered handle) ring.now.items }
 {
-    turns.iter().position(|turn| turn.handle == handle)
+    ring.iter().position(|record| record.handle() == handle)
 }
 
-// Whether the first turn is that of a handle.
-fn is_first(turns: &VecDeque<Turn>, handle: u32) -> bool
-    ensures { IsTrue result → position (λ t. nat_eq (handle_of_turn t) handle) turns.now.items ≡ Some 0 }
+// Whether the first has a handle.
+fn is_first(ring: &VecDeque<Record>, handle: u32) -> bool
+    ensures { IsTrue result → position (is_numbered handle) ring.now.items ≡ Some 0 }
 {
-    match turns.front() {
-        Some(turn) => turn.handle == handle,
+    match ring.front() {
+        Some(record) => record.handle() == handle,
         None => false,
     }
 }
 
-pub(crate) fn spec_of(records: &Slab<Record>, key: usize) -> Spec
-    requires { IsSome (get records.now key) }
-    ensures { new_watch (watch_under records.now key).handle result ≡ before_checks (watch_under records.now key) }
-{
-    match records.get(key) {
-        Some(record) => record.spec(),
-        None => unreachable!(),
-    }
-}
-
-// Checks the notification of a key: whether its bytes are to be sent, and from when on it is due again.
-#[inline(always)]
-pub(crate) fn check_record(
-    records: &mut Slab<Record>,
-    key: usize,
-    now: u64,
-    bytes: &[u8],
-) -> (bool, u128)
-    requires there { IsSome (get records.old key) }
-    requires len { length bytes.now ≡ watched_len (watch_under records.old key).watched }
-    ensures sent { result.0 ≡ is_sent bytes.now (watch_under records.old key) }
-    ensures next { result.1 ≡ next_moment (after_check now bytes.now (watch_under records.old key)) }
-    ensures updates { Updates records.old records.new key
-        (Some (after_check now bytes.now (watch_under records.old key))) }
-    ensures no_more { slab_len records.new ≡ slab_len records.old }
-{
-    match records.get_mut(key) {
-        Some(record) => {
-            let sent = record.check(now, bytes);
-            (sent, record.next())
-        }
-        None => unreachable!(),
-    }
-}
-
-fn ended_of(records: &Slab<Record>, key: usize) -> Ended
-    requires { IsSome (get records.now key) }
-    ensures { ended_meant result ≡ end_of (watch_under records.now key) }
-{
-    match records.get(key) {
-        Some(record) => record.ended(),
-        None => unreachable!(),
-    }
-}
-
-// What the notification of a key watches after a reload.
-fn moved_of(records: &Slab<Record>, key: usize, m: &Moves, ports: &[u16]) -> Option<Watched>
-    requires { IsSome (get records.now key) }
-    ensures moved { option_map watched_meant result
-        ≡ watched_after m.now ports.now (watch_under records.now key).port (watch_under records.now key).watched }
-    ensures len { IfSome result (λ watched.
-        watched_len (watched_meant watched) ≡ watched_len (watch_under records.now key).watched) }
-{
-    match records.get(key) {
-        Some(record) => record.moved(m, ports),
-        None => unreachable!(),
-    }
-}
-
-fn put_watched(records: &mut Slab<Record>, key: usize, watched: Watched)
-    requires there { IsSome (get records.old key) }
-    requires len { watched_len (watched_meant watched) ≡ watched_len (watch_under records.old key).watched }
-    ensures updates { Updates records.old records.new key
-        (Some (record (watch_under records.old key) { watched = watched_meant watched })) }
-    ensures no_more { slab_len records.new ≡ slab_len records.old }
-{
-    match records.get_mut(key) {
-        Some(record) => record.put(watched),
-        None => unreachable!(),
-    }
-}
-
-fn ending_turns(
+fn ending_of(
     alloc: Global,
-    records: &Slab<Record>,
-    turns: &VecDeque<Turn>,
+    ring: &VecDeque<Record>,
     m: &Moves,
     ports: &[u16],
 ) -> Result<Vec<u32>, NoMemory>
-    requires { All (IsKept records.now) turns.now.items }
-    ensures { IfOk result (λ handles. handles.items
-        ≡ map handle_of (filter (is_ended m.now ports.now) (map (watch_at records.now) turns.now.items))) }
+    ensures { IfOk result (λ handles. handles.items ≡ map handle_of (filter (is_ended m.now ports.now) ring.now.items)) }
 {
     let mut handles = Vec::new(alloc);
-    for i in 0..turns.len() {
-        let turn = turns[i];
-        if ends(records, turn.key, m, ports) {
-            handles.push(turn.handle)?;
+    for i in 0..ring.len() {
+        let record = &ring[i];
+        if record.moved(m, ports).is_none() {
+            handles.push(record.handle())?;
         }
     }
     Ok(handles)
-}
-
-// Whether a reload ends the notification of a key.
-fn ends(records: &Slab<Record>, key: usize, m: &Moves, ports: &[u16]) -> bool
-    requires { IsSome (get records.now key) }
-    ensures { result ≡ is_ended m.now ports.now (watch_under records.now key) }
-{
-    moved_of(records, key, m, ports).is_none()
 }

@@ -1,6 +1,7 @@
 //! The bytes that a notification last sent.
 
 ghost use Rattle.std.specs.Prelude.{◌≡◌, length, take, bytes_eq, IfOk};
+ghost use Rattle.notify_table.specs.Sent.{few_bytes};
 
 use ads_base::NoMemory;
 use std::alloc::Global;
@@ -9,23 +10,32 @@ use std::marker::Model;
 // So many bytes stand in place.
 const FEW: usize = 8;
 
-// Bytes of a fixed length. A few stand in place, so that a check of them reads no other memory.
+// Bytes of a fixed length.
 #[derive(Drop)]
 pub(crate) struct SentBytes {
-    len: usize,
-    few: [u8; FEW],
-    many: Vec<u8>,
+    kept: Kept,
+}
+
+#[derive(Drop)]
+enum Kept {
+    Few(Few),
+    Many(Vec<u8>),
+}
+
+// A few stand in place, so that a check of them reads no other memory.
+#[derive(Clone, Copy)]
+struct Few {
+    len: u8,
+    bytes: [u8; FEW],
 }
 
 impl Model for SentBytes {
     ghost use Rattle.std.specs.Prelude.{ℕ, List};
-    ghost use Rattle.notify_table.specs.Sent.{bytes_in, IsAsLong};
+    ghost use Rattle.notify_table.specs.Sent.{bytes_in};
 
     ghost Value = { List ℕ };
 
     ghost view = { bytes_in };
-
-    ghost invariant = { IsAsLong };
 }
 
 impl SentBytes {
@@ -33,15 +43,18 @@ impl SentBytes {
     pub fn new(alloc: Global, len: usize) -> Result<SentBytes, NoMemory>
         ensures { IfOk result (λ bytes. length bytes ≡ len) }
     {
-        let many = if len <= FEW {
-            Vec::new(alloc)
-        } else {
-            Vec::from_elem(alloc, 0, len)?
-        };
+        if len <= FEW {
+            let few = Few {
+                len: len as u8,
+                bytes: [0; FEW],
+            };
+            return Ok(SentBytes {
+                kept: Kept::Few(few),
+            });
+        }
+        let many = Vec::from_elem(alloc, 0, len)?;
         Ok(SentBytes {
-            len,
-            few: [0; FEW],
-            many,
+            kept: Kept::Many(many),
         })
     }
 
@@ -52,31 +65,49 @@ impl SentBytes {
         ensures same { result ≡ bytes_eq bytes.now self.old }
         ensures new { self.new ≡ bytes.now }
     {
-        // Two, four and eight are compared and moved in one step.
-        if let Some(two) = bytes.as_array::<2>() {
-            return renew_two(&mut self.few, *two);
+        match &mut self.kept {
+            Kept::Few(few) => renew_few(few, bytes),
+            Kept::Many(many) => renew_many(many, bytes),
         }
-        if let Some(four) = bytes.as_array::<4>() {
-            return renew_four(&mut self.few, *four);
-        }
-        if let Some(eight) = bytes.as_array::<8>() {
-            return renew_eight(&mut self.few, *eight);
-        }
-        self.renew_others(bytes)
     }
+}
 
-    // The same of any number of bytes, apart from the code of the caller.
-    #[inline(never)]
-    fn renew_others(&mut self, bytes: &[u8]) -> bool
-        requires { length bytes.now ≡ length self.old }
-        ensures same { result ≡ bytes_eq bytes.now self.old }
-        ensures new { self.new ≡ bytes.now }
-    {
-        if self.len <= FEW {
-            return renew_slice(&mut self.few[..self.len], bytes);
-        }
-        renew_slice(self.many.as_mut_slice(), bytes)
+#[inline(always)]
+fn renew_few(few: &mut Few, bytes: &[u8]) -> bool
+    requires { length bytes.now ≡ length (few_bytes few.old) }
+    ensures same { result ≡ bytes_eq bytes.now (few_bytes few.old) }
+    ensures new { few_bytes few.new ≡ bytes.now }
+{
+    // Two, four and eight are compared and moved in one step.
+    if let Some(two) = bytes.as_array::<2>() {
+        return renew_two(&mut few.bytes, *two);
     }
+    if let Some(four) = bytes.as_array::<4>() {
+        return renew_four(&mut few.bytes, *four);
+    }
+    if let Some(eight) = bytes.as_array::<8>() {
+        return renew_eight(&mut few.bytes, *eight);
+    }
+    renew_others(few, bytes)
+}
+
+// The same of any number of bytes, apart from the code of the caller.
+#[inline(never)]
+fn renew_others(few: &mut Few, bytes: &[u8]) -> bool
+    requires { length bytes.now ≡ length (few_bytes few.old) }
+    ensures same { result ≡ bytes_eq bytes.now (few_bytes few.old) }
+    ensures new { few_bytes few.new ≡ bytes.now }
+{
+    renew_slice(&mut few.bytes[..bytes.len()], bytes)
+}
+
+#[inline(never)]
+fn renew_many(many: &mut Vec<u8>, bytes: &[u8]) -> bool
+    requires { length bytes.now ≡ length many.old.items }
+    ensures same { result ≡ bytes_eq bytes.now many.old.items }
+    ensures new { many.new.items ≡ bytes.now }
+{
+    renew_slice(many.as_mut_slice(), bytes)
 }
 
 fn renew_two(few: &mut [u8; FEW], two: [u8; 2]) -> bool

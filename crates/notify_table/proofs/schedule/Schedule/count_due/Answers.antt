@@ -3,9 +3,4 @@ use Rattle.notify_table.proofs.ScheduleLemmas.{due_watches}
 use Rattle.notify_table.proofs.schedule.Schedule.count_due.Goals as goal
 
 pub returns : goal.returns
-returns c =
-    rw (
-      ← c.self.view_is,
-      due_watches c.args.now c.self.inside.records c.self.inside.turns.items c.self.invariant.kept,
-      length-map,
-    ) c.count_due.ensures.count
+returns c = rw (← c.self.view_is, due_watches c.args.now c.self.inside.ring.items, length-map) c.count_due.ensures.count
