@@ -19,7 +19,7 @@ use std::marker::Model;
 use symbol_table::Moves;
 use type_layout::Area;
 
-// A live notification, in 64 bytes.
+// A live notification. All that its check needs stands together.
 #[derive(Drop)]
 pub(crate) struct Record {
     // The moment of its last check, where there was one.
