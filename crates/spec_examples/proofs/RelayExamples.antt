@@ -23,8 +23,7 @@ use Rattle.spec_machine.specs.ScriptLine.{Happens}
 use Rattle.spec_machine.specs.Turns.{AreTurns}
 use Rattle.spec_relay.specs.RelayState.{relay_start}
 use Rattle.spec_relay.specs.Requests.{without_first}
-use Rattle.spec_relay.specs.Ways.{way_of_owned}
-use Rattle.spec_relay.specs.Routing.{after_way, after_frame}
+use Rattle.spec_relay.specs.Routing.{outcome_of_response, outcome_of_request, after_frame}
 use Rattle.spec_relay.specs.RelayMoves.{after_frames, relay_after_event}
 use Rattle.spec_relay.specs.Passages.{passages_of}
 use Rattle.spec_relay.specs.RelayLaws.{AreMarked}
@@ -71,8 +70,8 @@ nothing_happened = record {
 promised : RelayKeepsPromises description (opens ∷ asks ∷ took not_found ∷ [])
     → not_found ++ [] ≡ output_of_connection (connection_of 1 (state_after relay_after_event (relay_start description) (opens ∷ asks ∷ [])).connections)
 unfolding ams_length_of is_header front_of packet_of behind_frame frames_from frames_of left_behind rest_of header_of response_packet produce
-    connection_of put_back state_after_move state_after without_first way_of_owned after_way after_frame after_frames relay_after_event
-    taken_of is_cut_off is_short_from
+    connection_of put_back state_after_move state_after without_first outcome_of_response outcome_of_request after_frame after_frames
+    relay_after_event taken_of is_cut_off is_short_from
 promised p = p.all 1 refl refl
 
 abbrev head_of : List ℕ → ℕ
@@ -82,14 +81,14 @@ head_of (x ∷ xs) = x
 -- it is broken where other bytes were taken, where nothing was that waits, and where something was that was not given
 other_bytes : RelayKeepsPromisesSoFar description (opens ∷ asks ∷ took (7 ∷ []) ∷ []) → ⊥
 unfolding ams_length_of is_header front_of packet_of behind_frame frames_from frames_of left_behind rest_of header_of response_packet produce
-    connection_of put_back state_after_move state_after without_first way_of_owned after_way after_frame after_frames relay_after_event
-    taken_of
+    connection_of put_back state_after_move state_after without_first outcome_of_response outcome_of_request after_frame after_frames
+    relay_after_event taken_of
 other_bytes p = false≢true (ap (λ l. head_of l == 7) ((p.begins 1).1))
 
 nothing_taken : RelayKeepsPromises description (opens ∷ asks ∷ []) → ⊥
 unfolding ams_length_of is_header front_of packet_of behind_frame frames_from frames_of left_behind rest_of header_of response_packet produce
-    connection_of put_back state_after_move state_after without_first way_of_owned after_way after_frame after_frames relay_after_event
-    taken_of is_cut_off is_short_from
+    connection_of put_back state_after_move state_after without_first outcome_of_response outcome_of_request after_frame after_frames
+    relay_after_event taken_of is_cut_off is_short_from
 nothing_taken p = false≢true (sym (ap (λ l. head_of l == 1) (p.all 1 refl refl)))
 
 nothing_given : RelayKeepsPromisesSoFar description (opens ∷ took (0 ∷ []) ∷ []) → ⊥
@@ -104,6 +103,6 @@ counts = refl
 printed : relay_text (relay_start description) (Happens (event.Opened 1) ∷ Happens (event.Piece 1 request) ∷ [])
     ≡ codes "out 1 000020000000c0a8000901018980c0a8000a0101530304000500000000000700000001000000\nconnections 1 frames 1 passed 0 unknown 1\n"
 unfolding ams_length_of is_header front_of packet_of behind_frame frames_from frames_of left_behind rest_of header_of response_packet produce
-    connection_of put_back state_after_move state_after without_first way_of_owned after_way after_frame after_frames relay_after_event
-    digits left_after offers_to peers_after moves_of_each turns_of log_text_of encode_with
+    connection_of put_back state_after_move state_after without_first outcome_of_response outcome_of_request after_frame after_frames
+    relay_after_event digits left_after offers_to peers_after moves_of_each turns_of log_text_of encode_with
 printed = refl

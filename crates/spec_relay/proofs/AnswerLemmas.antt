@@ -1,5 +1,5 @@
 -- The requests that responses answer are, each once, among those that were passed on.
-use Rattle.std.proofs.Common.{◌≡◌, ℕ, ◌+◌, ◌≤◌, List, [], ◌∷◌, ◌++◌, length, Bool, true, cond, refl, sym, subst, ◌∙◌, ap, inl, inr, arith}
+use Rattle.std.proofs.Common.{◌≡◌, ℕ, ◌+◌, ◌≤◌, List, [], ◌∷◌, ◌++◌, length, Bool, true, cond, refl, sym, ◌∙◌, ap, inl, inr, arith}
 use Rattle.std.specs.Prelude.{Option, Some, None, filter, find, count_by, ◌==◌, ◌%◌, ◌&&◌, nat_lt}
 use Rattle.std.proofs.lemmas.Bool.{cases_Bool, and_parts, eqb-true}
 use Rattle.std.proofs.lemmas.Grind.{flat_map-append}
@@ -17,14 +17,14 @@ use Rattle.spec_machine.specs.Moves.{with_gone, with_took}
 use Rattle.spec_machine.specs.MachineState.{Exchange}
 use Rattle.spec_relay.specs.RelayState.{Request, RelayWorld, Owned, RelayConnection, RelayState, relay_start, owner_of, is_heard_among}
 use Rattle.spec_relay.specs.Requests.{is_answered_by, request_answered, without_first, is_asked_by, with_request, MAX_REQUESTS}
-use Rattle.spec_relay.specs.Ways.{Way, Closes, Answers, Stray, Asks, Unknown, is_closed_by, way_of_request, way_of_response, way_of_owned}
-use Rattle.spec_relay.specs.Routing.{framed, has_room, delivered, at_connection, given_to, after_unknown}
-use Rattle.spec_relay.specs.Routing.{request_from, with_request_of, after_way, with_owner, with_frame_taken}
-use Rattle.spec_relay.specs.Routing.{after_header, after_frame_of, after_frame}
+use Rattle.spec_relay.specs.Checks.{is_closed_by}
+use Rattle.spec_relay.specs.Routing.{RelayOutcome, framed, has_room, delivered, at_connection, given_to, with_unknown, not_found_packet}
+use Rattle.spec_relay.specs.Routing.{request_from, with_request_of, with_owner, with_frame_taken, after_frame_of, after_frame}
+use Rattle.spec_relay.specs.Routing.{outcome_of_unknown, outcome_of_response, outcome_of_request, outcome_of_owned}
+use Rattle.spec_relay.specs.Routing.{outcome_by_header, outcome_of_frame}
 use Rattle.spec_relay.specs.RelayMoves.{after_frames, after_piece_of, relay_after_event}
 use Rattle.spec_machine.specs.Moves.{state_after_move, state_after}
-use Rattle.spec_relay.specs.Passages.{Fate, Dropped, Passage, fate_on_way, fate_by_header}
-use Rattle.spec_relay.specs.Passages.{passages_of_frame_at, passages_of_frame, passages_of_frames}
+use Rattle.spec_relay.specs.Passages.{Passage, passages_of_frame_at, passages_of_frame, passages_of_frames}
 use Rattle.spec_relay.specs.Passages.{passages_of_piece, passages_of_event, passages_of_move, passages_of}
 use Rattle.spec_relay.specs.PassedOn.{asked_by_header, asked_in, request_to, answered_by_header, answered_in, all_asked, all_answered}
 use Rattle.spec_relay.specs.RelayLaws.{AnswersEachOnce}
@@ -106,7 +106,7 @@ same_address a b h =
     same
 
 -- a request that a response answers is the one that it names
-answered-is : (c : ℕ) (h : AmsHeader) (r : Request) → is_answered_by c h r ≡ true → request_to r.asker c h ≡ r
+pub answered-is : (c : ℕ) (h : AmsHeader) (r : Request) → is_answered_by c h r ≡ true → request_to r.asker c h ≡ r
 answered-is c h r e =
     let p = and_parts _ _ e in
     let q = and_parts _ _ (p.0) in
@@ -127,88 +127,74 @@ requests_of s = s.world.requests
 abbrev Spends : (Request → Bool) → List Request → List Request → List Request → List Request → Type 0
 Spends test old new asked answered = count_by test answered + count_by test new ≤ count_by test old + count_by test asked
 
-unknown-world : (c : ℕ) (h : AmsHeader) (s : RelayState) → requests_of (after_unknown c h s) ≡ requests_of s
-unknown-world c h s = elim (cases_Bool (h.command == DEVICE_NOTIFICATION)) [
-  | inl t ↦ rw t refl
-  | inr t ↦ rw t (ap (λ (w : RelayWorld). w.requests) (world-change c (delivered (framed _)) (record s { world = record s.world { unknown = _ } })))
-]
-
 given-world : (c : ℕ) (packet : List ℕ) (s : RelayState) → requests_of (given_to c packet s) ≡ requests_of s
 given-world c packet s = ap (λ (w : RelayWorld). w.requests) (world-change c (delivered (framed packet)) s)
 
-abbrev passage : ℕ → List ℕ → Fate → Passage
-passage c packet fate = record { sender = c; packet = packet; fate = fate }
+-- so does one frame
+abbrev SpendsBy : (Request → Bool) → Passage → RelayState → Option AmsHeader → RelayOutcome → Type 0
+SpendsBy test p s head o = Spends test (requests_of s) (requests_of o.after) (asked_by_header p o.fate head) (answered_by_header p o.fate head)
 
--- a way that a response or a request may go
-abbrev IsFound : ℕ → AmsHeader → Way → RelayState → Type 0
-IsFound c h (Answers r) s = request_answered c h s.world.requests ≡ Some r
-IsFound c h way s = Unit {0}
+unknown-spends : (test : Request → Bool) (h : AmsHeader) (p : Passage) (s : RelayState) → SpendsBy test p s (Some h) (outcome_of_unknown p.sender h s)
+unknown-spends test h p s = elim (cases_Bool (h.command == DEVICE_NOTIFICATION)) [
+  | inl t ↦ rw t (omega arith)
+  | inr t ↦
+      let e = ap (λ l. count_by test l) (given-world p.sender (not_found_packet h) (with_unknown s)) in
+      rw t (omega (arith, e))
+]
 
-way-spends : (test : Request → Bool) (c : ℕ) (h : AmsHeader) (packet : List ℕ) (fate : Fate) (way : Way) (s : RelayState) → IsFound c h way s
-    → Spends test (requests_of s) (requests_of (after_way c h packet way s)) (asked_by_header (passage c packet fate) (fate_on_way c h packet way s) (Some h))
-    (answered_by_header (passage c packet fate) (fate_on_way c h packet way s) (Some h))
-unfolding after_way fate_on_way
-way-spends test c h packet fate Closes s found =
-    let e = ap (λ (w : RelayWorld). count_by test w.requests) (world-change c with_closing s) in omega (arith, e)
-way-spends test c h packet fate (Answers r) s found =
-    let spent : RelayState = record s { world = record s.world { requests = without_first (is_answered_by c h) s.world.requests } } in
-    let is = answered-is c h r (find-passes (is_answered_by c h) s.world.requests r found) in
-    let one : count_by test (request_to r.asker c h ∷ []) ≡ count_by test (r ∷ []) = ap (λ y. count_by test (y ∷ [])) is in
-    let less = count-spent test (is_answered_by c h) s.world.requests r found in
-    let left = ap (λ l. count_by test l) (given-world r.asker packet spent) in
-    elim (cases_Bool (has_room (framed packet) (connection_of r.asker s.connections))) [
+response-spends : (test : Request → Bool) (h : AmsHeader) (p : Passage) (s : RelayState) (o : Option Request)
+    → request_answered p.sender h s.world.requests ≡ o → SpendsBy test p s (Some h) (outcome_of_response p.sender h p.packet s o)
+unfolding outcome_of_response
+response-spends test h p s None found = omega arith
+response-spends test h p s (Some r) found =
+    let spent : RelayState = record s { world = record s.world { requests = without_first (is_answered_by p.sender h) s.world.requests } } in
+    let is = answered-is p.sender h r (find-passes (is_answered_by p.sender h) s.world.requests r found) in
+    let one : count_by test (request_to r.asker p.sender h ∷ []) ≡ count_by test (r ∷ []) = ap (λ y. count_by test (y ∷ [])) is in
+    let less = count-spent test (is_answered_by p.sender h) s.world.requests r found in
+    let left = ap (λ l. count_by test l) (given-world r.asker p.packet spent) in
+    elim (cases_Bool (has_room (framed p.packet) (connection_of r.asker s.connections))) [
       | inl t ↦ rw t (omega (arith, one, less, left))
       | inr t ↦ rw t (omega (arith, less, left))
     ]
-way-spends test c h packet fate Stray s found = omega arith
-way-spends test c h packet fate (Asks d) s found = elim (cases_Bool (has_room (framed packet) (connection_of d s.connections))) [
-  | inl t ↦ rw t (asks (given_to d packet s) (given-world d packet s))
-  | inr t ↦
-      let e = ap (λ l. count_by test l) (unknown-world c h (given_to d packet s) ∙ given-world d packet s) in
-      rw t (omega (arith, e))
-]
+
+request-spends : (test : Request → Bool) (h : AmsHeader) (p : Passage) (s : RelayState) (o : Option RelayConnection)
+    → SpendsBy test p s (Some h) (outcome_of_request p.sender h p.packet s o)
+unfolding outcome_of_request
+request-spends test h p s None = unknown-spends test h p s
+request-spends test h p s (Some k) =
+    let u = given_to k.number p.packet s in
+    let same = given-world k.number p.packet s in
+    elim (cases_Bool (has_room (framed p.packet) (connection_of k.number s.connections))) [
+      | inl t ↦ rw t (asks u same)
+      | inr t ↦
+          let e = ap (λ l. count_by test l) same in
+          let g = unknown-spends test h p u in
+          rw t (omega (arith, e, g))
+    ]
   where
     asks : (u : RelayState) → requests_of u ≡ requests_of s
-        → Spends test (requests_of s) (requests_of (with_request_of c d h u)) (cond (h.command == DEVICE_NOTIFICATION) [] (request_from c d h ∷ [])) []
+        → Spends test (requests_of s) (requests_of (with_request_of p.sender k.number h u))
+        (cond (h.command == DEVICE_NOTIFICATION) [] (request_from p.sender k.number h ∷ [])) []
     asks u e = elim (cases_Bool (h.command == DEVICE_NOTIFICATION)) [
       | inl n ↦ let f = ap (λ l. count_by test l) e in rw n (omega (arith, f))
-      | inr n ↦ let f = ap (λ l. count_by test l) e in rw n (omega (arith, f, count-with test (request_from c d h) (requests_of u)))
+      | inr n ↦ let f = ap (λ l. count_by test l) e in rw n (omega (arith, f, count-with test (request_from p.sender k.number h) (requests_of u)))
     ]
-way-spends test c h packet fate Unknown s found = let e = ap (λ l. count_by test l) (unknown-world c h s) in omega (arith, e)
 
-owned-found : (c : ℕ) (h : AmsHeader) (s : RelayState) → IsFound c h (way_of_owned c h s) s
-unfolding way_of_owned
-owned-found c h s = elim (cases_Bool (h.flags % 2 == 1)) [
-  | inl t ↦ rw t (response (request_answered c h s.world.requests) refl)
-  | inr t ↦ rw t (request (owner_of h.target.net s.connections))
+owned-spends : (test : Request → Bool) (h : AmsHeader) (p : Passage) (s : RelayState) → SpendsBy test p s (Some h) (outcome_of_owned p.sender h p.packet s)
+owned-spends test h p s = elim (cases_Bool (h.flags % 2 == 1)) [
+  | inl t ↦ rw t (response-spends test h p s (request_answered p.sender h s.world.requests) refl)
+  | inr t ↦ rw t (request-spends test h p s (owner_of h.target.net s.connections))
 ]
-  where
-    response : (o : Option Request) → request_answered c h s.world.requests ≡ o → IsFound c h (way_of_response o) s
-    response None e = tt
-    response (Some r) e = e
 
-    request : (o : Option RelayConnection) → IsFound c h (way_of_request o) s
-    request None = tt
-    request (Some k) = tt
-
-dropped : (c : ℕ) (h : AmsHeader) (packet : List ℕ) (s : RelayState) → fate_on_way c h packet Closes s ≡ Dropped
-unfolding fate_on_way
-dropped c h packet s = refl
-
-header-spends : (test : Request → Bool) (c : ℕ) (packet : List ℕ) (k : RelayConnection) (fate : Fate) (s : RelayState) (o : Option AmsHeader)
-    → Spends test (requests_of s) (requests_of (after_header c packet k s o)) (asked_by_header (passage c packet fate) (fate_by_header c packet k s o) o)
-    (answered_by_header (passage c packet fate) (fate_by_header c packet k s o) o)
-header-spends test c packet k fate s None = omega arith
-header-spends test c packet k fate s (Some h) = elim (cases_Bool (is_closed_by (payload_of packet) h k s)) [
-  | inl t ↦
-      let P : Fate → Type 0 =
-      λ f. Spends test (requests_of s) (requests_of (after_way c h packet Closes s))
-      (asked_by_header (passage c packet fate) f (Some h)) (answered_by_header (passage c packet fate) f (Some h)) in
-      rw t (subst P (dropped c h packet s) (way-spends test c h packet fate Closes s tt))
+header-spends : (test : Request → Bool) (p : Passage) (k : RelayConnection) (s : RelayState) (o : Option AmsHeader)
+    → SpendsBy test p s o (outcome_by_header p.sender p.packet k s o)
+header-spends test p k s None = omega arith
+header-spends test p k s (Some h) = elim (cases_Bool (is_closed_by (payload_of p.packet) h k s)) [
+  | inl t ↦ let e = ap (λ (w : RelayWorld). count_by test w.requests) (world-change p.sender with_closing s) in rw t (omega (arith, e))
   | inr t ↦
-      let owned = with_owner c h.source.net s in
-      let e = ap (λ (w : RelayWorld). count_by test w.requests) (world-change c (with_client (Some h.source.net)) s) in
-      let g = way-spends test c h packet fate (way_of_owned c h owned) owned (owned-found c h owned) in
+      let owned = with_owner p.sender h.source.net s in
+      let e = ap (λ (w : RelayWorld). count_by test w.requests) (world-change p.sender (with_client (Some h.source.net)) s) in
+      let g = owned-spends test h p owned in
       rw t (omega (arith, e, g))
 ]
 
@@ -225,13 +211,11 @@ frame-spends test c packet s = go (connection_of c s.connections)
     go (Some k) = elim (cases_Bool k.closing) [
       | inl t ↦ rw t (omega arith)
       | inr t ↦
-          let taken = with_frame_taken c s in
-          let fate = fate_by_header c packet k taken (header_of packet) in
-          let p = passage c packet fate in
+          let p : Passage = record { sender = c; packet = packet; fate = (outcome_of_frame c packet k s).fate } in
           let u = at_connection c with_one_taken s in
           let same = ap (λ (w : RelayWorld). count_by test w.requests) (world-change c with_one_taken s) in
           let fewer = count-filter test (λ (r : Request). is_heard_among r.asker u.connections && is_heard_among r.asked u.connections) (requests_of u) in
-          let g = header-spends test c packet k fate taken (header_of packet) in
+          let g = header-spends test p k (with_frame_taken c s) (header_of packet) in
           let asked = count-append test (asked_in p) [] in
           let answered = count-append test (answered_in p) [] in
           rw t (omega (arith, same, fewer, g, asked, answered))

@@ -1,6 +1,6 @@
 -- A connection is given what passages bring to it.
 use Rattle.std.proofs.Common.{◌≡◌, ℕ, List, [], ◌∷◌, ◌++◌, map, length, Bool, true, false, cond, refl, sym, subst, ◌∙◌, ap, inl, inr, append_assoc}
-use Rattle.std.specs.Prelude.{Option, Some, None, option_map, ◌==◌}
+use Rattle.std.specs.Prelude.{Option, Some, None, option_map, ◌==◌, ◌%◌}
 use Rattle.std.proofs.lemmas.Bool.{cases_Bool, cond_both, or_right, or_left, or_from, and_left, and_right}
 use Rattle.std.proofs.lemmas.Bool.{and_from, not_from_true, not_from_false, cases_eq, eq-eqb, ne_eqb}
 use Rattle.std.proofs.lemmas.List.{append-nil, map-append}
@@ -20,15 +20,16 @@ use Rattle.spec_machine.specs.Moves.{with_gone, with_took}
 use Rattle.spec_machine.specs.MachineState.{Exchange}
 use Rattle.spec_machine.proofs.Changes.{with_took-number, with_gone-number}
 use Rattle.spec_machine.proofs.Growth.{produce-grows}
-use Rattle.spec_relay.specs.RelayState.{RelayWorld, Owned, RelayConnection, RelayState, relay_start}
-use Rattle.spec_relay.specs.Ways.{Way, Closes, Answers, Stray, Asks, Unknown, is_closed_by, way_of_owned}
-use Rattle.spec_relay.specs.Routing.{framed, has_room, delivered, at_connection, given_to, not_found_packet}
-use Rattle.spec_relay.specs.Routing.{after_unknown, with_request_of, after_way, with_owner, with_frame_taken}
-use Rattle.spec_relay.specs.Routing.{after_header, after_frame_of, after_frame}
+use Rattle.spec_relay.specs.RelayState.{Request, RelayWorld, Owned, RelayConnection, RelayState, relay_start, owner_of}
+use Rattle.spec_relay.specs.Requests.{request_answered}
+use Rattle.spec_relay.specs.Checks.{is_closed_by}
+use Rattle.spec_relay.specs.Routing.{RelayOutcome, framed, has_room, delivered, at_connection, given_to, not_found_packet}
+use Rattle.spec_relay.specs.Routing.{with_request_of, with_owner, with_frame_taken, after_frame_of, after_frame}
+use Rattle.spec_relay.specs.Routing.{outcome_of_unknown, outcome_of_response, outcome_of_request, outcome_of_owned}
+use Rattle.spec_relay.specs.Routing.{outcome_by_header, outcome_of_frame}
 use Rattle.spec_relay.specs.RelayMoves.{after_frames, after_piece_of, relay_after_event}
 use Rattle.spec_machine.specs.Moves.{state_after_move, state_after}
-use Rattle.spec_relay.specs.Passages.{Fate, Dropped, Passage, is_told, fate_on_way, fate_by_header}
-use Rattle.spec_relay.specs.Passages.{passages_of_frame_at, passages_of_frame, passages_of_frames}
+use Rattle.spec_relay.specs.Passages.{Passage, passages_of_frame_at, passages_of_frame, passages_of_frames}
 use Rattle.spec_relay.specs.Passages.{passages_of_piece, passages_of_event, passages_of_move, passages_of}
 use Rattle.spec_relay.specs.PassedOn.{told_frames, frames_by_fate, frames_to, all_frames_to}
 use Rattle.spec_relay.specs.RelayLaws.{frames_given, frames_given_to, GivesPassages}
@@ -93,13 +94,6 @@ given-no : (n d : ℕ) (packet : List ℕ) (s : RelayState) → has_room (framed
 given-no n d packet s t = given-frames n d packet s
     ∙ ap (λ (b : Bool). frames_given_to d s ++ cond b (cond (n == d) (frame_bytes packet ∷ []) []) []) t ∙ append-nil (frames_given_to d s)
 
-unknown-frames : (c d : ℕ) (h : AmsHeader) (s : RelayState)
-    → frames_given_to d (after_unknown c h s) ≡ frames_given_to d s ++ cond (is_told c h s) (cond (c == d) (frame_bytes (not_found_packet h) ∷ []) []) []
-unknown-frames c d h s = elim (cases_Bool (h.command == DEVICE_NOTIFICATION)) [
-  | inl t ↦ rw t (sym (append-nil (frames_given_to d s)))
-  | inr t ↦ rw t (given-frames c d (not_found_packet h) (record s { world = record s.world { unknown = _ } }))
-]
-
 keep : (n d : ℕ) (change : RelayConnection → RelayConnection) → ((k : RelayConnection) → (change k).number ≡ k.number)
     → ((k : RelayConnection) → (change k).produced ≡ k.produced) → (s : RelayState)
     → frames_given_to d (at_connection n change s) ≡ frames_given_to d s
@@ -108,47 +102,60 @@ keep n d change same produced s = change-keeps frames_given n d change same (λ 
 request-connections : (c d : ℕ) (h : AmsHeader) (s : RelayState) → (with_request_of c d h s).connections ≡ s.connections
 request-connections c d h s = elim (cases_Bool (h.command == DEVICE_NOTIFICATION)) [ inl t ↦ rw t refl | inr t ↦ rw t refl ]
 
-abbrev passage : ℕ → List ℕ → Fate → Passage
-passage c packet fate = record { sender = c; packet = packet; fate = fate }
+-- a connection is given what the fate of a frame tells
+abbrev Gives : ℕ → Passage → RelayState → RelayOutcome → Type 0
+Gives d p s o = frames_given_to d o.after ≡ frames_given_to d s ++ frames_by_fate d p o.fate
 
-told : (c d : ℕ) (h : AmsHeader) (packet : List ℕ) (b : Bool) → header_of packet ≡ Some h
-    → cond b (cond (c == d) (frame_bytes (not_found_packet h) ∷ []) []) [] ≡ cond b (cond (c == d) (told_frames (header_of packet)) []) []
-told c d h packet b e = ap (λ (o : Option AmsHeader). cond b (cond (c == d) (told_frames o) []) []) (sym e)
+-- what tells the sender of a frame that its target is not found
+told : (d : ℕ) (h : AmsHeader) (p : Passage) (b : Bool) → header_of p.packet ≡ Some h
+    → cond b (cond (p.sender == d) (frame_bytes (not_found_packet h) ∷ []) []) [] ≡ cond b (cond (p.sender == d) (told_frames (header_of p.packet)) []) []
+told d h p b e = ap (λ (o : Option AmsHeader). cond b (cond (p.sender == d) (told_frames o) []) []) (sym e)
 
-way-frames : (c d : ℕ) (h : AmsHeader) (packet : List ℕ) (fate : Fate) (way : Way) (s : RelayState) → header_of packet ≡ Some h
-    → frames_given_to d (after_way c h packet way s) ≡ frames_given_to d s ++ frames_by_fate d (passage c packet fate) (fate_on_way c h packet way s)
-unfolding after_way fate_on_way
-way-frames c d h packet fate Closes s e = keep c d with_closing (λ k. refl) (λ k. refl) s ∙ sym (append-nil (frames_given_to d s))
-way-frames c d h packet fate (Answers r) s e = elim (cases_Bool (has_room (framed packet) (connection_of r.asker s.connections))) [
-  | inl t ↦ rw t (given-yes r.asker d packet (record s { world = record s.world { requests = _ } }) t)
-  | inr t ↦ rw t (given-no r.asker d packet (record s { world = record s.world { requests = _ } }) t ∙ sym (append-nil (frames_given_to d s)))
-]
-way-frames c d h packet fate Stray s e = sym (append-nil (frames_given_to d s))
-way-frames c d h packet fate (Asks n) s e = elim (cases_Bool (has_room (framed packet) (connection_of n s.connections))) [
-  | inl t ↦ rw t (ap (λ ks. frames_given (connection_of d ks)) (request-connections c n h (given_to n packet s)) ∙ given-yes n d packet s t)
+unknown-frames : (d : ℕ) (h : AmsHeader) (p : Passage) (s : RelayState) → header_of p.packet ≡ Some h → Gives d p s (outcome_of_unknown p.sender h s)
+unknown-frames d h p s e = elim (cases_Bool (h.command == DEVICE_NOTIFICATION)) [
+  | inl t ↦ rw t (sym (append-nil (frames_given_to d s)))
   | inr t ↦
-      let u = given_to n packet s in
-      rw t (unknown-frames c d h u
-      ∙ ap (λ (l : List (List ℕ)). l ++ cond (is_told c h u) (cond (c == d) (frame_bytes (not_found_packet h) ∷ []) []) []) (given-no n d packet s t)
-      ∙ ap (λ (l : List (List ℕ)). frames_given_to d s ++ l) (told c d h packet (is_told c h u) e))
+      let b = has_room (framed (not_found_packet h)) (connection_of p.sender s.connections) in
+      rw t (given-frames p.sender d (not_found_packet h) (record s { world = record s.world { unknown = _ } })
+      ∙ ap (λ (l : List (List ℕ)). frames_given_to d s ++ l) (told d h p b e))
 ]
-way-frames c d h packet fate Unknown s e = unknown-frames c d h s ∙ ap (λ (l : List (List ℕ)). frames_given_to d s ++ l) (told c d h packet (is_told c h s) e)
 
-closes : (c : ℕ) (h : AmsHeader) (packet : List ℕ) (s : RelayState) → fate_on_way c h packet Closes s ≡ Dropped
-unfolding fate_on_way
-closes c h packet s = refl
+response-frames : (d : ℕ) (h : AmsHeader) (p : Passage) (s : RelayState) (o : Option Request) → Gives d p s (outcome_of_response p.sender h p.packet s o)
+unfolding outcome_of_response
+response-frames d h p s None = sym (append-nil (frames_given_to d s))
+response-frames d h p s (Some r) = elim (cases_Bool (has_room (framed p.packet) (connection_of r.asker s.connections))) [
+  | inl t ↦ rw t (given-yes r.asker d p.packet (record s { world = record s.world { requests = _ } }) t)
+  | inr t ↦ rw t (given-no r.asker d p.packet (record s { world = record s.world { requests = _ } }) t ∙ sym (append-nil (frames_given_to d s)))
+]
 
-header-frames : (c d : ℕ) (packet : List ℕ) (k : RelayConnection) (fate : Fate) (s : RelayState) (o : Option AmsHeader) → header_of packet ≡ o
-    → frames_given_to d (after_header c packet k s o) ≡ frames_given_to d s ++ frames_by_fate d (passage c packet fate) (fate_by_header c packet k s o)
-header-frames c d packet k fate s None e = sym (append-nil (frames_given_to d s))
-header-frames c d packet k fate s (Some h) e = elim (cases_Bool (is_closed_by (payload_of packet) h k s)) [
-  | inl t ↦ rw t (way-frames c d h packet fate Closes s e
-      ∙ ap (λ (f : Fate). frames_given_to d s ++ frames_by_fate d (passage c packet fate) f) (closes c h packet s))
+request-frames : (d : ℕ) (h : AmsHeader) (p : Passage) (s : RelayState) → header_of p.packet ≡ Some h → (o : Option RelayConnection)
+    → Gives d p s (outcome_of_request p.sender h p.packet s o)
+unfolding outcome_of_request
+request-frames d h p s e None = unknown-frames d h p s e
+request-frames d h p s e (Some k) =
+    let u = given_to k.number p.packet s in
+    elim (cases_Bool (has_room (framed p.packet) (connection_of k.number s.connections))) [
+      | inl t ↦ rw t (ap (λ ks. frames_given (connection_of d ks)) (request-connections p.sender k.number h u) ∙ given-yes k.number d p.packet s t)
+      | inr t ↦ rw t (unknown-frames d h p u e
+          ∙ ap (λ (l : List (List ℕ)). l ++ frames_by_fate d p (outcome_of_unknown p.sender h u).fate) (given-no k.number d p.packet s t))
+    ]
+
+owned-frames : (d : ℕ) (h : AmsHeader) (p : Passage) (s : RelayState) → header_of p.packet ≡ Some h → Gives d p s (outcome_of_owned p.sender h p.packet s)
+owned-frames d h p s e = elim (cases_Bool (h.flags % 2 == 1)) [
+  | inl t ↦ rw t (response-frames d h p s (request_answered p.sender h s.world.requests))
+  | inr t ↦ rw t (request-frames d h p s e (owner_of h.target.net s.connections))
+]
+
+header-frames : (d : ℕ) (p : Passage) (k : RelayConnection) (s : RelayState) (o : Option AmsHeader) → header_of p.packet ≡ o
+    → Gives d p s (outcome_by_header p.sender p.packet k s o)
+header-frames d p k s None e = sym (append-nil (frames_given_to d s))
+header-frames d p k s (Some h) e = elim (cases_Bool (is_closed_by (payload_of p.packet) h k s)) [
+  | inl t ↦ rw t (keep p.sender d with_closing (λ k. refl) (λ k. refl) s ∙ sym (append-nil (frames_given_to d s)))
   | inr t ↦
-      let owned = with_owner c h.source.net s in
-      rw t (way-frames c d h packet fate (way_of_owned c h owned) owned e
-      ∙ ap (λ (l : List (List ℕ)). l ++ frames_by_fate d (passage c packet fate) (fate_on_way c h packet (way_of_owned c h owned) owned))
-      (keep c d (with_client (Some h.source.net)) (λ k. refl) (λ k. refl) s))
+      let owned = with_owner p.sender h.source.net s in
+      rw t (owned-frames d h p owned e
+      ∙ ap (λ (l : List (List ℕ)). l ++ frames_by_fate d p (outcome_of_owned p.sender h p.packet owned).fate)
+      (keep p.sender d (with_client (Some h.source.net)) (λ k. refl) (λ k. refl) s))
 ]
 
 frame-frames : (c d : ℕ) (packet : List ℕ) (s : RelayState)
@@ -162,11 +169,10 @@ frame-frames c d packet s = go (connection_of c s.connections)
     go (Some k) = elim (cases_Bool k.closing) [
       | inl t ↦ rw t (sym (append-nil (frames_given_to d s)))
       | inr t ↦
-          let taken = with_frame_taken c s in
-          let fate = fate_by_header c packet k taken (header_of packet) in
-          rw t (header-frames c d packet k fate taken (header_of packet) refl
-          ∙ ap (λ (l : List (List ℕ)). l ++ frames_by_fate d (passage c packet fate) fate) (keep c d with_one_taken (λ k. refl) (λ k. refl) s)
-          ∙ ap (λ (l : List (List ℕ)). frames_given_to d s ++ l) (sym (append-nil (frames_by_fate d (passage c packet fate) fate))))
+          let p : Passage = record { sender = c; packet = packet; fate = (outcome_of_frame c packet k s).fate } in
+          rw t (header-frames d p k (with_frame_taken c s) (header_of packet) refl
+          ∙ ap (λ (l : List (List ℕ)). l ++ frames_to d p) (keep c d with_one_taken (λ k. refl) (λ k. refl) s)
+          ∙ ap (λ (l : List (List ℕ)). frames_given_to d s ++ l) (sym (append-nil (frames_to d p))))
     ]
 
 frames-frames : (c d : ℕ) (packets : List (List ℕ)) (s : RelayState)

@@ -2,6 +2,7 @@ mod Examples
 mod PassageExamples
 pub mod ChangeLemmas
 pub mod GivenLemmas
+pub mod KeptLemmas
 pub mod TakenLemmas
 pub mod AnswerLemmas
 pub mod MarkLemmas

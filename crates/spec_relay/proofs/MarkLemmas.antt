@@ -1,75 +1,58 @@
 -- A frame is passed as a response exactly where it has the mark of one.
-use Rattle.std.proofs.Common.{◌≡◌, ℕ, List, [], ◌∷◌, ◌++◌, Bool, true, false, cond, refl, sym, subst, ◌∙◌, ap, inl, inr}
+use Rattle.std.proofs.Common.{◌≡◌, ℕ, List, [], ◌∷◌, ◌++◌, Bool, true, false, cond, refl, ◌∙◌, ap, inl, inr}
 use Rattle.std.specs.Prelude.{Option, Some, None, ◌==◌, ◌%◌}
 use Rattle.std.proofs.lemmas.Bool.{cases_Bool}
 use Rattle.ads_outside.specs.declared.event.Event.TheVariants as event
 use Rattle.ads_outside.specs.declared.moves.Move.{Move}
 use Rattle.ads_outside.specs.declared.moves.Move.TheVariants as move
+use Rattle.spec_formats.specs.Commands.{DEVICE_NOTIFICATION}
 use Rattle.spec_formats.specs.Header.{AmsHeader, header_of, payload_of}
 use Rattle.spec_machine.specs.Connection.{connection_of, is_deaf}
 use Rattle.spec_machine.specs.Piece.{with_received, packets_left}
 use Rattle.spec_relay.specs.RelayState.{Request, RelayConnection, RelayState, relay_start, owner_of}
 use Rattle.spec_relay.specs.Requests.{request_answered}
-use Rattle.spec_relay.specs.Ways.{Way, Closes, Answers, Stray, Asks, Unknown, is_closed_by, way_of_request, way_of_response, way_of_owned}
-use Rattle.spec_relay.specs.Routing.{framed, has_room, at_connection, with_owner, with_frame_taken, after_frame}
+use Rattle.spec_relay.specs.Checks.{is_closed_by}
+use Rattle.spec_relay.specs.Routing.{framed, has_room, at_connection, given_to, with_owner, with_frame_taken, after_frame}
+use Rattle.spec_relay.specs.Routing.{outcome_of_unknown, outcome_of_response, outcome_of_request, outcome_of_owned}
+use Rattle.spec_relay.specs.Routing.{outcome_by_header, outcome_of_frame}
 use Rattle.spec_relay.specs.RelayMoves.{relay_after_event}
 use Rattle.spec_machine.specs.Moves.{state_after_move}
-use Rattle.spec_relay.specs.Passages.{Fate, Passage, fate_on_way, fate_by_header, passages_of_frame_at}
-use Rattle.spec_relay.specs.Passages.{passages_of_frame, passages_of_frames, passages_of_piece}
-use Rattle.spec_relay.specs.Passages.{passages_of_move, passages_of}
-use Rattle.spec_relay.specs.PassedOn.{is_response}
+use Rattle.spec_relay.specs.Passages.{Passage, passages_of_frame_at, passages_of_frame, passages_of_frames}
+use Rattle.spec_relay.specs.Passages.{passages_of_piece, passages_of_move, passages_of}
+use Rattle.spec_relay.specs.PassedOn.{is_response, is_response_packet}
 use Rattle.spec_relay.specs.RelayLaws.{IsMarked, AreMarked, PassesByMark}
 
-abbrev passage : ℕ → List ℕ → Fate → Passage
-passage c packet fate = record { sender = c; packet = packet; fate = fate }
+unknown-marked : (h : AmsHeader) (p : Passage) (s : RelayState) → IsMarked p (outcome_of_unknown p.sender h s).fate
+unknown-marked h p s = elim (cases_Bool (h.command == DEVICE_NOTIFICATION)) [ inl t ↦ rw t tt | inr t ↦ rw t tt ]
 
--- a way that is for responses, or for requests
-abbrev IsWayOf : AmsHeader → Way → Type 0
-IsWayOf h (Answers r) = (h.flags % 2 == 1) ≡ true
-IsWayOf h (Asks d) = (h.flags % 2 == 1) ≡ false
-IsWayOf h way = Unit {0}
+response-marked : (h : AmsHeader) (p : Passage) (s : RelayState) → is_response_packet p.packet ≡ true → (o : Option Request)
+    → IsMarked p (outcome_of_response p.sender h p.packet s o).fate
+unfolding outcome_of_response
+response-marked h p s m None = tt
+response-marked h p s m (Some r) = elim (cases_Bool (has_room (framed p.packet) (connection_of r.asker s.connections)))
+    [ inl t ↦ rw t m | inr t ↦ rw t tt ]
 
-owned-way : (c : ℕ) (h : AmsHeader) (s : RelayState) → IsWayOf h (way_of_owned c h s)
-unfolding way_of_owned
-owned-way c h s = elim (cases_Bool (h.flags % 2 == 1)) [
-  | inl t ↦ let P : Bool → Type 0 =
-      λ b. IsWayOf h (cond b (way_of_response (request_answered c h s.world.requests)) (way_of_request (owner_of h.target.net s.connections))) in
-      subst P (sym t) (response (request_answered c h s.world.requests) t)
-  | inr t ↦ let P : Bool → Type 0 =
-      λ b. IsWayOf h (cond b (way_of_response (request_answered c h s.world.requests)) (way_of_request (owner_of h.target.net s.connections))) in
-      subst P (sym t) (request (owner_of h.target.net s.connections) t)
-]
+request-marked : (h : AmsHeader) (p : Passage) (s : RelayState) → is_response_packet p.packet ≡ false → (o : Option RelayConnection)
+    → IsMarked p (outcome_of_request p.sender h p.packet s o).fate
+unfolding outcome_of_request
+request-marked h p s m None = unknown-marked h p s
+request-marked h p s m (Some k) = elim (cases_Bool (has_room (framed p.packet) (connection_of k.number s.connections)))
+    [ inl t ↦ rw t m | inr t ↦ rw t (unknown-marked h p (given_to k.number p.packet s)) ]
+
+owned-marked : (h : AmsHeader) (p : Passage) (s : RelayState) → header_of p.packet ≡ Some h → IsMarked p (outcome_of_owned p.sender h p.packet s).fate
+owned-marked h p s e = by (h.flags % 2 == 1) refl
   where
-    response : (o : Option Request) → (h.flags % 2 == 1) ≡ true → IsWayOf h (way_of_response o)
-    response None t = tt
-    response (Some r) t = t
+    by : (b : Bool) → (h.flags % 2 == 1) ≡ b
+        → IsMarked p (cond b (outcome_of_response p.sender h p.packet s (request_answered p.sender h s.world.requests))
+        (outcome_of_request p.sender h p.packet s (owner_of h.target.net s.connections))).fate
+    by true t = response-marked h p s (ap is_response e ∙ t) (request_answered p.sender h s.world.requests)
+    by false t = request-marked h p s (ap is_response e ∙ t) (owner_of h.target.net s.connections)
 
-    request : (o : Option RelayConnection) → (h.flags % 2 == 1) ≡ false → IsWayOf h (way_of_request o)
-    request None t = tt
-    request (Some k) t = t
-
-way-marked : (c : ℕ) (h : AmsHeader) (packet : List ℕ) (fate : Fate) (way : Way) (s : RelayState)
-    → header_of packet ≡ Some h → IsWayOf h way → IsMarked (passage c packet fate) (fate_on_way c h packet way s)
-unfolding fate_on_way
-way-marked c h packet fate Closes s e m = tt
-way-marked c h packet fate (Answers r) s e m = elim (cases_Bool (has_room (framed packet) (connection_of r.asker s.connections))) [
-  | inl t ↦ rw t (ap is_response e ∙ m)
-  | inr t ↦ rw t tt
-]
-way-marked c h packet fate Stray s e m = tt
-way-marked c h packet fate (Asks d) s e m = elim (cases_Bool (has_room (framed packet) (connection_of d s.connections))) [
-  | inl t ↦ rw t (ap is_response e ∙ m)
-  | inr t ↦ rw t tt
-]
-way-marked c h packet fate Unknown s e m = tt
-
-header-marked : (c : ℕ) (packet : List ℕ) (k : RelayConnection) (fate : Fate) (s : RelayState) (o : Option AmsHeader)
-    → header_of packet ≡ o → IsMarked (passage c packet fate) (fate_by_header c packet k s o)
-header-marked c packet k fate s None e = tt
-header-marked c packet k fate s (Some h) e = elim (cases_Bool (is_closed_by (payload_of packet) h k s)) [
-  | inl t ↦ rw t tt
-  | inr t ↦ let owned = with_owner c h.source.net s in rw t (way-marked c h packet fate (way_of_owned c h owned) owned e (owned-way c h owned))
-]
+header-marked : (p : Passage) (k : RelayConnection) (s : RelayState) (o : Option AmsHeader)
+    → header_of p.packet ≡ o → IsMarked p (outcome_by_header p.sender p.packet k s o).fate
+header-marked p k s None e = tt
+header-marked p k s (Some h) e = elim (cases_Bool (is_closed_by (payload_of p.packet) h k s))
+    [ inl t ↦ rw t tt | inr t ↦ rw t (owned-marked h p (with_owner p.sender h.source.net s) e) ]
 
 marked-append : (ps qs : List Passage) → AreMarked ps → AreMarked qs → AreMarked (ps ++ qs)
 unfolding AreMarked
@@ -85,9 +68,8 @@ frame-marked c packet s = go (connection_of c s.connections)
     go (Some k) = elim (cases_Bool k.closing) [
       | inl t ↦ rw t tt
       | inr t ↦
-          let taken = with_frame_taken c s in
-          let fate = fate_by_header c packet k taken (header_of packet) in
-          rw t (header-marked c packet k fate taken (header_of packet) refl, tt)
+          let p : Passage = record { sender = c; packet = packet; fate = (outcome_of_frame c packet k s).fate } in
+          rw t (header-marked p k (with_frame_taken c s) (header_of packet) refl, tt)
     ]
 
 frames-marked : (c : ℕ) (packets : List (List ℕ)) (s : RelayState) → AreMarked (passages_of_frames c packets s)

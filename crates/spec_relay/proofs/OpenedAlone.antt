@@ -18,7 +18,12 @@ abbrev there : Option RelayConnection → Bool
 there o = is_some o
 
 there-kept : IsKept there
-there-kept = record { given = λ frame k. refl; closed = λ k. refl; taken = λ k. refl; client = λ client k. refl; received = λ piece k. refl; rest = λ k. refl }
+there-kept = record {
+  frames = record { given = λ frame k. refl; closed = λ k. refl; client = λ client k. refl };
+  taken = λ k. refl;
+  received = λ piece k. refl;
+  rest = λ k. refl;
+}
 
 none_of : (o : Option RelayConnection) → is_some o ≡ false → o ≡ None
 none_of None e = refl

@@ -13,10 +13,9 @@ use Rattle.spec_machine.specs.Connection.{produce, connection_of, put_back}
 use Rattle.spec_machine.specs.Moves.{state_after_move, state_after}
 use Rattle.spec_relay.specs.RelayState.{Request}
 use Rattle.spec_relay.specs.Requests.{without_first}
-use Rattle.spec_relay.specs.Ways.{way_of_owned}
-use Rattle.spec_relay.specs.Routing.{after_way, after_frame}
+use Rattle.spec_relay.specs.Routing.{Fate, Asked, Answered, NotFound, Dropped, outcome_of_response, outcome_of_request, after_frame}
 use Rattle.spec_relay.specs.RelayMoves.{after_frames, relay_after_event}
-use Rattle.spec_relay.specs.Passages.{Passage, Fate, Asked, Answered, NotFound, Dropped, fate_on_way, passages_of, passages_of_frame, passages_of_frames}
+use Rattle.spec_relay.specs.Passages.{Passage, passages_of, passages_of_frame, passages_of_frames}
 use Rattle.spec_relay.specs.PassedOn.{all_frames_to, packets_from, all_asked, all_answered, is_response_packet}
 use Rattle.spec_relay.specs.RelayLaws.{relay_passages, relay_state_after, frames_given_to, packets_taken, AreMarked}
 use Rattle.spec_frames.proofs.Hex.{hex}
@@ -116,8 +115,8 @@ pub record PassageRows : Type 0 where
 
 pub passage_rows : PassageRows
 unfolding ams_length_of is_header front_of packet_of behind_frame frames_from frames_of left_behind rest_of header_of response_packet produce
-    connection_of put_back state_after_move state_after without_first way_of_owned after_way after_frame after_frames relay_after_event
-    fate_on_way passages_of passages_of_frame passages_of_frames AreMarked
+    connection_of put_back state_after_move state_after without_first outcome_of_response outcome_of_request after_frame after_frames
+    relay_after_event passages_of passages_of_frame passages_of_frames AreMarked
 passage_rows = record {
   each = refl;
   notification_to_nobody = refl;

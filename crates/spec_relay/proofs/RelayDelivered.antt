@@ -7,26 +7,23 @@ use Rattle.spec_frames.specs.Division.{is_broken, front_of, rest_of}
 use Rattle.ads_outside.specs.declared.event.Event.{Event}
 use Rattle.ads_outside.specs.declared.event.Event.TheVariants as event
 use Rattle.ads_outside.specs.declared.moves.Move.TheVariants as move
-use Rattle.spec_formats.specs.Header.{AmsHeader, header_of, payload_of}
-use Rattle.spec_formats.specs.Commands.{DEVICE_NOTIFICATION}
+use Rattle.spec_formats.specs.Header.{header_of}
 use Rattle.spec_machine.specs.Device.{Produced}
-use Rattle.spec_machine.specs.Connection.{connection_of, is_deaf, fits, bytes_of, bytes_of_all, with_closing, produce, fresh_connection}
-use Rattle.spec_machine.specs.Piece.{with_received, packets_left, with_one_taken, with_client, after_rest}
+use Rattle.spec_machine.specs.Connection.{connection_of, is_deaf, fits, bytes_of, bytes_of_all, produce, fresh_connection}
+use Rattle.spec_machine.specs.Piece.{with_received, packets_left, with_one_taken, after_rest}
 use Rattle.spec_machine.specs.Moves.{with_gone}
 use Rattle.spec_machine.proofs.Changes.{with_gone-number}
 use Rattle.spec_machine.proofs.Find.{or_else, connection_of-append}
 use Rattle.spec_relay.specs.RelayState.{RelayWorld, Owned, RelayConnection, RelayState, relay_start}
-use Rattle.spec_relay.specs.Ways.{Way, Closes, Answers, Stray, Asks, Unknown, is_closed_by, way_of_owned}
-use Rattle.spec_relay.specs.Routing.{framed, has_room, delivered, at_connection, given_to, after_unknown}
-use Rattle.spec_relay.specs.Routing.{with_request_of, after_way, with_owner, with_frame_taken, after_header}
-use Rattle.spec_relay.specs.Routing.{after_frame_of, after_frame}
+use Rattle.spec_relay.specs.Routing.{delivered, at_connection, with_frame_taken, after_frame_of, after_frame}
 use Rattle.spec_relay.specs.RelayMoves.{after_frames, after_piece_of, relay_after_event}
 use Rattle.spec_relay.specs.Passages.{passages_of_event}
 use Rattle.spec_relay.specs.PassedOn.{all_frames_to}
 use Rattle.spec_relay.specs.RelayLaws.{frames_given, RelayOnlyAdds, RelayKeepsThere, RelayDelivers, RelayDeliversAll}
 use Rattle.spec_machine.specs.Delivery.{AddsTo, PassesOn}
 use Rattle.spec_relay.proofs.ChangeLemmas.{exchange-keeps, change-keeps}
-use Rattle.spec_relay.proofs.GivenLemmas.{delivered-number, event-frames}
+use Rattle.spec_relay.proofs.GivenLemmas.{event-frames}
+use Rattle.spec_relay.proofs.KeptLemmas.{IsKeptByFrames, header-seen}
 use Rattle.spec_machine.proofs.TurnsKept.{offers_kept, takes_output}
 use Rattle.spec_machine.proofs.AllTaken.{takes_all}
 use Rattle.spec_machine.specs.Offers.{left_after, not_taken}
@@ -35,10 +32,8 @@ use Rattle.spec_machine.proofs.Changes.{exchange_other}
 
 -- a view of a connection that nothing but a move of its own changes
 pub record IsKept {V : Type 0} (view : Option RelayConnection → V) : Type 0 where
-  pub given : (frame : Produced) (k : RelayConnection) → view (Some (delivered frame k)) ≡ view (Some k)
-  pub closed : (k : RelayConnection) → view (Some (with_closing k)) ≡ view (Some k)
+  pub frames : IsKeptByFrames view
   pub taken : (k : RelayConnection) → view (Some (with_one_taken k)) ≡ view (Some k)
-  pub client : (client : Owned) (k : RelayConnection) → view (Some (with_client client k)) ≡ view (Some k)
   pub received : (piece : List ℕ) (k : RelayConnection) → view (Some (with_received piece k)) ≡ view (Some k)
   pub rest : (k : RelayConnection) → view (Some (after_rest k)) ≡ view (Some k)
 
@@ -46,47 +41,12 @@ module _ {V : Type 0} (view : Option RelayConnection → V) (kept : IsKept view)
   abbrev pub seen : RelayState → V
   seen s = view (connection_of d s.connections)
 
-  given-seen : (n : ℕ) (packet : List ℕ) (s : RelayState) → seen (given_to n packet s) ≡ seen s
-  given-seen n packet s = change-keeps view n d (delivered (framed packet)) (delivered-number (framed packet)) (kept.given (framed packet)) s
-
-  unknown-seen : (c : ℕ) (h : AmsHeader) (s : RelayState) → seen (after_unknown c h s) ≡ seen s
-  unknown-seen c h s = elim (cases_Bool (h.command == DEVICE_NOTIFICATION)) [
-    | inl t ↦ rw t refl
-    | inr t ↦ rw t (given-seen c _ (record s { world = record s.world { unknown = _ } }))
-  ]
-
-  request-seen : (c n : ℕ) (h : AmsHeader) (s : RelayState) → seen (with_request_of c n h s) ≡ seen s
-  request-seen c n h s = elim (cases_Bool (h.command == DEVICE_NOTIFICATION)) [ inl t ↦ rw t refl | inr t ↦ rw t refl ]
-
-  way-seen : (c : ℕ) (h : AmsHeader) (packet : List ℕ) (way : Way) (s : RelayState) → seen (after_way c h packet way s) ≡ seen s
-  unfolding after_way
-  way-seen c h packet Closes s = change-keeps view c d with_closing (λ k. refl) kept.closed s
-  way-seen c h packet (Answers r) s = elim (cases_Bool (has_room (framed packet) (connection_of r.asker s.connections))) [
-    | inl t ↦ rw t (given-seen r.asker packet (record s { world = record s.world { requests = _ } }))
-    | inr t ↦ rw t (given-seen r.asker packet (record s { world = record s.world { requests = _ } }))
-  ]
-  way-seen c h packet Stray s = refl
-  way-seen c h packet (Asks n) s = elim (cases_Bool (has_room (framed packet) (connection_of n s.connections))) [
-    | inl t ↦ rw t (request-seen c n h (given_to n packet s) ∙ given-seen n packet s)
-    | inr t ↦ rw t (unknown-seen c h (given_to n packet s) ∙ given-seen n packet s)
-  ]
-  way-seen c h packet Unknown s = unknown-seen c h s
-
-  header-seen : (c : ℕ) (packet : List ℕ) (k : RelayConnection) (s : RelayState) (o : Option AmsHeader) → seen (after_header c packet k s o) ≡ seen s
-  header-seen c packet k s None = refl
-  header-seen c packet k s (Some h) = elim (cases_Bool (is_closed_by (payload_of packet) h k s)) [
-    | inl t ↦ rw t (way-seen c h packet Closes s)
-    | inr t ↦
-        let owned = with_owner c h.source.net s in
-        rw t (way-seen c h packet (way_of_owned c h owned) owned
-        ∙ change-keeps view c d (with_client (Some h.source.net)) (λ k. refl) (kept.client (Some h.source.net)) s)
-  ]
-
   frame_of-seen : (c : ℕ) (packet : List ℕ) (s : RelayState) (o : Option RelayConnection) → seen (after_frame_of c packet s o) ≡ seen s
   frame_of-seen c packet s None = refl
   frame_of-seen c packet s (Some k) = elim (cases_Bool k.closing) [
     | inl t ↦ rw t refl
-    | inr t ↦ rw t (header-seen c packet k (with_frame_taken c s) (header_of packet) ∙ change-keeps view c d with_one_taken (λ k. refl) kept.taken s)
+    | inr t ↦ rw t (header-seen view kept.frames d c packet k (with_frame_taken c s) (header_of packet)
+        ∙ change-keeps view c d with_one_taken (λ k. refl) kept.taken s)
   ]
 
   pub frame-seen : (c : ℕ) (packet : List ℕ) (s : RelayState) → seen (after_frame c packet s) ≡ seen s
@@ -141,20 +101,16 @@ rest-both k = elim (cases_Bool (is_broken (front_of (rest_of k.received)))) [ in
 
 took-kept : IsKept took_of
 took-kept = record {
-  given = λ frame k. (delivered-both frame k).0;
-  closed = λ k. refl;
+  frames = record { given = λ frame k. (delivered-both frame k).0; closed = λ k. refl; client = λ client k. refl };
   taken = λ k. refl;
-  client = λ client k. refl;
   received = λ piece k. refl;
   rest = λ k. (rest-both k).0;
 }
 
 pub gone-kept : IsKept gone_of
 gone-kept = record {
-  given = λ frame k. (delivered-both frame k).1;
-  closed = λ k. refl;
+  frames = record { given = λ frame k. (delivered-both frame k).1; closed = λ k. refl; client = λ client k. refl };
   taken = λ k. refl;
-  client = λ client k. refl;
   received = λ piece k. refl;
   rest = λ k. (rest-both k).1;
 }
@@ -249,7 +205,12 @@ rest-left : (k : RelayConnection) → left_when_gone (Some (after_rest k)) ≡ l
 rest-left k = elim (cases_Bool (is_broken (front_of (rest_of k.received)))) [ inl t ↦ rw t refl | inr t ↦ rw t refl ]
 
 left-kept : IsKept left_when_gone
-left-kept = record { given = delivered-left; closed = λ k. refl; taken = λ k. refl; client = λ client k. refl; received = λ piece k. refl; rest = rest-left }
+left-kept = record {
+  frames = record { given = delivered-left; closed = λ k. refl; client = λ client k. refl };
+  taken = λ k. refl;
+  received = λ piece k. refl;
+  rest = rest-left;
+}
 
 passes_from : (o p : Option RelayConnection) → gone_of p ≡ gone_of o → left_when_gone p ≡ left_when_gone o → PassesOn o p
 passes_from None None gone left = inl refl

@@ -11,20 +11,16 @@ use Rattle.ads_outside.specs.declared.event.Event.{Event}
 use Rattle.ads_outside.specs.declared.event.Event.TheVariants as event
 use Rattle.ads_outside.specs.declared.moves.Move.{Move}
 use Rattle.ads_outside.specs.declared.moves.Move.TheVariants as move
-use Rattle.spec_formats.specs.Header.{AmsHeader, header_of, payload_of}
-use Rattle.spec_formats.specs.Commands.{DEVICE_NOTIFICATION}
+use Rattle.spec_formats.specs.Header.{header_of}
 use Rattle.spec_machine.specs.Device.{Produced}
-use Rattle.spec_machine.specs.Connection.{connection_of, is_deaf, fits, with_closing, produce, fresh_connection}
-use Rattle.spec_machine.specs.Piece.{with_received, packets_left, with_one_taken, with_client, after_rest}
+use Rattle.spec_machine.specs.Connection.{connection_of, is_deaf, fits, produce, fresh_connection}
+use Rattle.spec_machine.specs.Piece.{with_received, packets_left, with_one_taken, after_rest}
 use Rattle.spec_machine.specs.Moves.{with_gone, with_took}
 use Rattle.spec_machine.specs.MachineState.{Exchange}
 use Rattle.spec_machine.proofs.Changes.{with_took-number, with_gone-number}
 use Rattle.spec_machine.proofs.Find.{or_else, connection_of-append}
 use Rattle.spec_relay.specs.RelayState.{RelayWorld, Owned, RelayConnection, RelayState, relay_start}
-use Rattle.spec_relay.specs.Ways.{Way, Closes, Answers, Stray, Asks, Unknown, is_closed_by, way_of_owned}
-use Rattle.spec_relay.specs.Routing.{framed, has_room, delivered, at_connection, given_to, after_unknown}
-use Rattle.spec_relay.specs.Routing.{with_request_of, after_way, with_owner, with_frame_taken, after_header}
-use Rattle.spec_relay.specs.Routing.{after_frame_of, after_frame}
+use Rattle.spec_relay.specs.Routing.{delivered, at_connection, with_frame_taken, after_frame_of, after_frame}
 use Rattle.spec_relay.specs.RelayMoves.{after_frames, after_piece_of, relay_after_event}
 use Rattle.spec_machine.specs.Moves.{state_after_move, state_after}
 use Rattle.spec_relay.specs.Passages.{Passage, passages_of_frame_at, passages_of_frame, passages_of_frames}
@@ -32,7 +28,7 @@ use Rattle.spec_relay.specs.Passages.{passages_of_piece, passages_of_event, pass
 use Rattle.spec_relay.specs.PassedOn.{packets_from}
 use Rattle.spec_relay.specs.RelayLaws.{packets_taken, TakesInOrder}
 use Rattle.spec_relay.proofs.ChangeLemmas.{exchange-keeps, changed-own, changed-other, change-keeps}
-use Rattle.spec_relay.proofs.GivenLemmas.{delivered-number}
+use Rattle.spec_relay.proofs.KeptLemmas.{IsKeptByFrames, header-seen}
 
 -- what came of a connection, and how many of its frames were taken
 abbrev pub progress : Option RelayConnection → Option (List ℕ × ℕ)
@@ -61,41 +57,9 @@ delivered-progress : (frame : Produced) (k : RelayConnection) → progress (Some
 delivered-progress frame k =
     cond_both k.gone k (produce frame k) (λ (l : RelayConnection). progress (Some l) ≡ progress (Some k)) (λ g. refl) (λ g. produce-progress frame k)
 
-given-progress : (n d : ℕ) (packet : List ℕ) (s : RelayState) → progress_at d (given_to n packet s) ≡ progress_at d s
-given-progress n d packet s = change-keeps progress n d (delivered (framed packet)) (delivered-number (framed packet)) (delivered-progress (framed packet)) s
-
-unknown-progress : (c d : ℕ) (h : AmsHeader) (s : RelayState) → progress_at d (after_unknown c h s) ≡ progress_at d s
-unknown-progress c d h s = elim (cases_Bool (h.command == DEVICE_NOTIFICATION)) [
-  | inl t ↦ rw t refl
-  | inr t ↦ rw t (given-progress c d _ (record s { world = record s.world { unknown = _ } }))
-]
-
-request-progress : (c n d : ℕ) (h : AmsHeader) (s : RelayState) → progress_at d (with_request_of c n h s) ≡ progress_at d s
-request-progress c n d h s = elim (cases_Bool (h.command == DEVICE_NOTIFICATION)) [ inl t ↦ rw t refl | inr t ↦ rw t refl ]
-
-way-progress : (c d : ℕ) (h : AmsHeader) (packet : List ℕ) (way : Way) (s : RelayState) → progress_at d (after_way c h packet way s) ≡ progress_at d s
-unfolding after_way
-way-progress c d h packet Closes s = change-keeps progress c d with_closing (λ k. refl) (λ k. refl) s
-way-progress c d h packet (Answers r) s = elim (cases_Bool (has_room (framed packet) (connection_of r.asker s.connections))) [
-  | inl t ↦ rw t (given-progress r.asker d packet (record s { world = record s.world { requests = _ } }))
-  | inr t ↦ rw t (given-progress r.asker d packet (record s { world = record s.world { requests = _ } }))
-]
-way-progress c d h packet Stray s = refl
-way-progress c d h packet (Asks n) s = elim (cases_Bool (has_room (framed packet) (connection_of n s.connections))) [
-  | inl t ↦ rw t (request-progress c n d h (given_to n packet s) ∙ given-progress n d packet s)
-  | inr t ↦ rw t (unknown-progress c d h (given_to n packet s) ∙ given-progress n d packet s)
-]
-way-progress c d h packet Unknown s = unknown-progress c d h s
-
-header-progress : (c d : ℕ) (packet : List ℕ) (k : RelayConnection) (s : RelayState) (o : Option AmsHeader)
-    → progress_at d (after_header c packet k s o) ≡ progress_at d s
-header-progress c d packet k s None = refl
-header-progress c d packet k s (Some h) = elim (cases_Bool (is_closed_by (payload_of packet) h k s)) [
-  | inl t ↦ rw t (way-progress c d h packet Closes s)
-  | inr t ↦
-      let owned = with_owner c h.source.net s in
-      rw t (way-progress c d h packet (way_of_owned c h owned) owned ∙ change-keeps progress c d (with_client (Some h.source.net)) (λ k. refl) (λ k. refl) s)
-]
+-- a frame keeps it, whatever becomes of the frame
+progress-kept : IsKeptByFrames progress
+progress-kept = record { given = delivered-progress; closed = λ k. refl; client = λ client k. refl }
 
 -- the frames of another connection
 frame-other : (n d : ℕ) (packet : List ℕ) (s : RelayState) → n ≢ d → progress_at d (after_frame n packet s) ≡ progress_at d s
@@ -106,7 +70,8 @@ frame-other n d packet s ne = go (connection_of n s.connections)
     go None = refl
     go (Some k) = elim (cases_Bool k.closing) [
       | inl t ↦ rw t refl
-      | inr t ↦ rw t (header-progress n d packet k (with_frame_taken n s) (header_of packet) ∙ ap progress (changed-other n d with_one_taken (λ k. refl) ne s))
+      | inr t ↦ rw t (header-seen progress progress-kept d n packet k (with_frame_taken n s) (header_of packet)
+          ∙ ap progress (changed-other n d with_one_taken (λ k. refl) ne s))
     ]
 
 -- a frame of one's own
@@ -117,7 +82,7 @@ frame-own c packet s k e t =
     let P : Option RelayConnection → Type 0 = λ o. progress_at c (after_frame_of c packet s o) ≡ Some (k.received, k.frames_taken + 1) in
     let taken : connection_of c (with_frame_taken c s).connections ≡ Some (with_one_taken k) =
     changed-own c with_one_taken (λ k. refl) s ∙ ap (option_map with_one_taken) e in
-    subst P (sym e) (rw t (header-progress c c packet k (with_frame_taken c s) (header_of packet) ∙ ap progress taken))
+    subst P (sym e) (rw t (header-seen progress progress-kept c c packet k (with_frame_taken c s) (header_of packet) ∙ ap progress taken))
 
 frame-closed : (c : ℕ) (packet : List ℕ) (s : RelayState) (k : RelayConnection)
     → connection_of c s.connections ≡ Some k → k.closing ≡ true → after_frame c packet s ≡ s
@@ -324,7 +289,8 @@ piece-other n c piece s ne f = go (connection_of n s.connections)
           let packets = packets_left (with_received piece k) in
           let u = at_connection n (with_received piece) s in
           let v = after_frames n packets u in
-          rw t (takes-same c s (at_connection n after_rest v) (passages_of_frames n packets u) (piece-leaves n c piece k s ne) (frames-other n c packets u ne).1 f)
+          rw t (takes-same c s (at_connection n after_rest v) (passages_of_frames n packets u)
+          (piece-leaves n c piece k s ne) (frames-other n c packets u ne).1 f)
     ]
 
 opened-takes : (c n : ℕ) (s : RelayState) → Fits (progress_at c s) → Takes c s (record s { connections = s.connections ++ fresh_connection None n ∷ [] }) []

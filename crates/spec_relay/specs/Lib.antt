@@ -1,6 +1,6 @@
 pub mod RelayState
 pub mod Requests
-pub mod Ways
+pub mod Checks
 pub mod Routing
 pub mod RelayMoves
 pub mod RelaySummary

@@ -4,8 +4,8 @@ use Rattle.spec_frames.specs.Frame.{frame_bytes}
 use Rattle.spec_formats.specs.Header.{AmsHeader, header_of}
 use Rattle.spec_formats.specs.Commands.{DEVICE_NOTIFICATION}
 use Rattle.spec_relay.specs.RelayState.{Request}
-use Rattle.spec_relay.specs.Routing.{not_found_packet, request_from}
-use Rattle.spec_relay.specs.Passages.{Fate, Asked, Answered, NotFound, Dropped, Passage}
+use Rattle.spec_relay.specs.Routing.{Fate, Asked, Answered, NotFound, Dropped, not_found_packet, request_from}
+use Rattle.spec_relay.specs.Passages.{Passage}
 
 -- the frames that a connection was given by a passage: the frame itself, or what tells its sender that the target is not found
 abbrev pub told_frames : Option AmsHeader → List (List ℕ)
@@ -43,14 +43,7 @@ asked_in p = asked_by_header p p.fate (header_of p.packet)
 -- the request that a response, which a connection was given, answers: of that connection to its sender, with the addresses
 -- exchanged and the same command and id
 abbrev pub request_to : ℕ → ℕ → AmsHeader → Request
-request_to asker asked h = record {
-  asker = asker;
-  asked = asked;
-  source = h.target;
-  target = h.source;
-  command = h.command;
-  id = h.id;
-}
+request_to asker asked h = request_from asker asked (record h { source = h.target; target = h.source })
 
 abbrev pub answered_by_header : Passage → Fate → Option AmsHeader → List Request
 answered_by_header p (Answered d) (Some h) = request_to d p.sender h ∷ []

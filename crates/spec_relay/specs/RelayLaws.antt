@@ -10,8 +10,9 @@ use Rattle.spec_machine.specs.Offers.{taken_of}
 use Rattle.spec_machine.specs.Turns.{KeepsTurns}
 use Rattle.spec_machine.specs.Delivery.{IsPrefix, OnlyAdds, KeepsThere, is_cut_off, is_short}
 use Rattle.spec_relay.specs.RelayState.{Request, RelayConnection, RelayState, relay_start}
+use Rattle.spec_relay.specs.Routing.{Fate, Asked, Answered}
 use Rattle.spec_relay.specs.RelayMoves.{relay_after_event}
-use Rattle.spec_relay.specs.Passages.{Passage, Fate, Asked, Answered, passages_of}
+use Rattle.spec_relay.specs.Passages.{Passage, passages_of}
 use Rattle.spec_relay.specs.PassedOn.{all_frames_to, packets_from, all_asked, all_answered, is_response_packet}
 
 -- the frames that a connection was given
