@@ -10,7 +10,7 @@ use Rattle.spec_plant.specs.Rights.{rights_of}
 use Rattle.spec_machine.specs.Connection.{connection_of}
 use Rattle.spec_machine.specs.Piece.{with_client}
 use Rattle.spec_relay.specs.RelayState.{RelayWorld, Owned, RelayConnection, RelayState, is_heard, is_heard_among, owner_of}
-use Rattle.spec_relay.specs.Ways.{is_taken_net}
+use Rattle.spec_relay.specs.Checks.{is_taken_net}
 use Rattle.spec_relay.specs.Routing.{with_owner}
 use Rattle.spec_relay.proofs.ChangeLemmas.{changed-own, changed-other, world-change}
 use Rattle.connections.specs.Entries.{IsEntry, IsNoEntry}

@@ -18,7 +18,7 @@ use Rattle.spec_relay.specs.RelayState.{RelayWorld, Owned, RelayConnection, Rela
 use Rattle.spec_relay.specs.RelayMoves.{after_frames, after_piece_of, relay_after_event}
 use Rattle.spec_relay.specs.RelaySummary.{RelaySummary as CountsOfState, relay_summary_of}
 use Rattle.spec_relay.specs.Requests.{with_requests_heard}
-use Rattle.spec_relay.specs.Routing.{at_connection, with_frame_taken, after_header, after_frame_of, after_frame}
+use Rattle.spec_relay.specs.Routing.{at_connection, with_frame_taken, outcome_by_header, outcome_of_frame, after_frame_of, after_frame}
 use Rattle.spec_relay.proofs.ChangeLemmas.{changed-own, world-change}
 use Rattle.spec_relay.proofs.RelayDelivered.{gone_of, gone-kept, frame-seen, piece-seen}
 use Rattle.spec_relay.proofs.TakenLemmas.{progress, frame-own, piece-progress}
@@ -51,7 +51,7 @@ unfolding after_frames after_frame
 frames-closing c k [] s found closing = refl
 frames-closing c k (packet ∷ packets) s found closing =
     let same : after_frame c packet s ≡ s =
-    ap (after_frame_of c packet s) found ∙ cond-true k.closing s (after_header c packet k (with_frame_taken c s) (header_of packet)) closing in
+    ap (after_frame_of c packet s) found ∙ cond-true k.closing s (outcome_of_frame c packet k s).after closing in
     ap (after_frames c packets) same ∙ frames-closing c k packets s found closing
 
 rest-closing : (k : RelayConnection) → k.closing ≡ true → after_rest k ≡ k
@@ -208,7 +208,7 @@ pub passed_on : (c i : ℕ) (packet : List ℕ) (b : List ℕ) (held given : Hel
     → cut.Frame packet ≡ answer_of (history_of held w.connection) → Represents given (after_next (history_of held w.connection))
     → Holds mid b (with_frame_taken c s)
     → ((d : List ℕ) (t : RelayState) (l : RelayConnection) → Holds mid d t → IsHeardAt c l t
-    → IsSwept t → Holds new d (after_header c packet l t (header_of packet)))
+    → IsSwept t → Holds new d (outcome_by_header c packet l t (header_of packet)).after)
     → TakesOne c given new b s
 unfolding after_frame
 passed_on c i packet b held given old mid new s w at is_open answer stream taken pass =
@@ -218,8 +218,8 @@ passed_on c i packet b held given old mid new s w at is_open answer stream taken
     changed-own c with_one_taken (λ l. refl) s ∙ ap (option_map with_one_taken) w.found in
     let heard : IsHeardAt c (with_one_taken k) (with_frame_taken c s) = record { found = found; heard = heard_of_parts (with_one_taken k) open_k w.there } in
     let after = pass b (with_frame_taken c s) (with_one_taken k) taken heard (swept_is (at_connection c with_one_taken s)) in
-    let same : after_frame c packet s ≡ after_header c packet k (with_frame_taken c s) (header_of packet) =
-    ap (after_frame_of c packet s) w.found ∙ cond-false k.closing s (after_header c packet k (with_frame_taken c s) (header_of packet)) open_k in
+    let same : after_frame c packet s ≡ (outcome_of_frame c packet k s).after =
+    ap (after_frame_of c packet s) w.found ∙ cond-false k.closing s (outcome_of_frame c packet k s).after open_k in
     takes_frame c packet k held given new b s w.found open_k w.there answer stream (subst (Holds new b) (sym same) after)
 
 -- the rest is open

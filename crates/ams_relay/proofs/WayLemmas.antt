@@ -1,7 +1,7 @@
 -- A packet goes its way: what the router keeps stands for the state after it.
 use Rattle.std.proofs.Common.{◌≡◌, ℕ, ◌+◌, List, length, Bool, true, false, cond, not, refl, sym, ap, ◌∙◌, subst, inl, inr, arith}
 use Rattle.std.specs.Prelude.{Option, Some, None, option_map, ◌==◌, ◌%◌, ◌&&◌, ◌||◌, is_some, filter}
-use Rattle.std.proofs.lemmas.Bool.{cases_eq, true≢false, cond-true, cond-false}
+use Rattle.std.proofs.lemmas.Bool.{cases_eq, true≢false}
 use Rattle.spec_plant.specs.Rights.{rights_of}
 use Rattle.spec_formats.specs.Commands.{DEVICE_NOTIFICATION}
 use Rattle.spec_formats.specs.Header.{AmsHeader, header_of, payload_of}
@@ -11,10 +11,10 @@ use Rattle.spec_machine.specs.Summary.{count_of}
 use Rattle.spec_relay.specs.RelayState.{Request, RelayWorld, RelayConnection, RelayState, is_heard_among, owner_of}
 use Rattle.spec_relay.specs.RelaySummary.{RelaySummary as CountsOfState, relay_summary_of}
 use Rattle.spec_relay.specs.Requests.{requests_heard, is_answered_by, request_answered, without_first}
-use Rattle.spec_relay.specs.Ways.{Closes, Asks, is_closed_by, is_taken_net, way_of_response, way_of_request, way_of_owned}
-use Rattle.spec_relay.specs.Routing.{at_connection, framed, has_room, given_to, with_passed}
-use Rattle.spec_relay.specs.Routing.{with_unknown, with_requests, after_unknown, not_found_packet}
-use Rattle.spec_relay.specs.Routing.{with_request_of, after_way, with_owner, after_header}
+use Rattle.spec_relay.specs.Checks.{is_closed_by, is_taken_net}
+use Rattle.spec_relay.specs.Routing.{RelayOutcome, at_connection, framed, has_room, given_to, with_passed, with_unknown, with_requests}
+use Rattle.spec_relay.specs.Routing.{not_found_packet, with_request_of, with_owner}
+use Rattle.spec_relay.specs.Routing.{outcome_of_unknown, outcome_of_response, outcome_of_request, outcome_by_header}
 use Rattle.spec_relay.proofs.ChangeLemmas.{changed-own, changed-other, world-change}
 use Rattle.ams_relay.specs.declared.router.Router.{Router}
 use Rattle.ams_relay.specs.Counts.{counts_in}
@@ -25,22 +25,30 @@ use Rattle.ams_relay.proofs.GiveLemmas.{given_as_frame}
 use Rattle.ams_relay.proofs.RequestLemmas.{heard_changed}
 use Rattle.ams_relay.proofs.StateLemmas.{frame_quiet}
 
+-- the counts alone change, of the router and of the state
+recounted : (old new : Router) (b : List ℕ) (s : RelayState) (passed unknown : ℕ)
+    → (let u : RelayState = record s { world = record s.world { passed = passed; unknown = unknown } } in
+    new ≡ record old { counts = new.counts } → counts_in new.counts ≡ relay_summary_of u → Holds old b s → Holds new b u)
+recounted old new b s passed unknown same counts h =
+    let u : RelayState = record s { world = record s.world { passed = passed; unknown = unknown } } in
+    subst (λ (r : Router). Holds r b u) (sym same) (record {
+      outlets = h.outlets;
+      known = record {
+        routes = h.known.routes;
+        peers = h.known.peers;
+        owners = h.known.owners;
+        requests = λ n p k at found heard. (let a = h.known.requests n p k at found heard in record { same = a.same; own = a.own; few = a.few });
+        named = h.known.named;
+        counts = counts;
+        routed = h.known.routed;
+      };
+    })
+
 -- one more frame was given to a connection, or has an unknown target
 pub passed_counted : (old new : Router) (b : List ℕ) (s : RelayState) → new ≡ record old { counts = new.counts }
     → new.counts ≡ (let t = old.counts in record t { passed = count_of (t.passed + 1) })
     → Holds old b s → Holds new b (with_passed s)
-passed_counted old new b s same counts h = subst (λ (r : Router). Holds r b (with_passed s)) (sym same) (record {
-  outlets = h.outlets;
-  known = record {
-    routes = h.known.routes;
-    peers = h.known.peers;
-    owners = h.known.owners;
-    requests = λ n p k at found heard. (let a = h.known.requests n p k at found heard in record { same = a.same; own = a.own; few = a.few });
-    named = h.known.named;
-    counts = ap counts_in counts ∙ counted;
-    routed = h.known.routed;
-  };
-})
+passed_counted old new b s same counts h = recounted old new b s (s.world.passed + 1) s.world.unknown same (ap counts_in counts ∙ counted) h
   where
     more : count_of (old.counts.passed + 1) ≡ count_of (s.world.passed + 1)
     more = let before : old.counts.passed ≡ count_of s.world.passed = ap (λ (x : CountsOfState). x.passed) h.known.counts in omega (arith, before)
@@ -51,18 +59,7 @@ passed_counted old new b s same counts h = subst (λ (r : Router). Holds r b (wi
 pub unknown_counted : (old new : Router) (b : List ℕ) (s : RelayState) → new ≡ record old { counts = new.counts }
     → new.counts ≡ (let t = old.counts in record t { unknown = count_of (t.unknown + 1) })
     → Holds old b s → Holds new b (with_unknown s)
-unknown_counted old new b s same counts h = subst (λ (r : Router). Holds r b (with_unknown s)) (sym same) (record {
-  outlets = h.outlets;
-  known = record {
-    routes = h.known.routes;
-    peers = h.known.peers;
-    owners = h.known.owners;
-    requests = λ n p k at found heard. (let a = h.known.requests n p k at found heard in record { same = a.same; own = a.own; few = a.few });
-    named = h.known.named;
-    counts = ap counts_in counts ∙ counted;
-    routed = h.known.routed;
-  };
-})
+unknown_counted old new b s same counts h = recounted old new b s s.world.passed (s.world.unknown + 1) same (ap counts_in counts ∙ counted) h
   where
     more : count_of (old.counts.unknown + 1) ≡ count_of (s.world.unknown + 1)
     more = let before : old.counts.unknown ≡ count_of s.world.unknown = ap (λ (x : CountsOfState). x.unknown) h.known.counts in omega (arith, before)
@@ -72,78 +69,75 @@ unknown_counted old new b s same counts h = subst (λ (r : Router). Holds r b (w
 
 -- a frame of a notification is not answered, any other is
 pub unknown_silent : (c : ℕ) (head : AmsHeader) (new : Router) (b : List ℕ) (s : RelayState)
-    → (head.command == DEVICE_NOTIFICATION) ≡ true → Holds new b (with_unknown s) → Holds new b (after_unknown c head s)
-unknown_silent c head new b s t h =
-    subst (Holds new b) (sym (cond-true (head.command == DEVICE_NOTIFICATION) (with_unknown s) (given_to c (not_found_packet head) (with_unknown s)) t)) h
+    → (head.command == DEVICE_NOTIFICATION) ≡ true → Holds new b (with_unknown s) → Holds new b (outcome_of_unknown c head s).after
+unknown_silent c head new b s t h = rw t h
 
 pub unknown_told : (c : ℕ) (head : AmsHeader) (new : Router) (b : List ℕ) (s : RelayState) → (head.command == DEVICE_NOTIFICATION) ≡ false
-    → Holds new b (given_to c (not_found_packet head) (with_unknown s)) → Holds new b (after_unknown c head s)
-unknown_told c head new b s t h =
-    subst (Holds new b) (sym (cond-false (head.command == DEVICE_NOTIFICATION) (with_unknown s) (given_to c (not_found_packet head) (with_unknown s)) t)) h
+    → Holds new b (given_to c (not_found_packet head) (with_unknown s)) → Holds new b (outcome_of_unknown c head s).after
+unknown_told c head new b s t h = rw t h
+
+-- the state after one of two outcomes
+after_one : (t : Bool) (x y : RelayOutcome) (new : Router) (b : List ℕ) → Holds new b (cond t x.after y.after) → Holds new b (cond t x y).after
+after_one true x y new b h = h
+after_one false x y new b h = h
 
 -- a response that answers no request
-pub way_stray : (c : ℕ) (head : AmsHeader) (packet : List ℕ) (new : Router) (b : List ℕ) (s : RelayState) → SpendsNone c head new b s
-    → Holds new b (after_way c head packet (way_of_response (request_answered c head s.world.requests)) s)
-unfolding after_way
-way_stray c head packet new b s none = subst (λ o. Holds new b (after_way c head packet (way_of_response o) s)) (sym none.none) none.holds
+pub response_dropped : (c : ℕ) (head : AmsHeader) (packet : List ℕ) (new : Router) (b : List ℕ) (s : RelayState) → SpendsNone c head new b s
+    → Holds new b (outcome_of_response c head packet s (request_answered c head s.world.requests)).after
+unfolding outcome_of_response
+response_dropped c head packet new b s none = subst (λ o. Holds new b (outcome_of_response c head packet s o).after) (sym none.none) none.holds
 
 -- a response to the asker of its request
-pub way_answered : (c asker : ℕ) (head : AmsHeader) (packet : List ℕ) (mid new : Router) (b : List ℕ) (s : RelayState) (fitted : Bool)
+pub response_given : (c asker : ℕ) (head : AmsHeader) (packet : List ℕ) (mid new : Router) (b : List ℕ) (s : RelayState) (fitted : Bool)
     → SpendsOne asker c head mid b s
     → ((t : RelayState) → Holds mid b t → (fitted ≡ has_room (framed packet) (connection_of asker t.connections))
     × Holds new b (cond fitted (with_passed (given_to asker packet t)) (given_to asker packet t)))
-    → Holds new b (after_way c head packet (way_of_response (request_answered c head s.world.requests)) s)
-unfolding after_way
-way_answered c asker head packet mid new b s fitted one give =
-    let spent = with_requests (without_first (is_answered_by c head) s.world.requests) s in
-    let given = give spent one.holds in
-    let after = subst (λ t. Holds new b (cond t (with_passed (given_to asker packet spent)) (given_to asker packet spent))) given.0 given.1 in
-    subst (λ o. Holds new b (after_way c head packet (way_of_response o) s)) (sym one.answered)
-    (subst (λ a. Holds new b
-    (cond (has_room (framed packet) (connection_of a s.connections)) (with_passed (given_to a packet spent)) (given_to a packet spent)))
-    (sym one.asked) after)
+    → Holds new b (outcome_of_response c head packet s (request_answered c head s.world.requests)).after
+unfolding outcome_of_response
+response_given c asker head packet mid new b s fitted one give =
+    subst (λ o. Holds new b (outcome_of_response c head packet s o).after) (sym one.answered)
+    (after_one (has_room (framed packet) (connection_of one.request.asker s.connections)) _ _ new b
+    (subst (λ a. Holds new b (after a (has_room (framed packet) (connection_of a s.connections)))) (sym one.asked)
+    (subst (λ t. Holds new b (after asker t)) given.0 given.1)))
+  where
+    spent : RelayState
+    spent = with_requests (without_first (is_answered_by c head) s.world.requests) s
+
+    after : ℕ → Bool → RelayState
+    after a t = cond t (with_passed (given_to a packet spent)) (given_to a packet spent)
+
+    given : (fitted ≡ has_room (framed packet) (connection_of asker s.connections)) × Holds new b (after asker fitted)
+    given = give spent one.holds
 
 -- nobody owns the target
-pub way_unknown : (c : ℕ) (head : AmsHeader) (packet : List ℕ) (new : Router) (b : List ℕ) (s : RelayState)
-    → None ≡ option_map number_of (owner_of head.target.net s.connections) → Holds new b (after_unknown c head s)
-    → Holds new b (after_way c head packet (way_of_request (owner_of head.target.net s.connections)) s)
-unfolding after_way
-way_unknown c head packet new b s none h = by (owner_of head.target.net s.connections) none
+pub request_unknown : (c : ℕ) (head : AmsHeader) (packet : List ℕ) (new : Router) (b : List ℕ) (s : RelayState)
+    → None ≡ option_map number_of (owner_of head.target.net s.connections) → Holds new b (outcome_of_unknown c head s).after
+    → Holds new b (outcome_of_request c head packet s (owner_of head.target.net s.connections)).after
+unfolding outcome_of_request
+request_unknown c head packet new b s none h = by (owner_of head.target.net s.connections) none
   where
-    by : (o : Option RelayConnection) → None ≡ option_map number_of o → Holds new b (after_way c head packet (way_of_request o) s)
+    by : (o : Option RelayConnection) → None ≡ option_map number_of o → Holds new b (outcome_of_request c head packet s o).after
     by None e = h
     by (Some k) e = absurd (let no : ◌≡◌ {A = Option ℕ} None (Some k.number) = e in cc)
 
 -- the owner of the target has room, or not
-pub way_asked : (c d : ℕ) (head : AmsHeader) (packet : List ℕ) (new : Router) (b : List ℕ) (s : RelayState)
+pub request_given : (c d : ℕ) (head : AmsHeader) (packet : List ℕ) (new : Router) (b : List ℕ) (s : RelayState) (fitted : Bool)
     → Some d ≡ option_map number_of (owner_of head.target.net s.connections)
-    → has_room (framed packet) (connection_of d s.connections) ≡ true → Holds new b (with_passed (with_request_of c d head (given_to d packet s)))
-    → Holds new b (after_way c head packet (way_of_request (owner_of head.target.net s.connections)) s)
-unfolding after_way
-way_asked c d head packet new b s some room h = by (owner_of head.target.net s.connections) some
+    → fitted ≡ has_room (framed packet) (connection_of d s.connections)
+    → (let given = given_to d packet s in Holds new b (cond fitted (with_passed (with_request_of c d head given)) (outcome_of_unknown c head given).after))
+    → Holds new b (outcome_of_request c head packet s (owner_of head.target.net s.connections)).after
+unfolding outcome_of_request
+request_given c d head packet new b s fitted some room h = by (owner_of head.target.net s.connections) some
   where
-    by : (o : Option RelayConnection) → Some d ≡ option_map number_of o → Holds new b (after_way c head packet (way_of_request o) s)
-    by None e = absurd (let no : ◌≡◌ {A = Option ℕ} (Some d) None = e in cc)
-    by (Some k) e =
-        subst (λ n. Holds new b (after_way c head packet (Asks n) s)) (some_same d k.number e)
-        (subst (Holds new b) (sym
-        (cond-true (has_room (framed packet) (connection_of d s.connections))
-        (with_passed (with_request_of c d head (given_to d packet s))) (after_unknown c head (given_to d packet s)) room)) h)
+    after : ℕ → Bool → RelayState
+    after n t = cond t (with_passed (with_request_of c n head (given_to n packet s))) (outcome_of_unknown c head (given_to n packet s)).after
 
-pub way_refused : (c d : ℕ) (head : AmsHeader) (packet : List ℕ) (new : Router) (b : List ℕ) (s : RelayState)
-    → Some d ≡ option_map number_of (owner_of head.target.net s.connections)
-    → has_room (framed packet) (connection_of d s.connections) ≡ false → Holds new b (after_unknown c head (given_to d packet s))
-    → Holds new b (after_way c head packet (way_of_request (owner_of head.target.net s.connections)) s)
-unfolding after_way
-way_refused c d head packet new b s some room h = by (owner_of head.target.net s.connections) some
-  where
-    by : (o : Option RelayConnection) → Some d ≡ option_map number_of o → Holds new b (after_way c head packet (way_of_request o) s)
+    by : (o : Option RelayConnection) → Some d ≡ option_map number_of o → Holds new b (outcome_of_request c head packet s o).after
     by None e = absurd (let no : ◌≡◌ {A = Option ℕ} (Some d) None = e in cc)
     by (Some k) e =
-        subst (λ n. Holds new b (after_way c head packet (Asks n) s)) (some_same d k.number e)
-        (subst (Holds new b) (sym
-        (cond-false (has_room (framed packet) (connection_of d s.connections))
-        (with_passed (with_request_of c d head (given_to d packet s))) (after_unknown c head (given_to d packet s)) room)) h)
+        after_one (has_room (framed packet) (connection_of k.number s.connections)) _ _ new b
+        (subst (λ n. Holds new b (after n (has_room (framed packet) (connection_of n s.connections)))) (some_same d k.number e)
+        (subst (λ t. Holds new b (after d t)) room h))
 
 -- so the sender is heard behind it, what waits is swept, and the target was opened
 pub record AfterGiven (c d : ℕ) (k : RelayConnection) (t : RelayState) : Type 0 where
@@ -201,32 +195,21 @@ after_given c d packet k s heard swept room = subst (AfterGiven c d k) (sym (giv
 pub header_closes : (c : ℕ) (packet : List ℕ) (k : RelayConnection) (head : AmsHeader) (new : Router) (b : List ℕ) (s : RelayState)
     → header_of packet ≡ Some head
     → is_closed_by (payload_of packet) head k s ≡ true → Holds new b (at_connection c with_closing s)
-    → Holds new b (after_header c packet k s (header_of packet))
-unfolding after_way
-header_closes c packet k head new b s e closes h =
-    subst (λ o. Holds new b (after_header c packet k s o)) (sym e)
-    (subst (Holds new b) (sym (cond-true (is_closed_by (payload_of packet) head k s) (after_way c head packet Closes s)
-    (let owned = with_owner c head.source.net s in after_way c head packet (way_of_owned c head owned) owned) closes)) h)
+    → Holds new b (outcome_by_header c packet k s (header_of packet)).after
+header_closes c packet k head new b s e closes h = subst (λ o. Holds new b (outcome_by_header c packet k s o).after) (sym e) (rw closes h)
 
 -- it owns its source, and the packet goes its way
-pub header_goes : (c : ℕ) (packet : List ℕ) (k : RelayConnection) (head : AmsHeader) (new : Router) (b : List ℕ) (s : RelayState) → header_of packet ≡ Some head
-    → is_closed_by (payload_of packet) head k s ≡ false
-    → (let owned = with_owner c head.source.net s in Holds new b (after_way c head packet (way_of_owned c head owned) owned))
-    → Holds new b (after_header c packet k s (header_of packet))
-header_goes c packet k head new b s e opens h =
-    subst (λ o. Holds new b (after_header c packet k s o)) (sym e)
-    (subst (Holds new b) (sym (cond-false (is_closed_by (payload_of packet) head k s) (after_way c head packet Closes s)
-    (let owned = with_owner c head.source.net s in after_way c head packet (way_of_owned c head owned) owned) opens)) h)
-
-pub way_by_mark : (c : ℕ) (head : AmsHeader) (packet : List ℕ) (new : Router) (b : List ℕ) (s : RelayState) (response : Bool) → response ≡ (head.flags % 2 == 1)
-    → Holds new b (after_way c head packet
-    (cond response (way_of_response (request_answered c head s.world.requests)) (way_of_request (owner_of head.target.net s.connections))) s)
-    → Holds new b (after_way c head packet (way_of_owned c head s) s)
-unfolding way_of_owned
-way_by_mark c head packet new b s response e h =
-    subst (λ t. Holds new b
-    (after_way c head packet
-    (cond t (way_of_response (request_answered c head s.world.requests)) (way_of_request (owner_of head.target.net s.connections))) s)) e h
+pub header_goes : (c : ℕ) (packet : List ℕ) (k : RelayConnection) (head : AmsHeader) (new : Router) (b : List ℕ) (s : RelayState) (response : Bool)
+    → header_of packet ≡ Some head → is_closed_by (payload_of packet) head k s ≡ false → response ≡ (head.flags % 2 == 1)
+    → (let owned = with_owner c head.source.net s in
+    Holds new b (cond response (outcome_of_response c head packet owned (request_answered c head owned.world.requests))
+    (outcome_of_request c head packet owned (owner_of head.target.net owned.connections))).after)
+    → Holds new b (outcome_by_header c packet k s (header_of packet)).after
+header_goes c packet k head new b s response e opens mark h =
+    let owned = with_owner c head.source.net s in
+    subst (λ o. Holds new b (outcome_by_header c packet k s o).after) (sym e)
+    (rw opens (subst (λ t. Holds new b (cond t (outcome_of_response c head packet owned (request_answered c head owned.world.requests))
+    (outcome_of_request c head packet owned (owner_of head.target.net owned.connections))).after) mark h))
 
 -- the checks, one after another
 pub closed_refused : (payload : List ℕ) (head : AmsHeader) (k : RelayConnection) (s : RelayState)

@@ -1,10 +1,10 @@
 //! Frames are given to connections.
 
-ghost use Rattle.std.specs.Prelude.{◌≡◌, ◌<◌, ℕ, List, length, IfOk, OnOk};
+ghost use Rattle.std.specs.Prelude.{◌≡◌, ℕ, List, IfOk, OnOk};
 ghost use Rattle.spec_frames.specs.Frame.{IsAmsPacket, header_bytes};
 ghost use Rattle.spec_machine.specs.Connection.{connection_of};
 ghost use Rattle.spec_relay.specs.RelayState.{RelayState};
-ghost use Rattle.spec_relay.specs.Routing.{given_to, has_room, framed, after_unknown, not_found_packet};
+ghost use Rattle.spec_relay.specs.Routing.{given_to, has_room, framed, outcome_of_unknown, not_found_packet};
 ghost use Rattle.ams_header.specs.Header.{ams_header_of};
 ghost use Rattle.ams_relay.specs.Holds.{Holds};
 ghost use Rattle.ams_relay.specs.Peers.{IsSeat, places_of};
@@ -12,12 +12,9 @@ ghost use Rattle.ams_relay.specs.Peers.{IsSeat, places_of};
 use crate::router::Router;
 use crate::seat::Seat;
 use ads_base::NoMemory;
-use ams_header::{Header, answer_of, put};
+use ams_header::{AMS_HEADER, Header, NOTIFICATION, answer_of, put};
 use return_codes::Code;
 use std::alloc::Global;
-
-// The command of a notification.
-pub(crate) const DEVICE_NOTIFICATION: u16 = 8;
 
 impl Router {
     /// The frame of a packet is given to a connection; one that has no room for it is closing. Whether it had. The frame is
@@ -67,11 +64,11 @@ impl Router {
     ) -> Result<(), NoMemory>
         requires { IsSeat self.old from }
         ensures follows { OnOk result ((b : List ℕ) (s : RelayState) → Holds self.old b s
-            → Holds self.new b (after_unknown from.number (ams_header_of h.now) s)) }
+            → Holds self.new b (outcome_of_unknown from.number (ams_header_of h.now) s).after) }
         ensures places { places_of self.new ≡ places_of self.old }
     {
         self.counts.count_unknown();
-        if h.command == DEVICE_NOTIFICATION {
+        if h.command == NOTIFICATION {
             return Ok(());
         }
         let packet = not_found(h);
@@ -90,10 +87,10 @@ fn frame_header(packet: &[u8]) -> [u8; 6]
 }
 
 // The packet that tells a sender that the target machine was not found.
-fn not_found(h: &Header) -> [u8; 32]
+fn not_found(h: &Header) -> [u8; AMS_HEADER]
     ensures { result ≡ not_found_packet (ams_header_of h.now) }
 {
-    let mut packet = [0; 32];
+    let mut packet = [0; AMS_HEADER];
     put(&answer_of(h, Code::C7.number(), 0), &mut packet);
     packet
 }

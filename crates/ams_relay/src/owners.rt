@@ -1,13 +1,13 @@
 //! Who owns which NetId.
 
-ghost use Rattle.std.specs.Prelude.{◌≡◌, ℕ, List, Some, option_map, is_some, not, bytes_eq, true, false, IsTrue, OnOk, IfSome};
+ghost use Rattle.std.specs.Prelude.{◌≡◌, ℕ, List, Some, is_some, not, bytes_eq, true, false, IsTrue, OnOk, IfSome};
 ghost use Rattle.spec_plant.specs.Rights.{rights_of};
 ghost use Rattle.spec_relay.specs.RelayState.{RelayState, RelayConnection, owner_of};
-ghost use Rattle.spec_relay.specs.Ways.{is_taken_net};
+ghost use Rattle.spec_relay.specs.Checks.{is_taken_net};
 ghost use Rattle.spec_relay.specs.Routing.{with_owner};
 ghost use Rattle.ams_relay.specs.Holds.{Holds, owner_in};
 ghost use Rattle.ams_relay.specs.Peers.{IsSeat, places_of, net_of, owned_at};
-ghost use Rattle.ams_relay.specs.Taking.{IsHeardAt, IsOwnerSeat, number_of, number_in};
+ghost use Rattle.ams_relay.specs.Taking.{IsHeardAt, IsOwnerSeat, number_in};
 
 use crate::router::Router;
 use crate::seat::Seat;

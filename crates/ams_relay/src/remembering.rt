@@ -13,12 +13,11 @@ ghost use Rattle.ams_relay.specs.Peers.{IsSeat, is_open, places_of};
 ghost use Rattle.ams_relay.specs.Taking.{IsHeardAt, IsOpenedAt, IsSwept, Spends, SpendsAt, is_asked_heard, number_in};
 
 use crate::asked::{Asked, asked_by};
-use crate::giving::DEVICE_NOTIFICATION;
 use crate::peer::Peer;
 use crate::router::Router;
 use crate::seat::Seat;
 use ads_base::NoMemory;
-use ams_header::Header;
+use ams_header::{Header, NOTIFICATION};
 use std::alloc::Global;
 use std::collections::VecDeque;
 
@@ -72,7 +71,7 @@ impl Router {
             → Holds self.new b (with_request_of from.number target (ams_header_of h.now) s)) }
         ensures places { places_of self.new ≡ places_of self.old }
     {
-        if h.command == DEVICE_NOTIFICATION {
+        if h.command == NOTIFICATION {
             return Ok(());
         }
         if self.has_room(from.place) {

@@ -5,8 +5,8 @@ ghost use Rattle.spec_frames.specs.Frame.{IsAmsPacket};
 ghost use Rattle.spec_formats.specs.Header.{header_of};
 ghost use Rattle.spec_relay.specs.RelayState.{RelayState, RelayConnection, owner_of};
 ghost use Rattle.spec_relay.specs.Requests.{request_answered};
-ghost use Rattle.spec_relay.specs.Ways.{is_closed_by, way_of_response, way_of_request};
-ghost use Rattle.spec_relay.specs.Routing.{after_header, after_way, with_passed, with_request_of};
+ghost use Rattle.spec_relay.specs.Checks.{is_closed_by};
+ghost use Rattle.spec_relay.specs.Routing.{with_passed, with_request_of, outcome_of_response, outcome_of_request, outcome_by_header};
 ghost use Rattle.ams_header.specs.Header.{ams_header_of};
 ghost use Rattle.ams_relay.specs.Holds.{Holds};
 ghost use Rattle.ams_relay.specs.Peers.{IsSeat, places_of};
@@ -24,7 +24,7 @@ impl Router {
         requires packet { IsAmsPacket packet.now }
         requires seat { IsSeat self.old from }
         ensures follows { OnOk result ((b : List ℕ) (s : RelayState) (k : RelayConnection) → Holds self.old b s → IsHeardAt from.number k s → IsSwept s
-            → Holds self.new b (after_header from.number packet.now k s (header_of packet.now))) }
+            → Holds self.new b (outcome_by_header from.number packet.now k s (header_of packet.now)).after) }
         ensures places { places_of self.new ≡ places_of self.old }
     {
         let Some((h, payload)) = read(packet) else {
@@ -76,8 +76,8 @@ impl Router {
         requires packet { IsAmsPacket packet.now }
         requires seat { IsSeat self.old from }
         ensures follows { OnOk result ((b : List ℕ) (s : RelayState) (k : RelayConnection) → Holds self.old b s → IsHeardAt from.number k s → IsSwept s
-            → Holds self.new b (after_way from.number (ams_header_of h.now) packet.now
-            (way_of_response (request_answered from.number (ams_header_of h.now) s.world.requests)) s)) }
+            → Holds self.new b (outcome_of_response from.number (ams_header_of h.now) packet.now s
+            (request_answered from.number (ams_header_of h.now) s.world.requests)).after) }
         ensures places { places_of self.new ≡ places_of self.old }
     {
         let Some(asker) = self.spend(from, h) else {
@@ -102,8 +102,8 @@ impl Router {
         requires seat { IsSeat self.old from }
         ensures follows { OnOk result ((b : List ℕ) (s : RelayState) (k : RelayConnection) → Holds self.old b s → IsHeardAt from.number k s → IsSwept s
             → k.client ≡ Some h.now.source.net.bytes
-            → Holds self.new b (after_way from.number (ams_header_of h.now) packet.now
-            (way_of_request (owner_of h.now.target.net.bytes s.connections)) s)) }
+            → Holds self.new b (outcome_of_request from.number (ams_header_of h.now) packet.now s
+            (owner_of h.now.target.net.bytes s.connections)).after) }
         ensures places { places_of self.new ≡ places_of self.old }
     {
         match self.owner_near(self.near_of(from.place), h.target.net) {
@@ -126,8 +126,8 @@ impl Router {
         requires target { IsSeat self.old target }
         ensures follows { OnOk result ((b : List ℕ) (s : RelayState) (k : RelayConnection) → Holds self.old b s → IsHeardAt from.number k s → IsSwept s
             → k.client ≡ Some h.now.source.net.bytes → Some target.number ≡ option_map number_of (owner_of h.now.target.net.bytes s.connections)
-            → Holds self.new b (after_way from.number (ams_header_of h.now) packet.now
-            (way_of_request (owner_of h.now.target.net.bytes s.connections)) s)) }
+            → Holds self.new b (outcome_of_request from.number (ams_header_of h.now) packet.now s
+            (owner_of h.now.target.net.bytes s.connections)).after) }
         ensures places { places_of self.new ≡ places_of self.old }
     {
         let fitted = self.give(alloc, target, from.place, packet)?;

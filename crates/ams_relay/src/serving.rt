@@ -1,7 +1,6 @@
 //! The relay as what a loop serves.
 
 ghost use Rattle.std.specs.Prelude.{◌≡◌, OnOk};
-ghost use Rattle.ads_outside.specs.declared.moves.Move.TheVariants as move;
 ghost use Rattle.spec_machine.specs.Running.{OpensNew};
 ghost use Rattle.ams_relay.specs.Relays.{RelayRunning, StandsRunning, running_after_event};
 

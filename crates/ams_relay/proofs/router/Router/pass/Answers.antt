@@ -1,14 +1,11 @@
-use Rattle.std.proofs.Common.{List, ℕ, Bool, cond, ap, sym, ◌∙◌, subst}
+use Rattle.std.proofs.Common.{List, ℕ, ap, sym, ◌∙◌, true, false}
 use Rattle.spec_formats.specs.Header.{payload_of}
-use Rattle.spec_relay.specs.RelayState.{owner_of}
-use Rattle.spec_relay.specs.Requests.{request_answered}
-use Rattle.spec_relay.specs.Ways.{is_closed_by, way_of_response, way_of_request}
-use Rattle.spec_relay.specs.Routing.{after_way, with_owner}
+use Rattle.spec_relay.specs.Checks.{is_closed_by}
+use Rattle.spec_relay.specs.Routing.{with_owner}
 use Rattle.ams_header.specs.Header.{ams_header_of}
-use Rattle.ams_relay.specs.Holds.{Holds}
 use Rattle.ams_relay.proofs.OwnLemmas.{seat_kept}
 use Rattle.ams_relay.proofs.PromiseLemmas.{on_ok}
-use Rattle.ams_relay.proofs.WayLemmas.{header_closes, header_goes, way_by_mark, not_taken, has_route, after_owned}
+use Rattle.ams_relay.proofs.WayLemmas.{header_closes, header_goes, not_taken, has_route, after_owned}
 use Rattle.ams_relay.proofs.router.Router.pass.Goals as goal
 
 pub returns-then-is_closed_by-clause-follows : goal.returns-then-is_closed_by-clause-follows
@@ -35,12 +32,8 @@ returns-then-is_response-clause-follows c = on_ok c.pass_response.result (λ e b
     let held = c.in_ok-own.ensures.follows b s k h heard (not_taken (payload_of packet) head k s opens) (has_route (payload_of packet) head k s opens) in
     let after = after_owned conn head.source.net k s heard swept in
     let goes = e b owned after.connection held after.heard after.swept in
-    header_goes conn packet k head c.pass_response.new.self b s c.in-Some.ensures.header opens
-    (way_by_mark conn head packet c.pass_response.new.self b owned c.is_response.result c.is_response.ensures
-    (subst (λ (t : Bool). Holds c.pass_response.new.self b
-    (after_way conn head packet
-    (cond t (way_of_response (request_answered conn head owned.world.requests)) (way_of_request (owner_of head.target.net owned.connections))) owned))
-    (sym c.if-is_response.true) goes))) c.pass_response.ensures.follows
+    header_goes conn packet k head c.pass_response.new.self b s true c.in-Some.ensures.header opens
+    (sym c.if-is_response.true ∙ c.is_response.ensures) goes) c.pass_response.ensures.follows
 
 pub returns-else-is_response-clause-follows : goal.returns-else-is_response-clause-follows
 returns-else-is_response-clause-follows c = on_ok c.pass_request.result (λ e b s k h heard swept.
@@ -53,9 +46,5 @@ returns-else-is_response-clause-follows c = on_ok c.pass_request.result (λ e b 
     let held = c.in_ok-own.ensures.follows b s k h heard (not_taken (payload_of packet) head k s opens) (has_route (payload_of packet) head k s opens) in
     let after = after_owned conn head.source.net k s heard swept in
     let goes = e b owned after.connection held after.heard after.swept after.client in
-    header_goes conn packet k head c.pass_request.new.self b s c.in-Some.ensures.header opens
-    (way_by_mark conn head packet c.pass_request.new.self b owned c.is_response.result c.is_response.ensures
-    (subst (λ (t : Bool). Holds c.pass_request.new.self b
-    (after_way conn head packet
-    (cond t (way_of_response (request_answered conn head owned.world.requests)) (way_of_request (owner_of head.target.net owned.connections))) owned))
-    (sym c.if-is_response.false) goes))) c.pass_request.ensures.follows
+    header_goes conn packet k head c.pass_request.new.self b s false c.in-Some.ensures.header opens
+    (sym c.if-is_response.false ∙ c.is_response.ensures) goes) c.pass_request.ensures.follows
