@@ -39,8 +39,8 @@ use Rattle.ams_relay.specs.Peers.{Peers, Sets, peers_in, net_of, owned_of, owned
 use Rattle.ams_relay.specs.Taking.{DisownsIn, Disowns}
 use Rattle.ams_relay.proofs.BesideLemmas.{beside_changed, beside_opened, beside_ended, sets_behind}
 use Rattle.ams_relay.proofs.CarryLemmas.{unseated, closing_is, value_there}
-use Rattle.ams_relay.proofs.HoldLemmas.{SameBeside, column_same, peers_same, own_changed_list, named_changed, named_at, counts_changed, routed_changed}
-use Rattle.ams_relay.proofs.ListLemmas.{filter-yes, filter-no}
+use Rattle.ams_relay.proofs.HoldLemmas.{SameBeside, column_same, peers_same, own_changed_list, named_changed, named_filter, named_at, counts_changed, routed_changed}
+use Rattle.ams_relay.proofs.ListLemmas.{filter-no}
 use Rattle.ams_relay.proofs.OwnerLemmas.{IsUnheard, some_same, owners_unheard, owners_ended, owners_disowned, owners_opened, fresh_client}
 use Rattle.ams_relay.proofs.RequestLemmas.{Hearing, hearing, AreSame, same_narrower, heard_found, heard_none}
 use Rattle.ams_relay.proofs.RequestLemmas.{heard_there, heard_of_parts, deaf_closing, deaf_gone}
@@ -290,16 +290,9 @@ module _ (n : ℕ) (s : RelayState) (is_new : connection_of n s.connections ≡ 
         let nothing : q.asked.items ≡ [] = ap (λ (x : Peer). x.asked.items) is ∙ nothing_asked in
         let none : filter (is_asked_by m) (requests_heard (with_fresh n s).connections s.world.requests) ≡ [] =
         ap (filter (is_asked_by m)) (named_same s.world.requests named) ∙ ap (λ j. filter (is_asked_by j) (requests_heard s.connections s.world.requests)) e
-        ∙ none_asked (requests_heard s.connections s.world.requests) (named_heard s.world.requests named) in
+        ∙ none_asked (requests_heard s.connections s.world.requests) (named_filter s.connections _ s.world.requests named) in
         subst (λ xs. HoldsAsked xs m k (with_fresh n s)) (sym nothing) (record { same = sym none; own = tt; few = omega arith })
   ]
-    where
-      named_heard : (rs : List Request) → AreNamed s.connections rs → AreNamed s.connections (requests_heard s.connections rs)
-      named_heard [] named = tt
-      named_heard (r ∷ rs) named = elim (cases_Bool (H r.asker && H r.asked)) [
-        | inl t ↦ subst (AreNamed s.connections) (sym (filter-yes _ r rs t)) (named.0, named_heard rs named.1)
-        | inr t ↦ subst (AreNamed s.connections) (sym (filter-no _ r rs t)) (named_heard rs named.1)
-      ]
 
 -- one more owns nothing
 routed_opened : (n : ℕ) (s : RelayState) → AreRouted s → AreRouted (with_fresh n s)

@@ -2,7 +2,7 @@
 use Rattle.std.proofs.Common.{◌≡◌, ℕ, List, Bool, true, false, not, refl, sym, ap, ◌∙◌, subst, arith}
 use Rattle.std.specs.Prelude.{Option, Some, None, ◌&&◌, ◌||◌, slice_get}
 use Rattle.std.specs.Map.{keys_of}
-use Rattle.std.proofs.lemmas.Bool.{true≢false, cond-true, cond-false}
+use Rattle.std.proofs.lemmas.Bool.{true≢false, and_parts, cond-true, cond-false}
 use Rattle.spec_frames.specs.Frame.{frame_bytes}
 use Rattle.spec_machine.specs.Device.{Produced}
 use Rattle.spec_machine.specs.Connection.{connection_of, with_closing, with_frame, put_back, fits, produce}
@@ -37,14 +37,6 @@ produce-closing : (frame : Produced) (k : RelayConnection) → k.closing ≡ tru
 unfolding produce
 produce-closing frame k closing = cond-true k.closing k _ closing
 
-and_second : (a b : Bool) → (a && b) ≡ true → b ≡ true
-and_second true b e = e
-and_second false b e = absurd (true≢false (sym e))
-
-and_first : (a b : Bool) → (a && b) ≡ true → a ≡ true
-and_first true b e = refl
-and_first false b e = e
-
 pub given_as_frame : (d : ℕ) (packet : List ℕ) (s : RelayState) → has_room (framed packet) (connection_of d s.connections) ≡ true
     → given_to d packet s ≡ at_connection d (with_frame (framed packet)) s
 given_as_frame d packet s room = go (connection_of d s.connections) room
@@ -54,9 +46,10 @@ given_as_frame d packet s room = go (connection_of d s.connections) room
         ≡ after_exchange o (λ x. record x { connection = with_frame (framed packet) x.connection }) s
     go None e = refl
     go (Some k) e =
-        let parts = heard_parts k (and_first (is_heard k) (fits (framed packet) k) e) in
+        let both = and_parts (is_heard k) (fits (framed packet) k) e in
+        let parts = heard_parts k both.0 in
         ap (λ (l : RelayConnection). record s { connections = put_back l s.connections })
-        (cond-false k.gone k (produce (framed packet) k) parts.1 ∙ produce-fits (framed packet) k parts.0 (and_second (is_heard k) (fits (framed packet) k) e))
+        (cond-false k.gone k (produce (framed packet) k) parts.1 ∙ produce-fits (framed packet) k parts.0 both.1)
 
 -- what is delivered to a connection, by what becomes of it
 delivered_as : (n : ℕ) (packet : List ℕ) (k : RelayConnection) (f : RelayConnection → RelayConnection) (s : RelayState)

@@ -8,7 +8,7 @@ use Rattle.spec_machine.specs.Summary.{count_of}
 use Rattle.spec_plant.specs.Rights.{rights_of}
 use Rattle.spec_relay.specs.RelayState.{Request, RelayWorld, RelayConnection, RelayState, is_heard, is_heard_among}
 use Rattle.spec_relay.specs.RelaySummary.{relay_summary_of}
-use Rattle.spec_relay.specs.Requests.{requests_heard, is_asked_by, with_requests_heard}
+use Rattle.spec_relay.specs.Requests.{requests_heard, is_asked_by, with_requests_heard, without_first}
 use Rattle.spec_machine.specs.Piece.{with_client}
 use Rattle.spec_relay.specs.Routing.{at_connection, with_owner}
 use Rattle.spec_relay.proofs.ChangeLemmas.{changed-other, world-change}
@@ -40,12 +40,17 @@ named_changed ks ls opened [] named = tt
 named_changed ks ls opened (r ∷ rs) named =
     (record { asker = λ e. named.0.asker (opened r.asker e); asked = λ e. named.0.asked (opened r.asked e) }, named_changed ks ls opened rs named.1)
 
-named_filter : (ks : List RelayConnection) (P : Request → Bool) (rs : List Request) → AreNamed ks rs → AreNamed ks (filter P rs)
+pub named_filter : (ks : List RelayConnection) (P : Request → Bool) (rs : List Request) → AreNamed ks rs → AreNamed ks (filter P rs)
 named_filter ks P [] named = tt
 named_filter ks P (r ∷ rs) named = elim (cases_Bool (P r)) [
   | inl t ↦ subst (AreNamed ks) (sym (filter-yes P r rs t)) (named.0, named_filter ks P rs named.1)
   | inr t ↦ subst (AreNamed ks) (sym (filter-no P r rs t)) (named_filter ks P rs named.1)
 ]
+
+pub named_without : (ks : List RelayConnection) (P : Request → Bool) (rs : List Request) → AreNamed ks rs → AreNamed ks (without_first P rs)
+unfolding without_first
+named_without ks P [] named = tt
+named_without ks P (r ∷ rs) named = elim (cases_Bool (P r)) [ inl t ↦ rw t named.1 | inr t ↦ rw t (named.0, named_without ks P rs named.1) ]
 
 -- what was asked, after a quiet change
 pub asked_kept : (asked : List Asked) (m : ℕ) (k l : RelayConnection) (s t : RelayState)

@@ -1,7 +1,7 @@
 -- The owners of NetIds, as a connection changes, is closed, owns a NetId or is opened.
 use Rattle.std.proofs.Common.{◌≡◌, ◌≢◌, ◌⊎◌, ℕ, List, [], ◌∷◌, ◌++◌, true, false, refl, sym, ap, ◌∙◌, subst, inl, inr}
 use Rattle.std.specs.Prelude.{Bool, not, ◌||◌, ◌&&◌, ◌==◌, Option, Some, None, option_map, is_some, bytes_eq}
-use Rattle.std.proofs.lemmas.Bool.{cases_Bool, cases_eq, true≢false, cond-true, cond-false}
+use Rattle.std.proofs.lemmas.Bool.{cases_Bool, cases_eq, true≢false, and_parts, cond-true, cond-false}
 use Rattle.std.proofs.lemmas.Slice.Eq.{bytes_eq-Decides}
 use Rattle.spec_machine.specs.Connection.{connection_of, fresh_connection}
 use Rattle.spec_machine.proofs.Find.{test_same, test_other, or_else, connection_of-append}
@@ -309,10 +309,6 @@ owns_net net (Some owned) e = ap (λ (x : List ℕ). Some x) (bytes_same owned n
 
 net_owned : (net : List ℕ) (client : Owned) → client ≡ Some net → owns net client ≡ true
 net_owned net client e = ap (owns net) e ∙ bytes_refl net
-
-pub and_parts : (a b : Bool) → (a && b) ≡ true → (a ≡ true) × (b ≡ true)
-and_parts true b e = (refl, e)
-and_parts false b e = absurd (true≢false (sym e))
 
 pub and_both : (a b : Bool) → a ≡ true → b ≡ true → (a && b) ≡ true
 and_both a b x y = ap (λ c. c && b) x ∙ y

@@ -2,8 +2,8 @@
 use Rattle.std.proofs.Common.{◌≡◌, ◌≢◌, ℕ, ◌+◌, ◌<◌, ◌≤◌, ◌⊎◌, List, [], ◌∷◌, ◌++◌, length, map, get_or, Bool}
 use Rattle.std.proofs.Common.{true, false, cond, refl, sym, ap, ◌∙◌, subst, inl, inr, arith}
 use Rattle.std.specs.Prelude.{Option, Some, None, filter, drop, take, set, slice_get, ◌&&◌, ◌==◌, nat_lt, nat_le, if◌then◌else◌}
-use Rattle.std.proofs.lemmas.Bool.{cases_Bool, cases_eq, cases_lt, true≢false, eqb-true, lt-ltb, le-ltb, le-leb, lt-leb, cond-true, cond-false}
-use Rattle.std.proofs.lemmas.List.{length-map, map-append, length-append, length-drop, take_more}
+use Rattle.std.proofs.lemmas.Bool.{cases_Bool, cases_eq, cases_lt, true≢false, and_parts, eqb-true, lt-ltb, le-ltb, le-leb, lt-leb, cond-true, cond-false}
+use Rattle.std.proofs.lemmas.List.{append-nil, length-map, map-append, length-append, length-drop, take_more}
 use Rattle.spec_plant.specs.Rights.{rights_of}
 use Rattle.spec_formats.specs.Commands.{DEVICE_NOTIFICATION}
 use Rattle.spec_formats.specs.Header.{AmsHeader}
@@ -28,6 +28,7 @@ use Rattle.ams_relay.proofs.OwnLemmas.{peer_at, peers_after}
 use Rattle.ams_relay.proofs.ListLemmas.{Among, all-pass, filter-yes, filter-no, filter-all, filter-append}
 use Rattle.ams_relay.proofs.ListLemmas.{filter-map, map-drop, filtered-among, length-filter, filter-without}
 use Rattle.ams_relay.proofs.ListLemmas.{filter-without-other, without-all, without-among}
+use Rattle.ams_relay.proofs.HoldLemmas.{named_without}
 use Rattle.ams_relay.proofs.OwnerLemmas.{some_same}
 use Rattle.ams_relay.proofs.RequestLemmas.{hearing, is_heard_in, is_asked_in, heard_found}
 
@@ -108,10 +109,6 @@ module _ (s : RelayState) (swept : IsSwept s) (c d : ℕ) (k : RelayConnection) 
       ∙ ap (λ xs. xs ++ filter (is_asked_by c) (filter (is_asked_in H) (new ∷ []))) before_mine
       ∙ ap (λ xs. kept ++ xs) last_mine
 
-  append_nil : (rs : List Request) → rs ++ [] ≡ rs
-  append_nil [] = refl
-  append_nil (r ∷ rs) = ap (λ xs. r ∷ xs) (append_nil rs)
-
   pub other_after : (m : ℕ) → m ≢ c
       → filter (is_asked_by m) (requests_heard s.connections after) ≡ filter (is_asked_by m) (requests_heard s.connections s.world.requests)
   other_after m ne =
@@ -119,7 +116,7 @@ module _ (s : RelayState) (swept : IsSwept s) (c d : ℕ) (k : RelayConnection) 
       ∙ ap (filter (is_asked_by m)) (last_heard before before_heard)
       ∙ filter-append (is_asked_by m) before (filter (is_asked_in H) (new ∷ []))
       ∙ ap (λ xs. filter (is_asked_by m) before ++ xs) (last_other m ne)
-      ∙ append_nil (filter (is_asked_by m) before)
+      ∙ append-nil (filter (is_asked_by m) before)
       ∙ before_other m ne
       ∙ ap (filter (is_asked_by m)) (sym swept)
 
@@ -166,11 +163,7 @@ module _ (s : RelayState) (swept : IsSwept s) (c d : ℕ) (k : RelayConnection) 
       asked_heard : (q : Request) → Among q own → is_asked_in H q ≡ true
       asked_heard q among =
           let there = filtered-among (is_asked_by c) q s.world.requests among in
-          second (H q.asker) (H q.asked) (all-pass (is_heard_in H) s.world.requests swept q there.0)
-        where
-          second : (a b : Bool) → (a && b) ≡ true → b ≡ true
-          second true b e = e
-          second false b e = absurd (true≢false (sym e))
+          (and_parts (H q.asker) (H q.asked) (all-pass (is_heard_in H) s.world.requests swept q there.0)).1
 
       among_drop : (q : Request) (xs : List Request) → Among q (drop 1 xs) → Among q xs
       among_drop q [] among = absurd among
@@ -187,14 +180,6 @@ module _ (s : RelayState) (swept : IsSwept s) (c d : ℕ) (k : RelayConnection) 
   named_append [] r named n = (n, tt)
   named_append (q ∷ qs) r named n = (named.0, named_append qs r named.1 n)
 
-  named_without : (T : Request → Bool) (rs : List Request) → AreNamed s.connections rs → AreNamed s.connections (without_first T rs)
-  unfolding without_first
-  named_without T [] named = tt
-  named_without T (q ∷ rs) named = elim (cases_Bool (T q)) [
-    | inl t ↦ rw t named.1
-    | inr t ↦ rw t (named.0, named_without T rs named.1)
-  ]
-
   named_after : IsOpenedAt d s → AreNamed s.connections s.world.requests → AreNamed s.connections after
   named_after opened named = subst (AreNamed s.connections) (sym after_is) (named_append before new named_before (record {
     asker = λ none. (let no : ◌≡◌ {A = Option RelayConnection} None (Some k) = sym none ∙ heard.found in cc);
@@ -203,7 +188,7 @@ module _ (s : RelayState) (swept : IsSwept s) (c d : ℕ) (k : RelayConnection) 
     where
       named_before : AreNamed s.connections before
       named_before = elim (cases_Bool (nat_lt (length own) MAX_REQUESTS))
-          [ inl t ↦ rw t named | inr t ↦ rw t (named_without (is_asked_by c) s.world.requests named) ]
+          [ inl t ↦ rw t named | inr t ↦ rw t (named_without s.connections (is_asked_by c) s.world.requests named) ]
 
 -- those that are heard, as the code keeps them
 pub heard_kept : (es : Outlets) (b : List ℕ) (s : RelayState) (n : ℕ) (asked : List Asked) → Carries es b s.connections
@@ -252,12 +237,8 @@ kept_more P xs i a ys zs within at before more =
     let longer : take (i + 1) xs ≡ take i xs ++ a ∷ [] =
     take_more xs i a within ∙ ap (λ (x : Asked). take i xs ++ x ∷ []) (sym at) in
     let last : (if P a then ys ++ a ∷ [] else ys) ≡ ys ++ filter P (a ∷ []) =
-    elim (cases_Bool (P a)) [ inl t ↦ rw t refl | inr t ↦ rw t (sym (append_nothing ys)) ] in
+    elim (cases_Bool (P a)) [ inl t ↦ rw t refl | inr t ↦ rw t (sym (append-nil ys)) ] in
     more ∙ last ∙ ap (λ zs. zs ++ filter P (a ∷ [])) before ∙ sym (filter-append P (take i xs) (a ∷ [])) ∙ ap (filter P) (sym longer)
-  where
-    append_nothing : (ys : List Asked) → ys ++ [] ≡ ys
-    append_nothing [] = refl
-    append_nothing (y ∷ ys) = ap (λ zs. y ∷ zs) (append_nothing ys)
 
 -- what was left of the queue: all where there was room, else what with_room leaves of those that are heard
 abbrev pub IsLeft : Outlets → List Asked → List Asked → Type 0

@@ -1,14 +1,15 @@
 -- The oldest request that a response answers, in the queue of its asker and among all of the machine.
 use Rattle.std.proofs.Common.{◌≡◌, ◌≢◌, ℕ, zero, suc, ◌<◌, ◌≤◌, List, [], ◌∷◌, length, Bool, true, refl, sym, ap, ◌∙◌, subst, inl, inr, arith}
-use Rattle.std.specs.Prelude.{Option, Some, None, filter, find, remove, set, slice_get, position, ◌==◌, bytes_eq}
-use Rattle.std.proofs.lemmas.Bool.{cases_Bool, cases_eq, eqb-true}
+use Rattle.std.specs.Prelude.{Option, Some, None, filter, find, remove, set, slice_get, position}
+use Rattle.std.proofs.lemmas.Bool.{cases_eq, and_parts}
 use Rattle.std.proofs.lemmas.List.Quantifiers.{position-Some}
-use Rattle.spec_formats.specs.Header.{AmsHeader, is_same_address}
+use Rattle.spec_formats.specs.Header.{AmsHeader}
 use Rattle.spec_machine.specs.Connection.{connection_of}
 use Rattle.spec_machine.proofs.Find.{test_same, test_other}
 use Rattle.spec_relay.specs.RelayState.{Request, RelayConnection, RelayState, is_heard_among}
 use Rattle.spec_relay.specs.Requests.{requests_heard, is_answered_by, request_answered, without_first, is_asked_by}
 use Rattle.spec_relay.specs.Routing.{with_requests}
+use Rattle.spec_relay.proofs.AnswerLemmas.{answered-is}
 use Rattle.ams_relay.specs.declared.asked.Asked.{Asked}
 use Rattle.ams_relay.specs.declared.peer.Peer.{Peer}
 use Rattle.ams_relay.specs.declared.router.Router.{Router}
@@ -17,14 +18,15 @@ use Rattle.ams_relay.specs.Counts.{counts_in}
 use Rattle.ams_relay.specs.Asking.{request_of, requests_of}
 use Rattle.connections.specs.Carries.{Carries}
 use Rattle.connections.specs.Entries.{IsEntry}
-use Rattle.ams_relay.specs.Holds.{IsOwner, AreOwn, HoldsAsked, AreNamed, HoldsOwners, Holds, owner_in}
+use Rattle.ams_relay.specs.Holds.{IsOwner, AreOwn, HoldsAsked, HoldsOwners, Holds, owner_in}
 use Rattle.ams_relay.specs.Peers.{peers_in}
 use Rattle.ams_relay.specs.Taking.{IsHeardAt, IsSwept, SpendsOne}
 use Rattle.ams_relay.proofs.OwnLemmas.{peer_kept, peer_at, peers_after}
 use Rattle.ams_relay.proofs.ListLemmas.{Among, all-pass, among-filtered, filtered-among, filter-all}
 use Rattle.ams_relay.proofs.ListLemmas.{filter-without, filter-without-other, find-found, find-filter}
 use Rattle.ams_relay.proofs.ListLemmas.{find-none, find-position, find-nowhere, without-among}
-use Rattle.ams_relay.proofs.OwnerLemmas.{and_parts, bytes_same, some_same}
+use Rattle.ams_relay.proofs.HoldLemmas.{named_without}
+use Rattle.ams_relay.proofs.OwnerLemmas.{some_same}
 use Rattle.ams_relay.proofs.RequestLemmas.{hearing, is_heard_in, is_asked_in, heard_found, heard_there, heard_parts}
 
 -- the facts of a response's request
@@ -34,12 +36,8 @@ record Answers (c : ℕ) (h : AmsHeader) (r : Request) : Type 0 where
 
 answers_is : (c : ℕ) (h : AmsHeader) (r : Request) → is_answered_by c h r ≡ true → Answers c h r
 answers_is c h r e =
-    let both = and_parts _ _ e in
-    let fields = and_parts _ _ both.0 in
-    let first = and_parts (r.asked == c) (r.command == h.command) fields.0 in
-    let addresses = and_parts (is_same_address r.source h.target) (is_same_address r.target h.source) both.1 in
-    let source = and_parts (bytes_eq r.source.net h.target.net) (r.source.port == h.target.port) addresses.0 in
-    record { asked = eqb-true r.asked c first.0; net = bytes_same r.source.net h.target.net source.0 }
+    let is = answered-is c h r e in
+    record { asked = sym (ap (λ (q : Request). q.asked) is); net = sym (ap (λ (q : Request). q.source.net) is) }
 
 -- where the oldest request stands that a response answers
 abbrev pub position_in : AmsHeader → ℕ → List Asked → Option ℕ
@@ -143,14 +141,6 @@ module _ (r : Router) (b : List ℕ) (s : RelayState) (h : Holds r b s) (swept :
       few = held.few;
     }
 
-    named_without : (rs : List Request) → AreNamed s.connections rs → AreNamed s.connections (without_first test rs)
-    unfolding without_first
-    named_without [] named = tt
-    named_without (q ∷ rs) named = elim (cases_Bool (test q)) [
-      | inl t ↦ rw t named.1
-      | inr t ↦ rw t (named.0, named_without rs named.1)
-    ]
-
     -- the owner is heard
     owner : IsOwner head.target.net a s.connections
     owner = h.known.owners.owned head.target.net a owned
@@ -208,7 +198,7 @@ module _ (r : Router) (b : List ℕ) (s : RelayState) (h : Holds r b s) (swept :
                     (subst (AreOwn owner.connection s.connections) (sym asked) (own_removed owner.connection s.connections p.asked.items at held.own)) fewer)))
                 | inr ne ↦ spent_other x.asked.items m l ne (h.known.requests m x l (sym (after.sets.others m ne) ∙ is) conn heard_l)
               ];
-              named = named_without s.world.requests h.known.named;
+              named = named_without s.connections test s.world.requests h.known.named;
               counts = ap counts_in counts ∙ h.known.counts;
               routed = h.known.routed;
             };
