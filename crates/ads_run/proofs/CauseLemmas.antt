@@ -4,7 +4,6 @@ use Rattle.std.specs.Prelude.{◌≤◌, Bool}
 use Rattle.signals.specs.Wave.{Wave}
 use Rattle.ads_outside.specs.declared.end.End.{End}
 use Rattle.ads_outside.specs.declared.end.End.TheVariants as end
-use Rattle.ads_outside.specs.declared.listening.Listening.{Listening}
 use Rattle.ads_outside.specs.declared.moves.Move.{Move}
 use Rattle.ads_outside.specs.declared.named_file.NamedFile.{NamedFile}
 use Rattle.ads_outside.specs.LinkState.{LinkState}
@@ -13,7 +12,6 @@ use Rattle.ads_outside.specs.Rose.{Rose, raised}
 use Rattle.ads_outside.specs.SinkState.{SinkState}
 use Rattle.ads_outside.specs.WireState.{WireHistory, listened}
 use Rattle.spec_plant.specs.Description.{Description}
-use Rattle.spec_rules.specs.TextVerdict.{TextVerdict, Described, Breaks, NoDocument, text_verdict}
 use Rattle.spec_local_room.specs.Laws.{is_setting}
 use Rattle.spec_store.specs.Slots.{Standing}
 use Rattle.serve_loop.specs.Leads.{events_in}
@@ -46,13 +44,12 @@ use Rattle.run_tasks.specs.RecordAsked.{recording_to, local_recording}
 use Rattle.ads_run.proofs.RecordCauses.{CauseOfLocalRecording}
 use Rattle.client_commands.specs.CallUses.{KeeperUse}
 use Rattle.ads_run.specs.Uses.{Uses}
-use Rattle.run_tasks.specs.Verdict.{verdict_of_recorded, verdict_of_recorded_text, verdict_of_record, Verdict, ended, prints, over_store}
-use Rattle.run_tasks.specs.Verdict.{verdict_of_file, verdict_of_served, verdict_of_service, verdict_of_task, verdict_of_called, verdict_of_local}
-use Rattle.run_tasks.specs.Verdict.{verdict_of_ask}
+use Rattle.run_tasks.specs.Verdict.{Verdict, Serves, CallsLocally, RecordsLocally, ended, prints, over_store}
+use Rattle.run_tasks.specs.Verdict.{verdict_of_file, verdict_of_service, verdict_of_task, verdict_of_ask, verdict_of_record}
 use Rattle.ads_run.proofs.RecordCauseLemmas.{recording_facts, same_faults}
 use Rattle.ads_run.proofs.RecordLocalEnds.{local_recording_facts}
 use Rattle.ads_run.proofs.CallCauseLemmas.{CallFacts, ending_told, told_facts, wanting_facts, unwritten_facts, call_facts, local_facts}
-use Rattle.run_tasks.proofs.VerdictLemmas.{Holds, of_both, of_file, of_file_task}
+use Rattle.run_tasks.proofs.VerdictLemmas.{Holds, of_both, of_description_file, of_file_task}
 
 -- what the end of a run of a task says
 pub record Facts {O : Type 0} (asked : Option Task) (s : Status) (u : Uses O) : Type 0 where
@@ -226,42 +223,25 @@ file_facts t s u =
       long = λ h. facts (line_alone status.TooLong) tt (λ e. (cc)) (λ e. (cc)) h.0;
     }
 
--- of a service whose description is judged so
-judged_facts : {O : Type 0} (start : Listening) (machine : Description → ServedMachine) (limit : ℕ) (s : Status) (u : Uses O) (v : TextVerdict)
-    → RunsSo (verdict_of_served start machine limit v) s u → CallFacts (ServiceCause limit u.wire u.wire_new) s u.out u.out_new
-judged_facts start machine limit s u (Described x) h =
-    service_facts (record { start = start; machine = machine x; limit = limit }) s u.out u.out_new u.wire u.wire_new h
-judged_facts start machine limit s u (Breaks n item) h =
-    ending_told (ServiceCause limit u.wire u.wire_new) (line_alone (status.BadDescription n item)) s u.out u.out u.out_new tt tt tt (λ e. (cc)) (λ e. (cc))
-    (same_faults u.out) h.0
-judged_facts start machine limit s u NoDocument h =
-    ending_told (ServiceCause limit u.wire u.wire_new) (line_alone (status.BadDescription 0 0)) s u.out u.out u.out_new tt tt tt (λ e. (cc)) (λ e. (cc))
-    (same_faults u.out) h.0
-
 -- of a service of a file's description
 served_facts : {O : Type 0} (signals : ℕ) (machine : Description → ServedMachine) (d l : List ℕ) (limit : ℕ) (first : List NamedFile) (s : Status) (u : Uses O)
     → RunsSo (verdict_of_file (verdict_of_service signals machine d l limit) (bytes_of first d)) s u
     → CallFacts (ServiceCause limit u.wire u.wire_new) s u.out u.out_new
 served_facts signals machine d l limit first s u h =
     let C : Status → Type 0 = ServiceCause limit u.wire u.wire_new in
-    of_file (λ v. RunsSo v s u → CallFacts C s u.out u.out_new) (verdict_of_service signals machine d l limit) (bytes_of first d)
+    let service : List ℕ → Description → Service =
+    λ bytes x. record { start = record { listen = l; name = d; first = bytes }; machine = machine x; limit = limit } in
+    of_description_file (λ v. RunsSo v s u → CallFacts C s u.out u.out_new) signals (λ bytes x. Serves (service bytes x)) (bytes_of first d)
     (λ k. ending_told C (line_alone status.ReadFault) s u.out u.out u.out_new tt tt tt (λ e. (cc)) (λ e. (cc)) (same_faults u.out) k.0)
     (λ k. ending_told C (line_alone status.TooLong) s u.out u.out u.out_new tt tt tt (λ e. (cc)) (λ e. (cc)) (same_faults u.out) k.0)
-    (λ bytes k. judged_facts (record { listen = l; name = d; first = bytes }) machine limit s u (text_verdict signals bytes) k) h
+    (λ n item k. ending_told C (line_alone (status.BadDescription n item)) s u.out u.out u.out_new tt tt tt (λ e. (cc)) (λ e. (cc)) (same_faults u.out) k.0)
+    (λ bytes x k. service_facts (service bytes x) s u.out u.out_new u.wire u.wire_new k) h
 
 -- of a client's call in the same process, which may set a value
 ended_facts : (sets : Bool) (st s : Status) (out out_new : SinkState) → IsLocalEnd sets st → (st ≡ status.WriteFault → ⊥) → (st ≡ status.Usage → ⊥)
     → PrintsEnding (line_alone st) s out out_new → CallFacts (IsLocalEnd sets) s out out_new
 ended_facts sets st s out out_new cause no_fault no_usage printed =
     told_facts (IsLocalEnd sets) st s out out out_new cause tt tt no_fault no_usage (search rules) printed
-
-described_facts : {O : Type 0} (waves : List Wave) (what : ClientTask) (client : ClientWords) (s : Status) (u : Uses O) (v : TextVerdict)
-    → RunsSo (verdict_of_called waves what client v) s u → CallFacts (IsLocalEnd (is_setting (call_asked what))) s u.out u.out_new
-described_facts waves what client s u (Described d) h = local_facts (local_calling d waves what client) s u.out u.out_new h
-described_facts waves what client s u (Breaks n item) h =
-    ended_facts (is_setting (call_asked what)) (status.BadDescription n item) s u.out u.out_new tt (λ e. (cc)) (λ e. (cc)) h.0
-described_facts waves what client s u NoDocument h =
-    ended_facts (is_setting (call_asked what)) (status.BadDescription 0 0) s u.out u.out_new tt (λ e. (cc)) (λ e. (cc)) h.0
 
 -- of a client's command
 asked_facts : {O : Type 0} (waves : List Wave) (what : ClientTask) (client : ClientWords) (p : PeerWords) (first : List NamedFile) (s : Status) (u : Uses O)
@@ -270,10 +250,12 @@ asked_facts waves what client (peer.To to net) first s u h =
     call_facts (calling (own_address client) (asked_address net client) (call_asked what) to) s u.out u.out_new u.link h
 asked_facts waves what client (peer.Local name) first s u h =
     let sets = is_setting (call_asked what) in
-    of_file (λ v. RunsSo v s u → CallFacts (IsLocalEnd sets) s u.out u.out_new) (verdict_of_local waves what client) (bytes_of first name)
+    of_description_file (λ v. RunsSo v s u → CallFacts (IsLocalEnd sets) s u.out u.out_new) (length waves)
+    (λ bytes d. CallsLocally (local_calling d waves what client)) (bytes_of first name)
     (λ k. ended_facts sets status.ReadFault s u.out u.out_new tt (λ e. (cc)) (λ e. (cc)) k.0)
     (λ k. ended_facts sets status.TooLong s u.out u.out_new tt (λ e. (cc)) (λ e. (cc)) k.0)
-    (λ bytes k. described_facts waves what client s u (text_verdict (length waves) bytes) k) h
+    (λ n item k. ended_facts sets (status.BadDescription n item) s u.out u.out_new tt (λ e. (cc)) (λ e. (cc)) k.0)
+    (λ bytes d k. local_facts (local_calling d waves what client) s u.out u.out_new k) h
 
 -- of a recording
 local_recording_told : (st s : Status) (out out_new : SinkState) (keeper : KeeperUse) → CauseOfLocalRecording st keeper.old keeper.new
@@ -282,23 +264,16 @@ local_recording_told : (st s : Status) (out out_new : SinkState) (keeper : Keepe
 local_recording_told st s out out_new keeper cause no_fault no_usage printed =
     told_facts (λ t. CauseOfLocalRecording t keeper.old keeper.new) st s out out out_new cause tt tt no_fault no_usage (search rules) printed
 
-recorded_described_facts : {O : Type 0} (waves : List Wave) (what : RecordTask) (s : Status) (u : Uses O) (v : TextVerdict)
-    → RunsSo (verdict_of_recorded waves what v) s u → CallFacts (λ t. CauseOfLocalRecording t u.keeper.old u.keeper.new) s u.out u.out_new
-recorded_described_facts waves what s u (Described d) h = local_recording_facts (local_recording d waves what) (λ n. refl) s u.out u.out_new u.keeper h
-recorded_described_facts waves what s u (Breaks n item) h =
-    local_recording_told (status.BadDescription n item) s u.out u.out_new u.keeper tt (λ e. (cc)) (λ e. (cc)) h.0
-recorded_described_facts waves what s u NoDocument h =
-    local_recording_told (status.BadDescription 0 0) s u.out u.out_new u.keeper tt (λ e. (cc)) (λ e. (cc)) h.0
-
 record_facts : {O : Type 0} (waves : List Wave) (what : RecordTask) (p : PeerWords) (first : List NamedFile) (s : Status) (u : Uses O)
     → RunsSo (verdict_of_record waves what p first) s u → CallFacts (λ t. CauseOfRecord what p t u.link.old u.link.new u.keeper) s u.out u.out_new
 record_facts waves what (peer.To to net) first s u h = recording_facts (recording_to what net to) s u.out u.out_new u.link u.keeper h
 record_facts waves what (peer.Local name) first s u h =
-    of_file (λ v. RunsSo v s u → CallFacts (λ t. CauseOfLocalRecording t u.keeper.old u.keeper.new) s u.out u.out_new)
-    (verdict_of_recorded_text waves what) (bytes_of first name)
+    of_description_file (λ v. RunsSo v s u → CallFacts (λ t. CauseOfLocalRecording t u.keeper.old u.keeper.new) s u.out u.out_new) (length waves)
+    (λ bytes d. RecordsLocally (local_recording d waves what)) (bytes_of first name)
     (λ k. local_recording_told status.ReadFault s u.out u.out_new u.keeper tt (λ e. (cc)) (λ e. (cc)) k.0)
     (λ k. local_recording_told status.TooLong s u.out u.out_new u.keeper tt (λ e. (cc)) (λ e. (cc)) k.0)
-    (λ bytes k. recorded_described_facts waves what s u (text_verdict (length waves) bytes) k) h
+    (λ n item k. local_recording_told (status.BadDescription n item) s u.out u.out_new u.keeper tt (λ e. (cc)) (λ e. (cc)) k.0)
+    (λ bytes d k. local_recording_facts (local_recording d waves what) (λ n. refl) s u.out u.out_new u.keeper k) h
 
 -- of a play over a store that was to end so
 told_facts_of_keep : {O : Type 0} (d script store : List ℕ) (e : Ending) (s : Status) (u : Uses O) → CauseOfKeeping e.status u.disk.faults u.disk.faults_new

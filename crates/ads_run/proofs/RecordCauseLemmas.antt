@@ -26,6 +26,7 @@ use Rattle.run_tasks.specs.declared.status.Status.TheVariants as status
 use Rattle.client_commands.specs.Calling.{status_of_call, status_of_loop}
 use Rattle.run_tasks.specs.Ending.{line_alone}
 use Rattle.run_tasks.specs.Prints.{PrintsEnding}
+use Rattle.client_commands.specs.Between.{RecordsOver}
 use Rattle.client_commands.specs.Recording.{MOST_ROWS, PrintsRecorded, EndsRecorded, EndsRecording, LeavesLink, BehindOpening}
 use Rattle.ads_run.proofs.RecordCauses.{CauseOfRecording, IsEndOfRecording, IsFull}
 use Rattle.client_commands.specs.CallUses.{LinkUse, KeeperUse}
@@ -110,7 +111,7 @@ failed_at_opening old opened new same rose = subst (λ k. Rose old.faults k.faul
 opened_facts : {O : Type 0} (x : ℕ → Calling) (answer : KeeperOpen) (s : Status) (out out_new : SinkState) (link : LinkUse O) (keeper : KeeperUse)
     (opened : KeeperState) → Counts answer keeper.old.rows → keeper.old.faults ≤ opened.faults
     → (answer ≡ open_.Failed → Rose keeper.old.faults opened.faults)
-    → BehindOpening answer (λ n. EndsRecorded (x n) s out out_new link opened keeper.new) (LeavesLink link × (keeper.new ≡ opened)) s out out_new
+    → BehindOpening answer (λ n. EndsRecorded (RecordsOver link (x n)) s out out_new opened keeper.new) (LeavesLink link × (keeper.new ≡ opened)) s out out_new
     → CallFacts (Cause x link keeper) s out out_new
 opened_facts x (open_.Ready n) s out out_new link keeper opened counts before failed (inl (room, e)) =
     recorded_facts x n e.answer s out e.between out_new link keeper opened counts room before e.called e.later.sink.faults e.prints
@@ -126,7 +127,7 @@ opened_facts x open_.Memory s out out_new link keeper opened counts before faile
 pub recording_facts : {O : Type 0} (x : ℕ → Calling) (s : Status) (out out_new : SinkState) (link : LinkUse O) (keeper : KeeperUse)
     → EndsRecording x s out out_new link keeper
     → CallFacts (λ t. CauseOfRecording x t link.old link.new keeper.old keeper.new) s out out_new
-recording_facts x s out out_new link keeper (inl h) = wanting_facts (Cause x link keeper) s out out_new tt h.1.0
+recording_facts x s out out_new link keeper (inl h) = wanting_facts (Cause x link keeper) s out out_new tt h.1.1.0
 recording_facts x s out out_new link keeper (inr h) =
     opened_facts x h.answer s out out_new link keeper h.opened h.counts h.later h.failed h.ended
 
@@ -170,7 +171,7 @@ own_opened : {O : Type 0} (x : ℕ → Calling) (answer : KeeperOpen) (s : Statu
     (opened : KeeperState) → (Rose out.faults out_new.faults → ⊥) → (Rose link.old.faults link.new.faults → ⊥)
     → (Rose keeper.old.faults keeper.new.faults → ⊥) → Counts answer keeper.old.rows → keeper.old.faults ≤ opened.faults
     → (answer ≡ open_.Failed → Rose keeper.old.faults opened.faults)
-    → BehindOpening answer (λ n. EndsRecorded (x n) s out out_new link opened keeper.new) (LeavesLink link × (keeper.new ≡ opened)) s out out_new
+    → BehindOpening answer (λ n. EndsRecorded (RecordsOver link (x n)) s out out_new opened keeper.new) (LeavesLink link × (keeper.new ≡ opened)) s out out_new
     → OwnEnd (IsEndOfRecording x s link.new keeper.old.rows) keeper.old.rows s
 own_opened x (open_.Ready n) s out out_new link keeper opened no_fault no_loss kept counts before failed (inl (room, e)) =
     own_or_memory _ keeper.old.rows s
@@ -185,6 +186,6 @@ pub own_recording : {O : Type 0} (x : ℕ → Calling) (s : Status) (out out_new
     → (Rose out.faults out_new.faults → ⊥) → (Rose link.old.faults link.new.faults → ⊥) → (Rose keeper.old.faults keeper.new.faults → ⊥)
     → EndsRecording x s out out_new link keeper
     → IsEndOfRecording x s link.new keeper.old.rows ⊎ ((s ≡ status.StoreLimit) × IsFull keeper.old.rows) ⊎ (s ≡ status.Memory)
-own_recording x s out out_new link keeper no_fault no_loss kept (inl h) = inr (inr h.1.0)
+own_recording x s out out_new link keeper no_fault no_loss kept (inl h) = inr (inr h.1.1.0)
 own_recording x s out out_new link keeper no_fault no_loss kept (inr h) =
     own_opened x h.answer s out out_new link keeper h.opened no_fault no_loss kept h.counts h.later h.failed h.ended

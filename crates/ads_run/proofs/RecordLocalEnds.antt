@@ -24,7 +24,7 @@ use Rattle.run_tasks.specs.declared.status.Status.TheVariants as status
 use Rattle.run_tasks.specs.Asking.{LocalCalling}
 use Rattle.client_commands.specs.Calling.{status_of_call, status_of_loop, local_conversation}
 use Rattle.client_commands.specs.Recording.{MOST_ROWS, PrintsRecorded, BehindOpening}
-use Rattle.client_commands.specs.Recording.{AfterLocalRecord, EndsLocalRecorded, EndsLocalRecording}
+use Rattle.client_commands.specs.Recording.{AfterLocalRecord, EndsRecorded, EndsLocalRecording}
 use Rattle.ads_run.proofs.RecordCauses.{CauseOfLocalRecording, IsEndOfLocalRecording, IsFull}
 use Rattle.client_commands.specs.CallUses.{KeeperUse}
 use Rattle.ads_run.proofs.CallCauseLemmas.{CallFacts, told_facts, wanting_facts, unwritten_facts, no_writing, no_usage, told_own, not_unwritten}
@@ -50,11 +50,11 @@ record LocalEnded (x : LocalCalling) (e : LoopEnd) : Type 0 where
 
 local_ended : (x : LocalCalling) (e : call_end_type.CallEnd) (out out_new : Outlets) → AfterLocalRecord (Ok (recorded.Loop (end.Call e))) x out out_new
     → LocalEnded x (CallEnded (end_meant e))
-local_ended x call_end.Done out out_new h = record { is = h.all.end_is; answered = h.all.answered }
-local_ended x (call_end.Refused code) out out_new h = record { is = h.end_is; answered = h.answered }
-local_ended x (call_end.BadPeer peer) out out_new h = record { is = h.end_is; answered = h.answered }
-local_ended x call_end.BadValue out out_new h = record { is = h.end_is; answered = h.answered }
-local_ended x (call_end.TimedOut sent now) out out_new h = record { is = h.end_is; answered = h.answered }
+local_ended x call_end.Done out out_new h = record { is = h.all.talks.end_is; answered = h.all.talks.answered }
+local_ended x (call_end.Refused code) out out_new h = record { is = h.talks.end_is; answered = h.talks.answered }
+local_ended x (call_end.BadPeer peer) out out_new h = record { is = h.talks.end_is; answered = h.talks.answered }
+local_ended x call_end.BadValue out out_new h = record { is = h.talks.end_is; answered = h.talks.answered }
+local_ended x (call_end.TimedOut sent now) out out_new h = record { is = h.talks.end_is; answered = h.talks.answered }
 
 recorded_facts : (x : LocalCalling) → is_setting x.call ≡ false → (answer : Result RecordEnd NoMemory) (s : Status) (out between out_new : SinkState)
     (keeper : KeeperUse) (opened : KeeperState) → keeper.old.faults ≤ opened.faults
@@ -77,7 +77,7 @@ recorded_facts x none (Err e) s out between out_new keeper opened before called 
 opened_facts : (x : ℕ → LocalCalling) → ((n : ℕ) → is_setting (x n).call ≡ false) → (answer : KeeperOpen) (s : Status) (out out_new : SinkState)
     (keeper : KeeperUse) (opened : KeeperState) → Counts answer keeper.old.rows → keeper.old.faults ≤ opened.faults
     → (answer ≡ open_.Failed → Rose keeper.old.faults opened.faults)
-    → BehindOpening answer (λ n. EndsLocalRecorded (x n) s out out_new opened keeper.new) (Unit {0} × (keeper.new ≡ opened)) s out out_new
+    → BehindOpening answer (λ n. EndsRecorded (λ a. AfterLocalRecord a (x n)) s out out_new opened keeper.new) (Unit {0} × (keeper.new ≡ opened)) s out out_new
     → CallFacts (Cause keeper) s out out_new
 opened_facts x none (open_.Ready n) s out out_new keeper opened counts before failed (inl (room, e)) =
     recorded_facts (x n) (none n) e.answer s out e.between out_new keeper opened before e.called e.later.sink.faults e.prints
@@ -92,7 +92,7 @@ opened_facts x none open_.Memory s out out_new keeper opened counts before faile
 pub local_recording_facts : (x : ℕ → LocalCalling) → ((n : ℕ) → is_setting (x n).call ≡ false) → (s : Status) (out out_new : SinkState)
     (keeper : KeeperUse) → EndsLocalRecording x s out out_new keeper
     → CallFacts (λ t. CauseOfLocalRecording t keeper.old keeper.new) s out out_new
-local_recording_facts x none s out out_new keeper (inl h) = wanting_facts (Cause keeper) s out out_new tt h.0
+local_recording_facts x none s out out_new keeper (inl h) = wanting_facts (Cause keeper) s out out_new tt h.1.1.0
 local_recording_facts x none s out out_new keeper (inr h) = opened_facts x none h.answer s out out_new keeper h.opened h.counts h.later h.failed h.ended
 
 -- where nothing failed
@@ -119,7 +119,7 @@ own_recorded x n (Ok (recorded.Loop (end.Call e))) s out between out_new keeper 
     (local_ended (x n) e (outlets out opened) (outlets between keeper.new) called) is) later no_fault printed
 own_recorded x n (Ok (recorded.Loop end.Budget)) s out between out_new keeper opened no_fault kept counts room before called later printed =
     told_own (IsEndOfLocalRecording x s keeper.old.rows) status.Budget s out between out_new
-    (λ is. local_end x n Budget s keeper.old.rows counts room (record { is = called.end_is; answered = called.answered }) is) later no_fault printed
+    (λ is. local_end x n Budget s keeper.old.rows counts room (record { is = called.talks.end_is; answered = called.talks.answered }) is) later no_fault printed
 own_recorded x n (Ok (recorded.Loop end.LinkFault)) s out between out_new keeper opened no_fault kept counts room before called later printed =
     absurd called
 own_recorded x n (Ok (recorded.Loop end.WriteFault)) s out between out_new keeper opened no_fault kept counts room before called later printed =
@@ -131,7 +131,7 @@ own_recorded x n (Err e) s out between out_new keeper opened no_fault kept count
 own_opened : (x : ℕ → LocalCalling) (answer : KeeperOpen) (s : Status) (out out_new : SinkState) (keeper : KeeperUse) (opened : KeeperState)
     → (Rose out.faults out_new.faults → ⊥) → (Rose keeper.old.faults keeper.new.faults → ⊥) → Counts answer keeper.old.rows
     → keeper.old.faults ≤ opened.faults → (answer ≡ open_.Failed → Rose keeper.old.faults opened.faults)
-    → BehindOpening answer (λ n. EndsLocalRecorded (x n) s out out_new opened keeper.new) (Unit {0} × (keeper.new ≡ opened)) s out out_new
+    → BehindOpening answer (λ n. EndsRecorded (λ a. AfterLocalRecord a (x n)) s out out_new opened keeper.new) (Unit {0} × (keeper.new ≡ opened)) s out out_new
     → OwnEnd (IsEndOfLocalRecording x s keeper.old.rows) keeper.old.rows s
 own_opened x (open_.Ready n) s out out_new keeper opened no_fault kept counts before failed (inl (room, e)) =
     own_or_memory _ keeper.old.rows s
@@ -145,6 +145,6 @@ own_opened x open_.Memory s out out_new keeper opened no_fault kept counts befor
 pub own_local_recording : (x : ℕ → LocalCalling) (s : Status) (out out_new : SinkState) (keeper : KeeperUse) → (Rose out.faults out_new.faults → ⊥)
     → (Rose keeper.old.faults keeper.new.faults → ⊥) → EndsLocalRecording x s out out_new keeper
     → IsEndOfLocalRecording x s keeper.old.rows ⊎ ((s ≡ status.StoreLimit) × IsFull keeper.old.rows) ⊎ (s ≡ status.Memory)
-own_local_recording x s out out_new keeper no_fault kept (inl h) = inr (inr h.0)
+own_local_recording x s out out_new keeper no_fault kept (inl h) = inr (inr h.1.1.0)
 own_local_recording x s out out_new keeper no_fault kept (inr h) =
     own_opened x h.answer s out out_new keeper h.opened no_fault kept h.counts h.later h.failed h.ended

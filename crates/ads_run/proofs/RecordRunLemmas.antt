@@ -1,7 +1,6 @@
 -- The end of a recording is that of a run.
 use Rattle.std.proofs.Common.{ℕ, List, [], Option, Some, None, inl, refl}
 use Rattle.ads_outside.specs.declared.named_file.NamedFile.{NamedFile}
-use Rattle.ads_outside.specs.Named.{bytes_of}
 use Rattle.ads_outside.specs.SinkState.{SinkState}
 use Rattle.ads_outside.specs.WireState.{WireHistory}
 use Rattle.signals.specs.Wave.{Wave}
@@ -17,7 +16,7 @@ use Rattle.client_commands.specs.Recording.{EndsRecording, EndsLocalRecording}
 use Rattle.client_commands.specs.RecordedFrom.{RecordsFrom}
 use Rattle.client_commands.specs.CallUses.{LinkUse, KeeperUse}
 use Rattle.ads_run.specs.Uses.{DiskUse, Uses, uses}
-use Rattle.run_tasks.specs.Verdict.{Records, RecordsLocally, verdict_of_file, verdict_of_recorded_text, verdict_of_record}
+use Rattle.run_tasks.specs.Verdict.{Records, RecordsLocally, verdict_of_record}
 use Rattle.ads_run.proofs.RunLemmas.{file_as_run}
 
 -- a run that recorded over the link
@@ -35,5 +34,5 @@ records_as_run held waves what (peer.To to net) failed s out out_new wire link d
     recorded_over_link held (recording_to what net to) failed s (uses out out_new wire wire link disk keeper) h
 records_as_run held waves what (peer.Local name) failed s out out_new wire link disk keeper h =
     file_as_run RecordsLocally (λ x. EndsLocalRecording x s out out_new keeper) (Unit {0}) held
-    (λ files. verdict_of_file (verdict_of_recorded_text waves what) (bytes_of files name)) failed s (uses out out_new wire wire link disk keeper)
+    (λ files. verdict_of_record waves what (peer.Local name) files) failed s (uses out out_new wire wire link disk keeper)
     (λ t. refl) (λ x k. k) h

@@ -4,7 +4,6 @@ use Rattle.signals.specs.Wave.{Wave}
 use Rattle.ads_outside.specs.declared.link_move.LinkMove.{LinkMove}
 use Rattle.ads_outside.specs.declared.named_file.NamedFile.{NamedFile}
 use Rattle.ads_outside.specs.LinkState.{LinkState}
-use Rattle.ads_outside.specs.Named.{bytes_of}
 use Rattle.ads_outside.specs.SinkState.{SinkState}
 use Rattle.ads_outside.specs.WireState.{WireHistory}
 use Rattle.client_loop.specs.Called.{Calling, calling}
@@ -27,7 +26,7 @@ use Rattle.run_tasks.specs.Tasks.{asked_task}
 use Rattle.client_commands.specs.CallUses.{LinkUse, KeeperUse, link_used, used}
 use Rattle.ads_run.specs.Uses.{DiskUse, Uses, uses}
 use Rattle.run_tasks.specs.Verdict.{Verdict, Ends, Serves, Calls, CallsLocally, Keeps, Records, RecordsLocally}
-use Rattle.run_tasks.specs.Verdict.{verdict_of, verdict_of_task, verdict_of_ask, verdict_of_file, verdict_of_local, ended}
+use Rattle.run_tasks.specs.Verdict.{verdict_of, verdict_of_task, verdict_of_ask, ended}
 use Rattle.plant_commands.proofs.KeepLemmas.{IsUntouched, never_kept}
 use Rattle.client_commands.proofs.RecordLemmas.{leaves_link}
 use Rattle.run_tasks.proofs.ReadingLemmas.{map_files, map_file, over_first}
@@ -91,7 +90,7 @@ asks_as_run held waves what client (peer.To to net) failed s out out_new wire li
     call_as_run held (calling (own_address client) (asked_address net client) (call_asked what) to) failed s (uses out out_new wire wire link disk keeper) h
 asks_as_run held waves what client (peer.Local name) failed s out out_new wire link disk keeper h =
     file_as_run CallsLocally (λ x. EndsLocalCall x s out out_new) (Unit {0}) held
-    (λ files. verdict_of_file (verdict_of_local waves what client) (bytes_of files name)) failed s (uses out out_new wire wire link disk keeper)
+    (λ files. verdict_of_ask waves what client (peer.Local name) files) failed s (uses out out_new wire wire link disk keeper)
     (λ t. refl) (λ x k. k) h
 
 -- how the task ends is how the words end that ask for it
@@ -119,8 +118,8 @@ memory_so (Serves service) s out out_new wire told state disk keeper untouched i
 memory_so (Calls x) s out out_new wire told state disk keeper untouched is line = never_called x s out out_new told state is line
 memory_so (CallsLocally x) s out out_new wire told state disk keeper untouched is line = never_asked x s out out_new is line
 memory_so (Keeps x) s out out_new wire told state disk keeper untouched is line = (never_kept x s out out_new disk untouched.0 is line, refl)
-memory_so (Records x) s out out_new wire told state disk keeper untouched is line = inl (leaves_link told state, (is, line, untouched.1))
-memory_so (RecordsLocally x) s out out_new wire told state disk keeper untouched is line = inl (is, line, untouched.1)
+memory_so (Records x) s out out_new wire told state disk keeper untouched is line = inl (leaves_link told state, untouched.1, (is, line))
+memory_so (RecordsLocally x) s out out_new wire told state disk keeper untouched is line = inl (tt, untouched.1, (is, line))
 
 pub runs_without_memory : {O : Type 0} (held : Option (List NamedFile)) (v : List NamedFile → List NamedFile → Verdict) (failed : Type 0) (s : Status)
     (out out_new : SinkState) (wire : WireHistory) (told : O → List LinkMove → Type 0) (state : LinkState) (disk : DiskUse) (keeper : KeeperUse)

@@ -8,4 +8,3 @@ mod AloneLemmas
 pub mod RecordLemmas
 pub mod RecordedRows
 pub mod RecordLocalLemmas
-pub mod RecordEndLemmas

@@ -4,7 +4,7 @@ use Rattle.std.specs.Prelude.{Option, Result, Ok, Err, is_some}
 use Rattle.ads_base.specs.declared.no_memory.NoMemory.{NoMemory}
 use Rattle.ads_outside.specs.Puts.{Appends, AppendsPart}
 use Rattle.ads_outside.specs.Rose.{Rose}
-use Rattle.ads_outside.specs.SinkState.{SinkState, NeverFalls}
+use Rattle.ads_outside.specs.SinkState.{SinkState}
 use Rattle.spec_machine.specs.Connection.{connection_of}
 use Rattle.spec_client.specs.Conversation.{LinkAnswer, LoopEnd, CallEnded, Budget}
 use Rattle.spec_client.specs.CallLog.{call_log_up_to}
@@ -27,7 +27,8 @@ use Rattle.local_link.specs.Link.{LocalView, IsTold, state_of}
 use Rattle.server_core.specs.Served.{ServedState, served, served_step}
 use Rattle.run_tasks.specs.declared.status.Status.{Status}
 use Rattle.run_tasks.specs.Asking.{LocalCalling, peer_of_local}
-use Rattle.client_commands.specs.Calling.{AfterLocal, EndsLocalCall, PrintsAnswer, LocalTalks, LocalBreaksOff, local_conversation}
+use Rattle.client_commands.specs.Calling.{AfterLocal, EndsCall, EndsLocalCall, LocalTalks, LocalBreaksOff, local_conversation}
+use Rattle.client_commands.specs.CallUses.{used}
 use Rattle.client_commands.proofs.FitLemmas.{FitsCalling}
 
 -- the call over the link
@@ -43,7 +44,7 @@ unfolding connection_of
 is_bounded x fits = record { none = refl; moment = omega arith; from = fits.from; to = fits.to; bounded = fits.bounded }
 
 -- the answers of the link are the machine's
-pub same_local : (x : LocalCalling) → FitsCalling x → (to : List ℕ) (moment : ℕ) (answers : List LinkAnswer)
+same_local : (x : LocalCalling) → FitsCalling x → (to : List ℕ) (moment : ℕ) (answers : List LinkAnswer)
     → IsLogOf served_step (start x) (call_log_up_to x.me (peer_of_local x) x.call to moment answers)
     → is_some (over (call_of_local x to) moment answers).end ≡ true
     → (cutting : Cutting) → IsSameCall (over (call_of_local x to) moment answers) (local_conversation x cutting)
@@ -51,7 +52,7 @@ unfolding served
 same_local x fits to moment answers log ended cutting =
     local_links_are_one read_description cutting (start x) x.me (peer_of_local x) x.call to moment answers (is_bounded x fits) log ended
 
-pub begins_local : (x : LocalCalling) → FitsCalling x → (to : List ℕ) (moment : ℕ) (answers : List LinkAnswer)
+begins_local : (x : LocalCalling) → FitsCalling x → (to : List ℕ) (moment : ℕ) (answers : List LinkAnswer)
     → IsLogOf served_step (start x) (call_log_up_to x.me (peer_of_local x) x.call to moment answers)
     → (cutting : Cutting) → BeginsCall (over (call_of_local x to) moment answers) (local_conversation x cutting)
 unfolding served
@@ -62,19 +63,26 @@ same_end : (a b : LoopEnd) (o : Option LoopEnd) → o ≡ Some a → o ≡ Some 
 same_end a b o first second = cc
 
 -- so it ends by no timeout
-pub answered_so : (x : LocalCalling) → FitsCalling x → (e : LoopEnd) (cutting : Cutting) → (local_conversation x cutting).end ≡ Some e
+answered_so : (x : LocalCalling) → FitsCalling x → (e : LoopEnd) (cutting : Cutting) → (local_conversation x cutting).end ≡ Some e
     → IsAnswered (is_setting x.call) e
 answered_so x fits e cutting is =
     let ends = local_calls_end read_description cutting (start x) x.me (peer_of_local x) x.call (is_bounded x fits) in
     subst (IsAnswered (is_setting x.call)) (same_end ends.end e (local_conversation x cutting).end ends.is is) ends.answered
 
+-- the call that talked over the link is the local one
+pub same_talk : (x : LocalCalling) → FitsCalling x → (to : List ℕ) (e : LoopEnd) (old new : LocalView) (out out_new : SinkState) → IsTold old (start x) []
+    → (h : Talks (call_of_local x to) (Some e) (λ o log. IsTold old o log) (λ o log. IsTold new o log) (state_of new) out out_new)
+    → (cutting : Cutting) → IsSameCall (over (call_of_local x to) h.moment h.answers) (local_conversation x cutting)
+same_talk x fits to e old new out out_new told h =
+    let log = (h.told (start x) [] told).is_log in
+    let up_to = call_logs_begin served_step (start x) x.me (peer_of_local x) x.call to h.moment h.answers log in
+    same_local x fits to h.moment h.answers up_to (ap is_some h.end_is)
+
 pub talks_locally : (x : LocalCalling) → FitsCalling x → (to : List ℕ) (e : LoopEnd) (old new : LocalView) (out out_new : SinkState)
     → IsTold old (start x) []
     → Talks (call_of_local x to) (Some e) (λ o log. IsTold old o log) (λ o log. IsTold new o log) (state_of new) out out_new → LocalTalks x e out out_new
 talks_locally x fits to e old new out out_new told h =
-    let log = (h.told (start x) [] told).is_log in
-    let up_to = call_logs_begin served_step (start x) x.me (peer_of_local x) x.call to h.moment h.answers log in
-    let same = same_local x fits to h.moment h.answers up_to (ap is_some h.end_is) in
+    let same = same_talk x fits to e old new out out_new told h in
     let end_is : (cutting : Cutting) → (local_conversation x cutting).end ≡ Some e = λ cutting. sym (same cutting).end ∙ h.end_is in
     record {
       end_is = end_is;
@@ -94,27 +102,35 @@ take_begun zero xs ys = refl
 take_begun (suc n) [] ys = refl
 take_begun (suc n) (x ∷ xs) ys = ap (λ l. x ∷ l) (take_begun n xs ys)
 
-pub part_of_whole : (old new : Option (List ℕ)) (part whole left : List ℕ) → whole ≡ part ++ left → AppendsPart old new part → AppendsPart old new whole
+part_of_whole : (old new : Option (List ℕ)) (part whole left : List ℕ) → whole ≡ part ++ left → AppendsPart old new part → AppendsPart old new whole
 part_of_whole None new part whole left is puts = tt
 part_of_whole (Some old) new part whole left is puts =
     let n = puts.0 in
     (up_to_end n part, puts.1 ∙ ap (λ l. Some (old ++ l)) (sym (ap (take (up_to_end n part)) is ∙ take_begun n part left)))
 
-breaks_off_locally : (IsStop : List CallStep → Type 0) (x : LocalCalling) → FitsCalling x → (to : List ℕ) (old new : LocalView)
+-- one that broke off begins it
+pub begins_talk : (IsStop : List CallStep → Type 0) (x : LocalCalling) → FitsCalling x → (to : List ℕ) (old new : LocalView) (out out_new : SinkState)
+    → IsTold old (start x) []
+    → (h : BreaksOff IsStop (call_of_local x to) (λ o log. IsTold old o log) (λ o log. IsTold new o log) (state_of new) out out_new)
+    → (cutting : Cutting) → BeginsCall (over (call_of_local x to) h.moment h.answers) (local_conversation x cutting)
+begins_talk IsStop x fits to old new out out_new told h =
+    let some = h.told (start x) [] told in
+    let up_to = first_parts served_step (start x) (call_log_up_to x.me (peer_of_local x) x.call to h.moment h.answers) some.moves some.told.is_log in
+    begins_local x fits to h.moment h.answers up_to
+
+pub breaks_off_locally : (IsStop : List CallStep → Type 0) (x : LocalCalling) → FitsCalling x → (to : List ℕ) (old new : LocalView)
     (out out_new : SinkState) → IsTold old (start x) []
     → BreaksOff IsStop (call_of_local x to) (λ o log. IsTold old o log) (λ o log. IsTold new o log) (state_of new) out out_new
     → LocalBreaksOff x out out_new
 breaks_off_locally IsStop x fits to old new out out_new told h cutting =
-    let some = h.told (start x) [] told in
-    let up_to = first_parts served_step (start x) (call_log_up_to x.me (peer_of_local x) x.call to h.moment h.answers) some.moves some.told.is_log in
-    let begins = begins_local x fits to h.moment h.answers up_to cutting in
+    let begins = begins_talk IsStop x fits to old new out out_new told h cutting in
     part_of_whole out.held out_new.held _ _ begins.text_left begins.text
     (breaks_in_part IsStop (call_of_local x to) (λ o log. IsTold old o log) (λ o log. IsTold new o log) (state_of new) out out_new h)
 
 pub no_fault : Rose 0 0 → ⊥
 no_fault rose = omega (arith, rose)
 
-pub local_of_call : (x : LocalCalling) → FitsCalling x → (to : List ℕ) (answer : Result loop.LoopEnd NoMemory) (old new : LocalView) (out out_new : SinkState)
+local_of_call : (x : LocalCalling) → FitsCalling x → (to : List ℕ) (answer : Result loop.LoopEnd NoMemory) (old new : LocalView) (out out_new : SinkState)
     → IsTold old (start x) []
     → AfterCall answer (call_of_local x to) (λ o log. IsTold old o log) (λ o log. IsTold new o log) (state_of old) (state_of new) out out_new
     → AfterLocal answer x out out_new
@@ -125,16 +141,15 @@ local_of_call x fits to (Ok end.WriteFault) old new out out_new told h = (h.0, b
 local_of_call x fits to (Err e) old new out out_new told (inl h) = inl h.silent
 local_of_call x fits to (Err e) old new out out_new told (inr h) = inr (breaks_off_locally Anywhere x fits to old new out out_new told h)
 
-pub local_ends : (x : LocalCalling) → FitsCalling x → (to : List ℕ) (y : Calling) (answer : Result loop.LoopEnd NoMemory) (s : Status) (old new : LocalView)
-    (out between out_new : SinkState)
+-- of a call that is known
+pub local_ends : (x : LocalCalling) → FitsCalling x → (to : List ℕ) (y : Calling) (s : Status) (old new : LocalView) (out out_new : SinkState)
     → y ≡ call_of_local x to → IsTold old (start x) []
-    → AfterCall answer y (λ o log. IsTold old o log) (λ o log. IsTold new o log) (state_of old) (state_of new) out between
-    → NeverFalls out between → PrintsAnswer answer s between out_new → EndsLocalCall x s out out_new
-local_ends x fits to y answer s old new out between out_new same told called later printed = record {
-  answer = answer;
-  between = between;
-  called = local_of_call x fits to answer old new out between told
-      (subst (λ z. AfterCall answer z (λ o log. IsTold old o log) (λ o log. IsTold new o log) (state_of old) (state_of new) out between) same called);
-  later = later;
-  prints = printed;
+    → EndsCall y s out out_new (used (λ o log. IsTold old o log) (λ o log. IsTold new o log) (state_of old) (state_of new)) → EndsLocalCall x s out out_new
+local_ends x fits to y s old new out out_new same told e = record {
+  answer = e.answer;
+  between = e.between;
+  called = local_of_call x fits to e.answer old new out e.between told
+      (subst (λ z. AfterCall e.answer z (λ o log. IsTold old o log) (λ o log. IsTold new o log) (state_of old) (state_of new) out e.between) same e.called);
+  later = e.later;
+  prints = e.prints;
 }

@@ -15,10 +15,10 @@ use Rattle.spec_client.specs.Runner.{CallStep}
 use Rattle.spec_client_laws.specs.KeptRows.{first_row, row_limit, IsCounted}
 use Rattle.spec_client_laws.proofs.KeptLemmas.{keeps_counted}
 use Rattle.client_calls.specs.Recording.{AreNames}
-use Rattle.client_loop.specs.Called.{Calling, over}
+use Rattle.client_loop.specs.Called.{Calling, IfBroken, over}
 use Rattle.client_loop.specs.Due.{AtSend, AtPrint, Anywhere}
 use Rattle.client_loop.specs.Outlets.{Outlets, outlets, Adds}
-use Rattle.client_loop.specs.Recorded.{AfterRecord, RecordsAll, RecordsSome, RecordFails}
+use Rattle.client_loop.specs.Recorded.{AfterRecord, RecordsAll, RecordsSome}
 use Rattle.client_replies.specs.declared.stage.CallEnd.TheVariants as call_end
 use Rattle.client_loop.specs.declared.loop_end.LoopEnd.TheVariants as end
 use Rattle.client_loop.specs.declared.record_end.RecordEnd.{RecordEnd}
@@ -132,7 +132,8 @@ adds_some IsStop what x n told tells new out out_new b h =
     (record { numbers = counted-take (n + 1) h.rows.0 kept counted.numbers; few = few-take h.rows.0 1000000 kept counted.few }) h.rows.1
 
 adds_failed : {O : Type 0} (broken : Bool) (what : RecordTask) (x : Calling) (n : ℕ) (told tells : O → List LinkMove → Type 0) (new : LinkState)
-    (out out_new : Outlets) → Begins what x n out.keeper.rows → RecordFails broken x told tells new out out_new
+    (out out_new : Outlets) → Begins what x n out.keeper.rows
+    → IfBroken broken (RecordsAll x None told tells new out out_new) (RecordsSome AtSend x told tells new out out_new)
     → AddsRows out.keeper.rows out_new.keeper.rows
 adds_failed true what x n told tells new out out_new b h = adds_all what x n None told tells new out out_new b h
 adds_failed false what x n told tells new out out_new b h = adds_some AtSend what x n told tells new out out_new b h

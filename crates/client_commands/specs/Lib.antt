@@ -4,6 +4,5 @@ pub mod Calling
 pub mod Recording
 pub mod Between
 pub mod LocalCore
-pub mod CallEnds
 pub mod AskedFrom
 pub mod RecordedFrom

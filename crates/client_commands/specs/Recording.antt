@@ -10,7 +10,6 @@ use Rattle.spec_client.specs.Conversation.{LoopEnd, CallEnded, Budget}
 use Rattle.spec_client.specs.Stages.{Done, entries_taken}
 use Rattle.spec_client.specs.TotalLines.{total_lines}
 use Rattle.spec_local.specs.LocalCall.{Cutting}
-use Rattle.spec_local_room.specs.Laws.{is_setting, IsAnswered}
 use Rattle.client_replies.specs.Stages.{end_meant}
 use Rattle.client_replies.specs.declared.stage.CallEnd.TheVariants as call_end
 use Rattle.client_loop.specs.Called.{Calling}
@@ -25,8 +24,9 @@ use Rattle.sample_store.specs.Keeper.{KeeperState, Counts}
 use Rattle.run_tasks.specs.declared.status.Status.{Status}
 use Rattle.run_tasks.specs.declared.status.Status.TheVariants as status
 use Rattle.run_tasks.specs.Asking.{LocalCalling}
-use Rattle.client_commands.specs.Calling.{PrintsAnswer, local_conversation}
+use Rattle.client_commands.specs.Calling.{PrintsAnswer, LocalTalks, LocalBreaksOff, local_conversation}
 use Rattle.run_tasks.specs.Ending.{line_alone}
+use Rattle.run_tasks.specs.EndsOr.{WantsMemory}
 use Rattle.run_tasks.specs.Prints.{PutsMemoryLine, PrintsEnding}
 use Rattle.client_commands.specs.CallUses.{LinkUse, KeeperUse}
 
@@ -41,28 +41,14 @@ PrintsRecorded (Ok (recorded.Loop e)) s old new = PrintsAnswer (Ok e) s old new
 PrintsRecorded (Ok recorded.KeeperFault) s old new = PrintsEnding (line_alone status.KeeperFault) s old new
 PrintsRecorded (Err e) s old new = PrintsAnswer (Err e) s old new
 
--- the recording over the link, into a table that is open, and its last line
-pub record EndsRecorded {O : Type 0} (x : Calling) (s : Status) (out out_new : SinkState) (link : LinkUse O) (keeper keeper_new : KeeperState)
-    : Type 0 where
-  pub answer : Result RecordEnd NoMemory
-  pub between : SinkState
-  pub called : AfterRecord answer x link.told link.tells link.old link.new (outlets out keeper) (outlets between keeper_new)
-  pub later : IsLater (outlets out keeper) (outlets between keeper_new)
-  pub prints : PrintsRecorded answer s between out_new
-  -- where the keeper failed, that line stands alone
-  pub alone : answer ≡ Ok recorded.KeeperFault → PrintsEnding (line_alone status.KeeperFault) s out out_new
-
--- However its answers are cut, the recording ends so, and all its rows were put. It ends by no timeout, and never for a text that is no
--- value, since it sets none.
+-- a local call that talks, all of whose rows were put, however its answers are cut
 pub record LocalRecordsAll (x : LocalCalling) (ended : LoopEnd) (out out_new : Outlets) : Type 0 where
-  pub end_is : (cutting : Cutting) → (local_conversation x cutting).end ≡ Some ended
-  pub answered : IsAnswered (is_setting x.call) ended
-  pub text : (cutting : Cutting) → Appends out.sink.held out_new.sink.held (local_conversation x cutting).text
+  pub talks : LocalTalks x ended out.sink out_new.sink
   pub rows : (cutting : Cutting) → Adds out.keeper.rows out_new.keeper.rows (local_conversation x cutting).kept
 
--- however its answers are cut, some first bytes of its text and some first ones of its rows were put
+-- one that broke off, some first ones of whose rows were put
 pub record LocalRecordsSome (x : LocalCalling) (out out_new : Outlets) : Type 0 where
-  pub text : (cutting : Cutting) → AppendsPart out.sink.held out_new.sink.held (local_conversation x cutting).text
+  pub breaks : LocalBreaksOff x out.sink out_new.sink
   pub rows : (cutting : Cutting) → AddsPart out.keeper.rows out_new.keeper.rows (local_conversation x cutting).kept
 
 -- it is done, and the lines of its entries were put, whole or in part; they are of all rows, where rows are told
@@ -87,11 +73,12 @@ AfterLocalRecord (Ok recorded.KeeperFault) x out out_new =
     Rose out.keeper.faults out_new.keeper.faults × (LocalRecordsSome x out out_new ⊎ LocalRecordsAll x (CallEnded Done) out out_new)
 AfterLocalRecord (Err e) x out out_new = (out_new ≡ out) ⊎ LocalRecordsSome x out out_new ⊎ LocalRecordsDone AppendsPart x out out_new
 
--- the recording in the same process, into a table that is open, and its last line
-pub record EndsLocalRecorded (x : LocalCalling) (s : Status) (out out_new : SinkState) (keeper keeper_new : KeeperState) : Type 0 where
+-- a recording into a table that is open, which left this by how it ended, and its last line
+pub record EndsRecorded (Left : Result RecordEnd NoMemory → Outlets → Outlets → Type 0) (s : Status) (out out_new : SinkState)
+    (keeper keeper_new : KeeperState) : Type 0 where
   pub answer : Result RecordEnd NoMemory
   pub between : SinkState
-  pub called : AfterLocalRecord answer x (outlets out keeper) (outlets between keeper_new)
+  pub called : Left answer (outlets out keeper) (outlets between keeper_new)
   pub later : IsLater (outlets out keeper) (outlets between keeper_new)
   pub prints : PrintsRecorded answer s between out_new
   -- where the keeper failed, that line stands alone
@@ -111,35 +98,28 @@ BehindOpening (open_.Ready n) GoesOn still s out out_new =
 BehindOpening open_.Failed GoesOn still s out out_new = still × PrintsEnding (line_alone status.KeeperFault) s out out_new
 BehindOpening open_.Memory GoesOn still s out out_new = still × (s ≡ status.Memory) × PutsMemoryLine out out_new
 
--- the same of a recording over the link, into a table that is open and has so many rows
-abbrev pub EndsBehind : {O : Type 0} → ℕ → (ℕ → Calling) → Status → SinkState → SinkState → LinkUse O → KeeperState → KeeperState → Type 0
-EndsBehind n x s out out_new link keeper keeper_new =
-    BehindOpening (open_.Ready n) (λ m. EndsRecorded (x m) s out out_new link keeper keeper_new)
-    (LeavesLink link × (keeper_new ≡ keeper)) s out out_new
-
--- The table was opened, which changes no row and tells how many there are, and the run ended by that.
-pub record EndsByTable (GoesOn : ℕ → KeeperState → Type 0) (still : Type 0) (s : Status) (out out_new : SinkState) (keeper : KeeperUse)
-    : Type 0 where
+-- The table was opened, which changes no row and tells how many there are, and the run ended by that. A recording behind so many rows left this.
+pub record EndsByTable (Left : ℕ → Result RecordEnd NoMemory → Outlets → Outlets → Type 0) (still : Type 0) (s : Status) (out out_new : SinkState)
+    (keeper : KeeperUse) : Type 0 where
   pub answer : KeeperOpen
   pub opened : KeeperState
   pub counts : Counts answer keeper.old.rows
   pub rows : opened.rows ≡ keeper.old.rows
   pub later : keeper.old.faults ≤ opened.faults
   pub failed : answer ≡ open_.Failed → Rose keeper.old.faults opened.faults
-  pub ended : BehindOpening answer (λ n. GoesOn n opened) (still × (keeper.new ≡ opened)) s out out_new
+  pub ended : BehindOpening answer (λ n. EndsRecorded (Left n) s out out_new opened keeper.new) (still × (keeper.new ≡ opened)) s out out_new
 
--- memory was wanting before the table was opened
-abbrev pub WantsMemoryFirst : Status → SinkState → SinkState → KeeperUse → Type 0
-WantsMemoryFirst s out out_new keeper = (s ≡ status.Memory) × PutsMemoryLine out out_new × (keeper.new ≡ keeper.old)
+-- any recording: memory was wanting before its table was opened, or it ended by that
+abbrev pub EndsAnyRecording : (ℕ → Result RecordEnd NoMemory → Outlets → Outlets → Type 0) → (still : Type 0) → Status → SinkState → SinkState
+    → KeeperUse → Type 0
+EndsAnyRecording Left still s out out_new keeper =
+    (still × (keeper.new ≡ keeper.old) × WantsMemory s out out_new) ⊎ EndsByTable Left still s out out_new keeper
 
 -- a recording over the link, whose call is this behind so many rows
 abbrev pub EndsRecording : {O : Type 0} → (ℕ → Calling) → Status → SinkState → SinkState → LinkUse O → KeeperUse → Type 0
 EndsRecording x s out out_new link keeper =
-    (LeavesLink link × WantsMemoryFirst s out out_new keeper)
-    ⊎ EndsByTable (λ n opened. EndsRecorded (x n) s out out_new link opened keeper.new) (LeavesLink link) s out out_new keeper
+    EndsAnyRecording (λ n answer. AfterRecord answer (x n) link.told link.tells link.old link.new) (LeavesLink link) s out out_new keeper
 
--- the same in the same process
+-- one in the same process
 abbrev pub EndsLocalRecording : (ℕ → LocalCalling) → Status → SinkState → SinkState → KeeperUse → Type 0
-EndsLocalRecording x s out out_new keeper =
-    WantsMemoryFirst s out out_new keeper
-    ⊎ EndsByTable (λ n opened. EndsLocalRecorded (x n) s out out_new opened keeper.new) (Unit {0}) s out out_new keeper
+EndsLocalRecording x s out out_new keeper = EndsAnyRecording (λ n answer. AfterLocalRecord answer (x n)) (Unit {0}) s out out_new keeper

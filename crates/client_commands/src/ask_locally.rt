@@ -10,23 +10,21 @@ ghost use Rattle.server_core.specs.CoreState.{started};
 ghost use Rattle.server_core.specs.Serves.{Serves};
 ghost use Rattle.signals.specs.Wave.{Wave};
 ghost use Rattle.run_tasks.specs.Asking.{local_calling};
+ghost use Rattle.run_tasks.specs.BeforeRun.{IsBeforeRun};
 ghost use Rattle.client_commands.specs.Calling.{EndsLocalCall};
-ghost use Rattle.client_commands.specs.CallEnds.{AsksBy};
+ghost use Rattle.run_tasks.specs.EndsOr.{EndsOrBy};
 ghost use Rattle.run_tasks.specs.Fits.{FitsClient, FitsClientTask};
-ghost use Rattle.run_tasks.specs.Outcomes.{IsNoReadFault};
 ghost use Rattle.run_tasks.specs.Readings.{OverFile, ReadsOne};
-ghost use Rattle.run_tasks.specs.Verdict.{verdict_of_file, verdict_of_local};
+ghost use Rattle.run_tasks.specs.Verdict.{CallsLocally, verdict_of_description_file};
 
 use crate::address::{LOCAL_ADDRESS, call_addrs};
-use crate::call_end::print_answer;
-use crate::client_call::call_of;
+use crate::ask_link::ask_over;
 use crate::local_core::core_of_file;
-use ads_base::{NetId, NoMemory};
+use ads_base::NetId;
 use ads_outside::{Files, Sink};
 use cli_words::{ClientWords, Text};
-use client_loop::run_call;
 use local_link::{LocalLink, OnThreads, Steps};
-use run_tasks::{ClientTask, Status, end_without_memory};
+use run_tasks::{ClientTask, Status};
 use server_core::{Core, Sources};
 use std::alloc::Global;
 use std::thread::Threads;
@@ -46,7 +44,9 @@ pub fn ask_locally<T: Threads + Sync, F: Files, S: Sink, G: Sources>(
     requires what { FitsClientTask what.now }
     requires client { FitsClient client.now }
     ensures ends { OverFile (F.state files.old).held (λ held.
-        AsksBy (verdict_of_file (verdict_of_local (G.waves signals) what.now client.now) (bytes_of held description.now))
+        EndsOrBy CallsLocally (λ x. EndsLocalCall x result (S.state out.old) (S.state out.new)) (Unit {0})
+        (verdict_of_description_file (length (G.waves signals)) (λ bytes d. CallsLocally (local_calling d (G.waves signals) what.now client.now))
+        (bytes_of held description.now))
         (Rose (F.state files.old).faults (F.state files.new).faults) result (S.state out.old) (S.state out.new)) }
     ensures reads { ReadsOne result (F.state files.old).names (F.state files.new).names description.now }
     ensures held { (F.state files.new).held ≡ (F.state files.old).held }
@@ -72,7 +72,7 @@ fn ask_core<T: Threads + Sync, S: Sink, G: Sources>(
     requires client { FitsClient client.now }
     ensures ends { (d : plant.Description) (waves : List Wave) → Serves core (started d waves) → net.bytes ≡ d.net
         → EndsLocalCall (local_calling d waves what.now client.now) result (S.state out.old) (S.state out.new) }
-    ensures no_read_fault { IsNoReadFault result }
+    ensures run { IsBeforeRun result → ⊥ }
 {
     ask_by(OnThreads::new(rt), alloc, what, client, net, core, out)
 }
@@ -92,7 +92,7 @@ fn ask_by<P: Steps, S: Sink, G: Sources>(
     requires client { FitsClient client.now }
     ensures ends { (d : plant.Description) (waves : List Wave) → Serves core (started d waves) → net.bytes ≡ d.net
         → EndsLocalCall (local_calling d waves what.now client.now) result (S.state out.old) (S.state out.new) }
-    ensures no_read_fault { IsNoReadFault result }
+    ensures run { IsBeforeRun result → ⊥ }
 {
     let mut link = LocalLink::new(steps, alloc, core);
     ask_link(alloc, what, client, net, &mut link, out)
@@ -111,22 +111,8 @@ fn ask_link<P: Steps, S: Sink, G: Sources>(
     requires client { FitsClient client.now }
     ensures ends { (d : plant.Description) (waves : List Wave) → IsTold link.old (server_start d waves) [] → net.bytes ≡ d.net
         → EndsLocalCall (local_calling d waves what.now client.now) result (S.state out.old) (S.state out.new) }
-    ensures no_read_fault { IsNoReadFault result }
+    ensures run { IsBeforeRun result → ⊥ }
 {
-    match call_of(alloc, what) {
-        Err(NoMemory) => end_without_memory(out),
-        Ok(call) => {
-            let addrs = call_addrs(net, client);
-            let answer = run_call(
-                alloc,
-                call,
-                addrs.own,
-                addrs.asked,
-                LOCAL_ADDRESS,
-                link,
-                out,
-            );
-            print_answer(alloc, answer, out)
-        }
-    }
+    let addrs = call_addrs(net, client);
+    ask_over(alloc, what, addrs, LOCAL_ADDRESS, link, out)
 }

@@ -8,7 +8,8 @@ ghost use Rattle.run_tasks.specs.Readings.{ReadsOfPeer, is_over_link};
 ghost use Rattle.client_commands.specs.AskedFrom.{AsksFrom};
 ghost use Rattle.client_commands.specs.CallUses.{link_used};
 
-use crate::ask_link::ask_over_link;
+use crate::address::call_addrs;
+use crate::ask_link::ask_over;
 use crate::ask_locally::ask_locally;
 use ads_outside::{Files, Link, Sink};
 use cli_words::{ClientWords, PeerWords};
@@ -42,7 +43,10 @@ pub fn ask<T: Threads + Sync, F: Files, L: Link, S: Sink, G: Sources>(
     ensures read_fault { result ≡ Status.ReadFault → Rose (F.state files.old).faults (F.state files.new).faults }
 {
     match &client.peer {
-        PeerWords::To { to, net } => ask_over_link(alloc, what, client, *net, to, link, out),
+        PeerWords::To { to, net } => {
+            let addrs = call_addrs(*net, client);
+            ask_over(alloc, what, addrs, to.as_str(), link, out)
+        }
         PeerWords::Local(description) => ask_locally(
             rt,
             alloc,

@@ -6,9 +6,9 @@ ghost use Rattle.sample_store.specs.Keeper.{AreNumbered, Counts};
 ghost use Rattle.run_tasks.specs.Fits.{FitsRecord};
 ghost use Rattle.run_tasks.specs.Openings.{OpensOne};
 ghost use Rattle.run_tasks.specs.RecordAsked.{call_recorded};
-ghost use Rattle.client_commands.specs.Between.{recording_between};
+ghost use Rattle.client_commands.specs.Between.{EndsBehind, RecordsOver, recording_between};
 ghost use Rattle.client_commands.specs.RecordRows.{AddsRows};
-ghost use Rattle.client_commands.specs.Recording.{EndsBehind, EndsRecorded, EndsRecording, PrintsRecorded};
+ghost use Rattle.client_commands.specs.Recording.{EndsRecorded, EndsRecording, PrintsRecorded};
 ghost use Rattle.client_commands.specs.CallUses.{keeper_used, link_used};
 
 use crate::address::CallAddrs;
@@ -93,8 +93,8 @@ fn record_into<L: Link, S: Sink, K: Keeper>(
     requires room { rows ≤ 9223372036853775807 }
     requires numbers { AreNumbered (K.state keeper.old).rows }
     requires counts { Counts (KeeperOpen.Ready rows) (K.state keeper.old).rows }
-    ensures ends { EndsRecorded (recording_between what.now addrs to.now rows) result (S.state out.old) (S.state out.new)
-        (link_used L.tells L.state link.old link.new) (K.state keeper.old) (K.state keeper.new) }
+    ensures ends { EndsRecorded (RecordsOver (link_used L.tells L.state link.old link.new) (recording_between what.now addrs to.now rows)) result
+        (S.state out.old) (S.state out.new) (K.state keeper.old) (K.state keeper.new) }
     ensures names { (K.state keeper.new).names ≡ (K.state keeper.old).names }
     ensures grows { AddsRows (K.state keeper.old).rows (K.state keeper.new).rows }
 {

@@ -10,7 +10,7 @@ ghost use Rattle.local_link.specs.Link.{IsTold};
 ghost use Rattle.server_core.specs.CoreState.{started};
 ghost use Rattle.server_core.specs.Serves.{Serves};
 ghost use Rattle.run_tasks.specs.BeforeRun.{IsBeforeRun};
-ghost use Rattle.client_commands.specs.CallEnds.{RecordsBy};
+ghost use Rattle.run_tasks.specs.EndsOr.{EndsOrBy};
 ghost use Rattle.run_tasks.specs.Fits.{FitsRecord};
 ghost use Rattle.run_tasks.specs.Openings.{OpensOne};
 ghost use Rattle.run_tasks.specs.Readings.{OverFile, ReadsOne};
@@ -18,7 +18,7 @@ ghost use Rattle.run_tasks.specs.RecordAsked.{local_recording};
 ghost use Rattle.client_commands.specs.RecordRows.{AddsRows};
 ghost use Rattle.client_commands.specs.Recording.{EndsLocalRecording};
 ghost use Rattle.client_commands.specs.CallUses.{keeper_used};
-ghost use Rattle.run_tasks.specs.Verdict.{verdict_of_file, verdict_of_recorded_text};
+ghost use Rattle.run_tasks.specs.Verdict.{RecordsLocally, verdict_of_description_file};
 
 use crate::address::{LOCAL_ADDRESS, call_addrs};
 use crate::local_core::core_of_file;
@@ -49,9 +49,10 @@ pub fn record_locally<T: Threads + Sync, F: Files, S: Sink, K: Keeper, G: Source
     requires few { length (G.waves signals) < 2 ^ 32 }
     requires what { FitsRecord what.now }
     ensures ends { OverFile (F.state files.old).held (λ held.
-        RecordsBy (verdict_of_file (verdict_of_recorded_text (G.waves signals) what.now) (bytes_of held description.now))
-        (Rose (F.state files.old).faults (F.state files.new).faults) result (S.state out.old) (S.state out.new)
-        (keeper_used K.state keeper.old keeper.new)) }
+        EndsOrBy RecordsLocally (λ x. EndsLocalRecording x result (S.state out.old) (S.state out.new) (keeper_used K.state keeper.old keeper.new)) (Unit {0})
+        (verdict_of_description_file (length (G.waves signals)) (λ bytes d. RecordsLocally (local_recording d (G.waves signals) what.now))
+        (bytes_of held description.now))
+        (Rose (F.state files.old).faults (F.state files.new).faults) result (S.state out.old) (S.state out.new)) }
     ensures reads { ReadsOne result (F.state files.old).names (F.state files.new).names description.now }
     ensures held { (F.state files.new).held ≡ (F.state files.old).held }
     ensures read_fault { result ≡ Status.ReadFault → Rose (F.state files.old).faults (F.state files.new).faults }

@@ -1,9 +1,9 @@
 -- A recording: how it begins, and the whole of it behind the connection.
-use Rattle.std.proofs.Common.{◌≡◌, ℕ, ◌+◌, ◌≤◌, List, length, Bool, true, false, Option, Some, None, sym, ap, ◌∙◌, subst, inl, inr, arith}
+use Rattle.std.proofs.Common.{◌≡◌, ℕ, ◌+◌, ◌≤◌, List, length, Option, Some, None, sym, ap, ◌∙◌, inl, inr, arith}
 use Rattle.std.specs.Prelude.{Result, Ok, Err}
 use Rattle.ads_base.specs.declared.no_memory.NoMemory.{NoMemory}
 use Rattle.ads_outside.specs.declared.link_move.LinkMove.{LinkMove}
-use Rattle.ads_outside.specs.LinkState.{LinkState, LinkHistory, connected_at}
+use Rattle.ads_outside.specs.LinkState.{LinkState, connected_at}
 use Rattle.ads_outside.specs.Puts.{Appends, AppendsPart}
 use Rattle.spec_samples.specs.Row.{Row}
 use Rattle.spec_formats.specs.Header.{AmsAddress}
@@ -26,9 +26,9 @@ use Rattle.client_loop.specs.Hearing.{IsWhole, none_of}
 use Rattle.client_loop.specs.Lines.{EndsWithLines, EndsInPart, EndsRecord}
 use Rattle.client_loop.specs.Outlets.{Outlets}
 use Rattle.client_loop.specs.Ready.{IsBehind, IsReady}
-use Rattle.client_loop.specs.Recorded.{IsFirst, RecordsAll, RecordsSome, RecordsDone, RecordFails, AfterRecord}
+use Rattle.client_loop.specs.Recorded.{IsFirst, RecordsAll, RecordsSome, RecordsDone, AfterRecord}
 use Rattle.client_loop.proofs.SaidLemmas.{adds_nothing}
-use Rattle.client_loop.proofs.TalkLemmas.{begun_by, begins_by, Joins, talks_from, breaks_from, all_broken}
+use Rattle.client_loop.proofs.TalkLemmas.{begun_by, begins_by, Joins, talks_from, breaks_from, recv_fails, send_fails}
 use Rattle.client_loop.proofs.TurnLemmas.{rose_later}
 
 -- a recording that begins is ready for its first row
@@ -83,11 +83,6 @@ done_records IsPut x now first second third mid_link new_link out new_out at joi
       put = g.lines.put;
     }
 
-fails_as : {O : Type 0} (broken : Bool) (x : Calling) (first third : O → List LinkMove → Type 0) (new_link : LinkState) (out new_out : Outlets)
-    → new_link.history.broken ≡ broken → RecordFails broken x first third new_link out new_out
-    → RecordFails new_link.history.broken x first third new_link out new_out
-fails_as broken x first third new_link out new_out is f = subst (λ b. RecordFails b x first third new_link out new_out) (sym is) f
-
 -- the whole recording, behind its connection
 pub records : {O : Type 0} (result : Result RecordEnd NoMemory) (x : Calling) (now : ℕ)
     (first second third : O → List LinkMove → Type 0) (link mid_link new_link : LinkState) (out new_out : Outlets)
@@ -106,18 +101,19 @@ records (Ok (record_end.Loop (end.Call (call_end.TimedOut sent at_)))) x now fir
     all_records x now g.0 _ first second third mid_link new_link out new_out at joins g.1
 records (Ok (record_end.Loop end.Budget)) x now first second third link mid_link new_link out new_out at later joins g =
     all_records x now g.0 _ first second third mid_link new_link out new_out at joins g.1
-records (Ok (record_end.Loop end.LinkFault)) x now first second third link mid_link new_link out new_out at later joins g = (
-  rose_later link.faults mid_link.faults new_link.faults later g.0,
-  elim g.1 [
-    | inl w ↦
-        let all = all_records x now w.0 None first second third mid_link new_link out new_out at joins w.1 in
-        inr (fails_as true x first third new_link out new_out (ap (λ (h : LinkHistory). h.broken) all.talks.history) all)
-    | inr w ↦
-        let some = some_records AtSend x now first second third mid_link new_link out new_out at joins w in
-        inr (fails_as false x first third new_link out new_out
-        (ap (λ (h : LinkHistory). h.broken) some.breaks.history ∙ all_broken (connected_at some.breaks.moment) some.breaks.answers) some)
-  ],
-)
+records (Ok (record_end.Loop end.LinkFault)) x now first second third link mid_link new_link out new_out at later joins g =
+    let Receiving = RecordsAll x None first third new_link out new_out in
+    let Sending = RecordsSome AtSend x first third new_link out new_out in (
+      rose_later link.faults mid_link.faults new_link.faults later g.0,
+      elim g.1 [
+        | inl w ↦
+            let all = all_records x now w.0 None first second third mid_link new_link out new_out at joins w.1 in
+            inr (recv_fails x first third new_link out.sink new_out.sink Receiving Sending all.talks all)
+        | inr w ↦
+            let some = some_records AtSend x now first second third mid_link new_link out new_out at joins w in
+            inr (send_fails x first third new_link out.sink new_out.sink Receiving Sending some.breaks some)
+      ],
+    )
 records (Ok (record_end.Loop end.WriteFault)) x now first second third link mid_link new_link out new_out at later joins g = (
   g.0,
   elim g.1 [

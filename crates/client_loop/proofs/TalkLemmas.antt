@@ -1,5 +1,5 @@
 -- The first turns of a call, and the whole call behind the connection.
-use Rattle.std.proofs.Common.{◌≡◌, ℕ, ◌≤◌, List, [], ◌∷◌, ◌++◌, Bool, true, false, Option, None, refl, sym, ap, ◌∙◌, subst, inl, inr, append_assoc}
+use Rattle.std.proofs.Common.{◌≡◌, ℕ, ◌≤◌, List, [], ◌∷◌, ◌++◌, Option, None, refl, sym, ap, ◌∙◌, subst, inl, inr, append_assoc}
 use Rattle.std.specs.Prelude.{Result, Ok, Err}
 use Rattle.std.proofs.lemmas.List.{append-nil}
 use Rattle.ads_base.specs.declared.no_memory.NoMemory.{NoMemory}
@@ -28,7 +28,7 @@ use Rattle.client_loop.specs.LinkAfter.{history_after_answer, history_after_answ
 use Rattle.client_loop.specs.Outlets.{Outlets, outlets, IsLater}
 use Rattle.client_loop.specs.Said.{SentSome, Gives}
 use Rattle.client_loop.specs.Turning.{GivesSomeSteps, AfterTurns}
-use Rattle.client_loop.specs.Called.{Calling, over, Talks, BreaksOff, Fails, AfterCall}
+use Rattle.client_loop.specs.Called.{Calling, over, Talks, BreaksOff, IfBroken, AfterCall}
 use Rattle.client_loop.specs.Hearing.{IsWhole, IsPart, EndsOver, EndsFrom, IsBegun, TalksAlone, all_of, none_of, no_rows}
 use Rattle.client_loop.proofs.DueLemmas.{stops_before, stops_on, stops_in_part, stops_behind_first, text_in_two}
 use Rattle.client_loop.proofs.LogLemmas.{log_pending}
@@ -269,23 +269,21 @@ same_broken h (Bytes bytes now) = refl
 same_broken h (Quiet now) = refl
 same_broken h (Closed now) = refl
 
-pub all_broken : (h : LinkHistory) (answers : List LinkAnswer) → (history_after_answers h answers).broken ≡ h.broken
+all_broken : (h : LinkHistory) (answers : List LinkAnswer) → (history_after_answers h answers).broken ≡ h.broken
 all_broken h [] = refl
 all_broken h (a ∷ answers) = all_broken (history_after_answer h a) answers ∙ same_broken h a
 
 -- a link that failed, by which call
-fails_so : {O : Type 0} (broken : Bool) (x : Calling) (first third : O → List LinkMove → Type 0) (new_link : LinkState) (out new_out : SinkState)
-    → new_link.history.broken ≡ broken → Fails broken x first third new_link out new_out → Fails new_link.history.broken x first third new_link out new_out
-fails_so broken x first third new_link out new_out is f = subst (λ b. Fails b x first third new_link out new_out) (sym is) f
+pub recv_fails : {O : Type 0} (x : Calling) (first third : O → List LinkMove → Type 0) (new_link : LinkState) (out new_out : SinkState)
+    → (Receiving Sending : Type 0) → Talks x None first third new_link out new_out → Receiving → IfBroken new_link.history.broken Receiving Sending
+recv_fails x first third new_link out new_out Receiving Sending t h =
+    subst (λ b. IfBroken b Receiving Sending) (sym (ap (λ (l : LinkHistory). l.broken) t.history)) h
 
-recv_fails : {O : Type 0} (x : Calling) (first third : O → List LinkMove → Type 0) (new_link : LinkState) (out new_out : SinkState)
-    → Talks x None first third new_link out new_out → Fails new_link.history.broken x first third new_link out new_out
-recv_fails x first third new_link out new_out t = fails_so true x first third new_link out new_out (ap (λ (h : LinkHistory). h.broken) t.history) t
-
-send_fails : {O : Type 0} (x : Calling) (first third : O → List LinkMove → Type 0) (new_link : LinkState) (out new_out : SinkState)
-    → BreaksOff AtSend x first third new_link out new_out → Fails new_link.history.broken x first third new_link out new_out
-send_fails x first third new_link out new_out t =
-    fails_so false x first third new_link out new_out (ap (λ (h : LinkHistory). h.broken) t.history ∙ all_broken (connected_at t.moment) t.answers) t
+pub send_fails : {O : Type 0} (x : Calling) (first third : O → List LinkMove → Type 0) (new_link : LinkState) (out new_out : SinkState)
+    → (Receiving Sending : Type 0) → BreaksOff AtSend x first third new_link out new_out → Sending → IfBroken new_link.history.broken Receiving Sending
+send_fails x first third new_link out new_out Receiving Sending t h =
+    subst (λ b. IfBroken b Receiving Sending)
+    (sym (ap (λ (l : LinkHistory). l.broken) t.history ∙ all_broken (connected_at t.moment) t.answers)) h
 
 -- the whole call, behind its connection
 pub calls : {O : Type 0} (result : Result LoopEnd NoMemory) (x : Calling) (now : ℕ)
@@ -296,15 +294,19 @@ calls (Ok (end.Call e)) x now first second third link mid_link new_link out new_
     talks_from x now g.0 _ first second third mid_link new_link (outlets out no_rows) (outlets new_out no_rows) at joins g.1
 calls (Ok end.Budget) x now first second third link mid_link new_link out new_out at later joins g =
     talks_from x now g.0 _ first second third mid_link new_link (outlets out no_rows) (outlets new_out no_rows) at joins g.1
-calls (Ok end.LinkFault) x now first second third link mid_link new_link out new_out at later joins g = (
-  rose_later link.faults mid_link.faults new_link.faults later g.1.0,
-  elim g.1.1 [
-    | inl w ↦ inr (recv_fails x first third new_link out new_out
-        (talks_from x now g.0 None first second third mid_link new_link (outlets out no_rows) (outlets new_out no_rows) at joins w))
-    | inr w ↦ inr (send_fails x first third new_link out new_out
-        (breaks_from AtSend x now first second third mid_link new_link (outlets out no_rows) (outlets new_out no_rows) at joins w))
-  ],
-)
+calls (Ok end.LinkFault) x now first second third link mid_link new_link out new_out at later joins g =
+    let Receiving = Talks x None first third new_link out new_out in
+    let Sending = BreaksOff AtSend x first third new_link out new_out in (
+      rose_later link.faults mid_link.faults new_link.faults later g.1.0,
+      elim g.1.1 [
+        | inl w ↦
+            let t = talks_from x now g.0 None first second third mid_link new_link (outlets out no_rows) (outlets new_out no_rows) at joins w in
+            inr (recv_fails x first third new_link out new_out Receiving Sending t t)
+        | inr w ↦
+            let b = breaks_from AtSend x now first second third mid_link new_link (outlets out no_rows) (outlets new_out no_rows) at joins w in
+            inr (send_fails x first third new_link out new_out Receiving Sending b b)
+      ],
+    )
 calls (Ok end.WriteFault) x now first second third link mid_link new_link out new_out at later joins g =
     (g.1.0, breaks_from AtPrint x now first second third mid_link new_link (outlets out no_rows) (outlets new_out no_rows) at joins g.1.1)
 calls (Err e) x now first second third link mid_link new_link out new_out at later joins g =

@@ -75,12 +75,11 @@ pub record NeverBegins {O : Type 0} (x : Calling) (answer : Connected)
   pub silent : out_new ≡ out
   pub told : (o : O) (log : List LinkMove) → old_tells o log → new_tells o (log_after_connect answer x.to log)
 
--- A link that was connected failed. Where its history says that to receive failed, no text is lost: all was heard, sent and put up to that.
--- Else to send failed: all text that comes before what was to be sent was put.
-abbrev pub Fails : {O : Type 0} → (broken : Bool) → Calling → (O → List LinkMove → Type 0) → (O → List LinkMove → Type 0)
-    → LinkState → SinkState → SinkState → Type 0
-Fails true x old_tells new_tells new out out_new = Talks x None old_tells new_tells new out out_new
-Fails false x old_tells new_tells new out out_new = BreaksOff AtSend x old_tells new_tells new out out_new
+-- What a link leaves that was connected and failed. Where its history says that to receive failed, nothing is lost: all was heard, sent and put
+-- up to that. Else to send failed: all text that comes before what was to be sent was put.
+abbrev pub IfBroken : Bool → (receiving : Type 0) → (sending : Type 0) → Type 0
+IfBroken true receiving sending = receiving
+IfBroken false receiving sending = sending
 
 -- What a call leaves, by how it ended. Want of memory may come at each call, also behind a text that was put whole.
 abbrev pub AfterCall : {O : Type 0} → Result LoopEnd NoMemory → Calling → (O → List LinkMove → Type 0)
@@ -92,7 +91,7 @@ AfterCall (Ok end.Budget) x old_tells new_tells old new out out_new =
 AfterCall (Ok end.LinkFault) x old_tells new_tells old new out out_new =
     Rose old.faults new.faults
     × (NeverBegins x connected.Failed old_tells new_tells old new out out_new
-    ⊎ Fails new.history.broken x old_tells new_tells new out out_new)
+    ⊎ IfBroken new.history.broken (Talks x None old_tells new_tells new out out_new) (BreaksOff AtSend x old_tells new_tells new out out_new))
 AfterCall (Ok end.WriteFault) x old_tells new_tells old new out out_new =
     Rose out.faults out_new.faults × BreaksOff AtPrint x old_tells new_tells new out out_new
 AfterCall (Err e) x old_tells new_tells old new out out_new =

@@ -1,5 +1,5 @@
 -- What a recording over a link leaves in the link, in the sink and in the keeper.
-use Rattle.std.specs.Prelude.{◌≡◌, ◌⊎◌, ℕ, ◌+◌, List, length, Bool, true, false, Option, Some, None, Result, Ok, Err}
+use Rattle.std.specs.Prelude.{◌≡◌, ◌⊎◌, ℕ, ◌+◌, List, length, Option, Some, None, Result, Ok, Err}
 use Rattle.ads_base.specs.declared.no_memory.NoMemory.{NoMemory}
 use Rattle.ads_outside.specs.declared.connected.Connected.{Connected}
 use Rattle.ads_outside.specs.declared.connected.Connected.TheVariants as connected
@@ -18,7 +18,7 @@ use Rattle.client_replies.specs.declared.stage.CallEnd.TheVariants as call_end
 use Rattle.client_loop.specs.declared.loop_end.LoopEnd.TheVariants as end
 use Rattle.client_loop.specs.declared.record_end.RecordEnd.{RecordEnd}
 use Rattle.client_loop.specs.declared.record_end.RecordEnd.TheVariants as record_end
-use Rattle.client_loop.specs.Called.{Calling, over, Talks, BreaksOff, NeverBegins}
+use Rattle.client_loop.specs.Called.{Calling, over, Talks, BreaksOff, NeverBegins, IfBroken}
 use Rattle.client_loop.specs.Due.{AtSend, AtPrint, Anywhere}
 use Rattle.client_loop.specs.Outlets.{Outlets, outlets, Adds, AddsPart}
 
@@ -57,12 +57,6 @@ pub record NeverRecords {O : Type 0} (x : Calling) (answer : Connected)
   pub begins : NeverBegins x answer old_tells new_tells old new out.sink out_new.sink
   pub untouched : out_new.keeper ≡ out.keeper
 
--- one over a link that was connected and failed; no text and no row is lost where to receive failed
-abbrev pub RecordFails : {O : Type 0} → (broken : Bool) → Calling → (O → List LinkMove → Type 0) → (O → List LinkMove → Type 0)
-    → LinkState → Outlets → Outlets → Type 0
-RecordFails true x old_tells new_tells new out out_new = RecordsAll x None old_tells new_tells new out out_new
-RecordFails false x old_tells new_tells new out out_new = RecordsSome AtSend x old_tells new_tells new out out_new
-
 -- what a recording leaves, by how it ended
 abbrev pub AfterRecord : {O : Type 0} → Result RecordEnd NoMemory → Calling → (O → List LinkMove → Type 0)
     → (O → List LinkMove → Type 0) → LinkState → LinkState → Outlets → Outlets → Type 0
@@ -75,7 +69,7 @@ AfterRecord (Ok (record_end.Loop end.Budget)) x old_tells new_tells old new out 
 AfterRecord (Ok (record_end.Loop end.LinkFault)) x old_tells new_tells old new out out_new =
     Rose old.faults new.faults
     × (NeverRecords x connected.Failed old_tells new_tells old new out out_new
-    ⊎ RecordFails new.history.broken x old_tells new_tells new out out_new)
+    ⊎ IfBroken new.history.broken (RecordsAll x None old_tells new_tells new out out_new) (RecordsSome AtSend x old_tells new_tells new out out_new))
 AfterRecord (Ok (record_end.Loop end.WriteFault)) x old_tells new_tells old new out out_new =
     Rose out.sink.faults out_new.sink.faults
     × (RecordsSome AtPrint x old_tells new_tells new out out_new

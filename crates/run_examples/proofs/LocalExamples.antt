@@ -193,9 +193,9 @@ local_rows = record {
   other_bytes = λ b. part_of_text (b (λ n. 65535)).0 (b (λ n. 65535)).1;
   budget = λ t. false≢true (ap is_budget (t.end_is (λ n. 65535)));
   no_link_fails = λ h. h;
-  all_recorded = λ r. false≢true (ap is_budget (r.end_is (λ n. 65535)));
-  some_recorded = λ r. part_of_text (r.text (λ n. 65535)).0 (r.text (λ n. 65535)).1;
-  done_recorded = λ r. false≢true (ap is_done (r.all.end_is (λ n. 65535)));
+  all_recorded = λ r. false≢true (ap is_budget (r.talks.end_is (λ n. 65535)));
+  some_recorded = λ r. part_of_text (r.breaks (λ n. 65535)).0 (r.breaks (λ n. 65535)).1;
+  done_recorded = λ r. false≢true (ap is_done (r.all.talks.end_is (λ n. 65535)));
   link_recorded = λ h. h;
 }
 
@@ -226,7 +226,7 @@ no_table = inr (record {
 
 wanted_first : EndsLocalRecording (local_recording plant waves what) status.Memory (sink [] 0) (sink (codes "ads: memory\n") 0)
     (record { old = keeper [] [] 0; new = keeper [] [] 0 })
-wanted_first = inl (refl, (put.All, refl), refl)
+wanted_first = inl (tt, refl, (refl, (put.All, refl)))
 
 abbrev number_in : Option LoopEnd → ℕ
 number_in None = 9

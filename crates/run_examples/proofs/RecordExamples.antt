@@ -268,7 +268,7 @@ cannot_open = inr (record {
 
 -- memory was wanting before it was
 wanted_first : EndsRecording asks status.Memory (sink []) (sink (codes "ads: memory\n")) no_link (record { old = keeper [] [] 0; new = keeper [] [] 0 })
-wanted_first = inl (record { same = refl; told = λ o log e. e }, (refl, (put.All, refl), refl))
+wanted_first = inl (record { same = refl; told = λ o log e. e }, refl, (refl, (put.All, refl)))
 
 -- a table of so many rows takes no more; one with room is not told so
 full : BehindOpening (open_.Ready 9223372036853775808) (λ n. ⊥) (Unit {0}) status.StoreLimit (sink []) (sink (codes "ads: store limit\n"))

@@ -20,7 +20,7 @@ use Rattle.run_tasks.specs.Prints.{PrintsEnding}
 use Rattle.run_tasks.specs.Readings.{OverFile, OverFiles}
 use Rattle.run_tasks.specs.Verdict.{Verdict, Ends, ended, if_accepted, verdict_of_description_file}
 use Rattle.run_tasks.proofs.ReadingLemmas.{map_file, map_files, at_bytes, decided_none}
-use Rattle.run_tasks.proofs.VerdictLemmas.{Holds, of_file, of_accepted}
+use Rattle.run_tasks.proofs.VerdictLemmas.{Holds, of_description_file}
 
 abbrev pub ending_in : Outcome → Ending
 ending_in o = record { status = o.status; text = o.text }
@@ -84,8 +84,7 @@ wants_described kind C Still held signals made name failed s out out_new still w
     let P : Verdict → Type 0 = λ v. EndsOr kind C Still v s out out_new in
     let h = wants_endings kind C Still s out out_new still wants in
     any_file held (λ files. EndsOrBy kind C Still (verdict_of_description_file signals made (bytes_of files name)) failed s out out_new)
-    (λ files. inl (of_file P (λ bytes. if_accepted (made bytes) (text_verdict signals bytes)) (bytes_of files name) h.unread h.long
-    (λ bytes. of_accepted P (made bytes) (text_verdict signals bytes) h.bad (all bytes))))
+    (λ files. inl (of_description_file P signals made (bytes_of files name) h.unread h.long h.bad all))
 
 -- what is printed of an outcome is what its verdict says
 printed_so : (Still : Type 0) (v : Verdict) (o : Outcome) (s : Status) (out out_new : SinkState) → Still → IsOutcome v o

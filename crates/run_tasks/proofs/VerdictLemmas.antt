@@ -16,7 +16,7 @@ use Rattle.run_tasks.specs.BuiltIn.{built_in}
 use Rattle.run_tasks.specs.Verdict.{Verdict, Play, ended, prints, over_server, over_relay, verdict_of_lines, verdict_of_script}
 use Rattle.description_migration.specs.Migration.{migrated_text}
 use Rattle.run_tasks.specs.Report.{report_of}
-use Rattle.run_tasks.specs.Verdict.{if_accepted, verdict_of_description, verdict_of_file, verdict_of_described, verdict_of_both}
+use Rattle.run_tasks.specs.Verdict.{if_accepted, verdict_of_description, verdict_of_description_file, verdict_of_file, verdict_of_described, verdict_of_both}
 use Rattle.run_tasks.specs.Verdict.{verdict_of_migrated, verdict_of_file_task}
 
 -- what holds of each ending of a task that asks its files alone, and of one that was refused
@@ -52,6 +52,14 @@ pub of_accepted : (P : Verdict → Type 0) (made : Description → Verdict) (v :
 of_accepted P made (Described d) bad all = all d
 of_accepted P made (Breaks n item) bad all = bad n item
 of_accepted P made NoDocument bad all = bad 0 0
+
+-- and of the verdict on its file
+pub of_description_file : (P : Verdict → Type 0) (signals : ℕ) (made : List ℕ → Description → Verdict) (file : Option (List ℕ))
+    → P (ended status.ReadFault) → P (ended status.TooLong) → ((n item : ℕ) → P (ended (status.BadDescription n item)))
+    → ((bytes : List ℕ) (d : Description) → P (made bytes d)) → P (verdict_of_description_file signals made file)
+of_description_file P signals made file unread long bad all =
+    of_file P (λ bytes. if_accepted (made bytes) (text_verdict signals bytes)) file unread long
+    (λ bytes. of_accepted P (made bytes) (text_verdict signals bytes) bad (all bytes))
 
 of_check : (P : Verdict → Type 0) → Holds P → (v : TextVerdict) → P (verdict_of_description v)
 of_check P h v = of_accepted P (λ d. prints (report_of d)) v h.bad (λ d. h.prints_ _)

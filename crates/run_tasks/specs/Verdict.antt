@@ -158,32 +158,18 @@ verdict_of_file_task waves (file_task.Load n) first second = verdict_of_load wav
 verdict_of_file_task waves (file_task.Migrate description) first second =
     verdict_of_file (verdict_of_migrate (length waves)) (bytes_of first description)
 
--- a client calls its server in the same process
-abbrev pub verdict_of_called : List Wave → ClientTask → ClientWords → TextVerdict → Verdict
-verdict_of_called waves what client verdict = if_accepted (λ d. CallsLocally (local_calling d waves what client)) verdict
-
-abbrev pub verdict_of_local : List Wave → ClientTask → ClientWords → List ℕ → Verdict
-verdict_of_local waves what client bytes = verdict_of_called waves what client (text_verdict (length waves) bytes)
-
--- a client asks a server over the link, or that of a description
+-- a client asks a server over the link, or that of a description in the same process
 abbrev pub verdict_of_ask : List Wave → ClientTask → ClientWords → PeerWords → List NamedFile → Verdict
 verdict_of_ask waves what client (peer.To to net) first =
     Calls (calling (own_address client) (asked_address net client) (call_asked what) to)
 verdict_of_ask waves what client (peer.Local description) first =
-    verdict_of_file (verdict_of_local waves what client) (bytes_of first description)
-
--- a client records from its server in the same process
-abbrev pub verdict_of_recorded : List Wave → RecordTask → TextVerdict → Verdict
-verdict_of_recorded waves what verdict = if_accepted (λ d. RecordsLocally (local_recording d waves what)) verdict
-
-abbrev pub verdict_of_recorded_text : List Wave → RecordTask → List ℕ → Verdict
-verdict_of_recorded_text waves what bytes = verdict_of_recorded waves what (text_verdict (length waves) bytes)
+    verdict_of_description_file (length waves) (λ bytes d. CallsLocally (local_calling d waves what client)) (bytes_of first description)
 
 -- a client records from a server over the link, or from that of a description
 abbrev pub verdict_of_record : List Wave → RecordTask → PeerWords → List NamedFile → Verdict
 verdict_of_record waves what (peer.To to net) first = Records (recording_to what net to)
 verdict_of_record waves what (peer.Local description) first =
-    verdict_of_file (verdict_of_recorded_text waves what) (bytes_of first description)
+    verdict_of_description_file (length waves) (λ bytes d. RecordsLocally (local_recording d waves what)) (bytes_of first description)
 
 -- words that are no command are told so
 abbrev pub verdict_of_task : List Wave → Option Task → List NamedFile → List NamedFile → Verdict

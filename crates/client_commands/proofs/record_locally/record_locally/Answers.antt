@@ -1,5 +1,5 @@
 -- The run ended before the server stood, or samples of it are recorded.
-use Rattle.std.proofs.Common.{List, ℕ, length, refl, subst, sym}
+use Rattle.std.proofs.Common.{List, ℕ, inl, inr, length, refl, subst, sym}
 use Rattle.ads_outside.specs.Rose.{Rose}
 use Rattle.spec_plant.specs.Description.{Description}
 use Rattle.type_layout.specs.Descriptions.{description_of}
@@ -11,7 +11,6 @@ use Rattle.run_tasks.proofs.ReadLemmas.{reads_one}
 use Rattle.client_commands.specs.CallUses.{keeper_used}
 use Rattle.client_commands.specs.Recording.{EndsLocalRecording}
 use Rattle.client_commands.proofs.LocalCoreLemmas.{ends_unopened, ends_opened}
-use Rattle.client_commands.proofs.RecordEndLemmas.{records_wanting, records_there}
 use Rattle.client_commands.proofs.record_locally.record_locally.Goals as goal
 
 pub returns-in-Err-clause-ends : goal.returns-in-Err-clause-ends
@@ -24,7 +23,8 @@ returns-in-Err-clause-ends g c =
     let made : List ℕ → Description → Verdict = λ bytes d. RecordsLocally (local_recording d waves c.args.what.now) in
     ends_unopened RecordsLocally (λ x. EndsLocalRecording x s out out_new keeper) (length waves) made c.args.description.now
     (g.F.Files.state c.args.files.now).held (Rose (g.F.Files.state c.args.files.now).faults (g.F.Files.state c.core_of_file.new.files).faults) s out out_new
-    (λ wants bytes d. records_wanting waves c.args.what.now d s out out_new keeper refl wants) (c.in-Err.ensures.ended made)
+    (λ wants bytes d. inr (record { made = local_recording d waves c.args.what.now; is = refl; comes = inl (tt, refl, wants) }))
+    (c.in-Err.ensures.ended made)
 
 pub returns-in-Ok-clause-ends : goal.returns-in-Ok-clause-ends
 returns-in-Ok-clause-ends g c =
@@ -35,12 +35,15 @@ returns-in-Ok-clause-ends g c =
     let keeper = keeper_used g.K.Keeper.state c.args.keeper.now c.record_core.new.keeper in
     let is = c.in-Ok.ensures.opened in
     let d = description_of is.read.description in
+    let x = local_recording d waves c.args.what.now in
     ends_opened RecordsLocally (λ x. EndsLocalRecording x s out out_new keeper) waves (λ bytes e. RecordsLocally (local_recording e waves c.args.what.now))
     c.args.description.now (g.F.Files.state c.args.files.now).held
     (Rose (g.F.Files.state c.args.files.now).faults (g.F.Files.state c.core_of_file.new.files).faults) s out out_new _ _ is
-    (records_there waves c.args.what.now d s out out_new keeper
-    (subst (λ o. EndsLocalRecording (local_recording d waves c.args.what.now) s o out_new keeper) c.in-Ok.ensures.silent
-    (c.record_core.ensures.ends d waves is.serves is.named)))
+    (inr (record {
+      made = x;
+      is = refl;
+      comes = subst (λ o. EndsLocalRecording x s o out_new keeper) c.in-Ok.ensures.silent (c.record_core.ensures.ends d waves is.serves is.named);
+    }))
 
 pub returns-in-Ok-clause-reads : goal.returns-in-Ok-clause-reads
 returns-in-Ok-clause-reads g c = reads_one c.record_core.result _ _ c.args.description.now c.in-Ok.ensures.read
