@@ -127,7 +127,7 @@ opened_facts x open_.Memory s out out_new link keeper opened counts before faile
 pub recording_facts : {O : Type 0} (x : ℕ → Calling) (s : Status) (out out_new : SinkState) (link : LinkUse O) (keeper : KeeperUse)
     → EndsRecording x s out out_new link keeper
     → CallFacts (λ t. CauseOfRecording x t link.old link.new keeper.old keeper.new) s out out_new
-recording_facts x s out out_new link keeper (inl h) = wanting_facts (Cause x link keeper) s out out_new tt h.1.1.0
+recording_facts x s out out_new link keeper (inl h) = wanting_facts (Cause x link keeper) s out out_new tt h.2.0
 recording_facts x s out out_new link keeper (inr h) =
     opened_facts x h.answer s out out_new link keeper h.opened h.counts h.later h.failed h.ended
 
@@ -186,6 +186,6 @@ pub own_recording : {O : Type 0} (x : ℕ → Calling) (s : Status) (out out_new
     → (Rose out.faults out_new.faults → ⊥) → (Rose link.old.faults link.new.faults → ⊥) → (Rose keeper.old.faults keeper.new.faults → ⊥)
     → EndsRecording x s out out_new link keeper
     → IsEndOfRecording x s link.new keeper.old.rows ⊎ ((s ≡ status.StoreLimit) × IsFull keeper.old.rows) ⊎ (s ≡ status.Memory)
-own_recording x s out out_new link keeper no_fault no_loss kept (inl h) = inr (inr h.1.1.0)
+own_recording x s out out_new link keeper no_fault no_loss kept (inl h) = inr (inr h.2.0)
 own_recording x s out out_new link keeper no_fault no_loss kept (inr h) =
     own_opened x h.answer s out out_new link keeper h.opened no_fault no_loss kept h.counts h.later h.failed h.ended

@@ -92,7 +92,7 @@ opened_facts x none open_.Memory s out out_new keeper opened counts before faile
 pub local_recording_facts : (x : ℕ → LocalCalling) → ((n : ℕ) → is_setting (x n).call ≡ false) → (s : Status) (out out_new : SinkState)
     (keeper : KeeperUse) → EndsLocalRecording x s out out_new keeper
     → CallFacts (λ t. CauseOfLocalRecording t keeper.old keeper.new) s out out_new
-local_recording_facts x none s out out_new keeper (inl h) = wanting_facts (Cause keeper) s out out_new tt h.1.1.0
+local_recording_facts x none s out out_new keeper (inl h) = wanting_facts (Cause keeper) s out out_new tt h.2.0
 local_recording_facts x none s out out_new keeper (inr h) = opened_facts x none h.answer s out out_new keeper h.opened h.counts h.later h.failed h.ended
 
 -- where nothing failed
@@ -145,6 +145,6 @@ own_opened x open_.Memory s out out_new keeper opened no_fault kept counts befor
 pub own_local_recording : (x : ℕ → LocalCalling) (s : Status) (out out_new : SinkState) (keeper : KeeperUse) → (Rose out.faults out_new.faults → ⊥)
     → (Rose keeper.old.faults keeper.new.faults → ⊥) → EndsLocalRecording x s out out_new keeper
     → IsEndOfLocalRecording x s keeper.old.rows ⊎ ((s ≡ status.StoreLimit) × IsFull keeper.old.rows) ⊎ (s ≡ status.Memory)
-own_local_recording x s out out_new keeper no_fault kept (inl h) = inr (inr h.1.1.0)
+own_local_recording x s out out_new keeper no_fault kept (inl h) = inr (inr h.2.0)
 own_local_recording x s out out_new keeper no_fault kept (inr h) =
     own_opened x h.answer s out out_new keeper h.opened no_fault kept h.counts h.later h.failed h.ended

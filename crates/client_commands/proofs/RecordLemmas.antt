@@ -122,7 +122,7 @@ opened_as A B still more open_.Memory s out out_new opened new gives so (same, i
 pub recording_as : (A B : ℕ → Left) (still more : Type 0) (s : Status) (out out_new : SinkState) (keeper : KeeperUse)
     → ((n : ℕ) (answer : Result RecordEnd NoMemory) (o p : Outlets) → A n answer o p → B n answer o p) → (still → more)
     → EndsAnyRecording A still s out out_new keeper → EndsAnyRecording B more s out out_new keeper
-recording_as A B still more s out out_new keeper gives so (inl h) = inl (so h.0, h.1)
+recording_as A B still more s out out_new keeper gives so (inl h) = inl (so h.0, h.1, h.2)
 recording_as A B still more s out out_new keeper gives so (inr h) = inr (record {
   answer = h.answer;
   opened = h.opened;
@@ -167,7 +167,7 @@ opened_not_before x open_.Memory s out out_new link opened new (still, same, lin
 
 pub recording_not_before : {O : Type 0} (x : ℕ → Calling) (s : Status) (out out_new : SinkState) (link : LinkUse O) (keeper : KeeperUse)
     → EndsRecording x s out out_new link keeper → IsBeforeRun s → ⊥
-recording_not_before x s out out_new link keeper (inl h) is = memory_not_before s h.1.1.0 is
+recording_not_before x s out out_new link keeper (inl h) is = memory_not_before s h.2.0 is
 recording_not_before x s out out_new link keeper (inr h) is = opened_not_before x h.answer s out out_new link h.opened keeper.new h.ended is
 
 -- nor as a reading that failed
