@@ -1,7 +1,8 @@
 #!/usr/bin/env python3
-"""A thousand connections that end in each way: what `ads serve` and `ads relay --listen` keep of them.
+"""A thousand connections that end in each way: what `ads serve` and `ads relay --listen`, or `adsd` in both profiles, keep of them.
 
     python3 bench/endings.py [PROGRAM] [--count N]
+    python3 bench/endings.py --adsd PROGRAM [--count N]
 
 For each way N connections (1,000) come, 32 at a time, and end so. Behind them a good client asks, and must be told each byte; the process must have as many descriptors
 and threads as before the first, and what it holds of memory is told before and behind. The program ends with 1 where anything is left over or a client is told otherwise.
@@ -15,6 +16,8 @@ import tempfile
 import time
 
 sys.dont_write_bytecode = True
+import held  # noqa: E402
+
 HERE = os.path.dirname(os.path.abspath(__file__))
 PROGRAM = os.path.join(HERE, "..", "crates", "ads", "out", "ads")
 PLANT = os.path.join(HERE, "..", "examples", "plant.toml")
@@ -164,8 +167,8 @@ class Process:
         with socket.socket() as free:
             free.bind(("127.0.0.1", 0))
             self.port = free.getsockname()[1]
-        words = [PROGRAM, command, description, "--listen", f"127.0.0.1:{self.port}", "--events", str(2 ** 64 - 1)]
-        self.process = subprocess.Popen(words, stdout=subprocess.PIPE)
+        words = [command, description, "--events", str(2 ** 64 - 1)] if command in ("serve", "relay") else [description, "--log", "none", "--profile", command]
+        self.process = subprocess.Popen([PROGRAM, *words, "--listen", f"127.0.0.1:{self.port}"], stdout=subprocess.PIPE)
         if self.process.stdout.readline() != b"listening\n":
             sys.exit(f"{command} does not listen")
 
@@ -173,21 +176,6 @@ class Process:
         s = socket.create_connection(("127.0.0.1", self.port), timeout=10.0)
         s.setsockopt(socket.IPPROTO_TCP, socket.TCP_NODELAY, 1)
         return s
-
-    def counts(self):
-        """Descriptors, threads, resident KiB."""
-        here = f"/proc/{self.process.pid}"
-        with open(f"{here}/status") as it:
-            kib = int(it.read().partition("VmRSS:")[2].split()[0])
-        return len(os.listdir(f"{here}/fd")), len(os.listdir(f"{here}/task")), kib
-
-    def settled(self, wanted):
-        """The counts, once as many descriptors are open as wanted, or after five seconds."""
-        for _ in range(500):
-            if self.counts()[0] == wanted:
-                break
-            time.sleep(0.01)
-        return self.counts()
 
     def asks(self, ask, want):
         """A good client, who is let in once the others are gone."""
@@ -197,23 +185,22 @@ class Process:
 
 
 def play(command, description, of, words_of, count):
-    """How many ways left something over."""
+    """How many ways left something over, of a command of `ads` or of a profile of `adsd`."""
     it, wrong = Process(command, description), 0
     try:
         it.asks(*words_of(TOGETHER))
         time.sleep(0.3)
-        before = it.counts()
+        before = held.counts(it.process.pid)
         for name, way in ways_of(of):
             for _ in range(count // TOGETHER + 1):
                 some = [it.open() for _ in range(TOGETHER)]
                 for k, s in enumerate(some):
                     way(s, *words_of(k))
-                it.settled(before[0])
+                held.settled(it.process.pid, before)
             it.asks(*words_of(TOGETHER))
-            left = it.settled(before[0])
-            good = left[:2] == before[:2]
-            wrong += not good
-            print(f"| {command} | {name.replace('_', ' ')} | {count // TOGETHER * TOGETHER + TOGETHER:,} | {left[0] - before[0]} | {left[1] - before[1]} | {left[2] - before[2]} |", flush=True)
+            left = held.left_over(it.process.pid, before)
+            wrong += left[:2] != (0, 0)
+            print(f"| {command} | {name.replace('_', ' ')} | {count // TOGETHER * TOGETHER + TOGETHER:,} | {' | '.join(map(str, left))} |", flush=True)
         if it.process.poll() is not None:
             print(f"{command} ended with {it.process.returncode}")
             wrong += 1
@@ -227,9 +214,12 @@ def main():
     global PROGRAM
     words = sys.argv[1:]
     count = int(words.pop(words.index("--count") + 1)) if "--count" in words else 1000
-    words = [word for word in words if word != "--count"]
+    of_daemon = "--adsd" in words
+    words = [word for word in words if word not in ("--count", "--adsd")]
     PROGRAM = os.path.abspath(words[0] if words else PROGRAM)
     print("| of | how the connections ended | how many | descriptors left over | threads | KiB more than before the first |\n|---|---|---|---|---|---|")
+    if of_daemon:
+        sys.exit(1 if sum(play(profile, PLANT, OfServer, of_server, count) for profile in ("strict", "wide")) else 0)
     wrong = play("serve", PLANT, OfServer, of_server, count)
     with tempfile.NamedTemporaryFile("w", suffix=".toml") as description:
         description.write(routes())

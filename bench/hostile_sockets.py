@@ -1,8 +1,10 @@
 """The hostile runs over sockets, for `python3 bench/hostile.py --adsd PATH`: scripts that need no clock, packets to a local router, and NetIds that no route names, on the
-daemon in both profiles. One daemon a round takes all runs, one behind another, and so does one model (bench/model.py); each byte must be the model's."""
+daemon in both profiles. One daemon a round takes all runs, one behind another, and so does one model (bench/model.py); each byte must be the model's, and behind all runs the
+daemon must have as many descriptors and threads as before the first."""
 import os
 import tempfile
 
+import held
 import hostile
 import model
 import random_runs
@@ -88,16 +90,19 @@ def round_of(program, folder, profile, others, has):
         return wide_runs.machine_of(d, profile, others, has)
 
     with wide_runs.served(program, folder, d, profile, others) as (it, port):
-        one = machine()
+        one, before = machine(), held.counts(it.pid)
         for name, runs in SUBJECTS.items():
             count, out, found = played(runs(), one, machine, port)
             counts = [counts[0] + count, counts[1] + out]
             wrong += [f"{name}: {it}" for it in found]
         if it.poll() is not None:
             wrong.append(f"it ended with {it.returncode}")
+        left = held.left_over(it.pid, before) if it.poll() is None else (0, 0, 0)
+        wrong += [held.told(left)] if left[:2] != (0, 0) else []
     for said in wrong[:10]:
         print(f"{profile}, other_routes {others or 'none'}: {said}")
-    print(f"{profile}, other_routes {others or 'none'}: {counts[0]} runs over sockets, {len(wrong)} otherwise; {counts[1]} go by the clock, and are played by scripts alone")
+    print(f"{profile}, other_routes {others or 'none'}: {counts[0]} runs over sockets, {len(wrong)} otherwise; {counts[1]} go by the clock, and are played by scripts alone; "
+          f"{held.told(left)}")
     return len(wrong)
 
 

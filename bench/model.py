@@ -790,11 +790,11 @@ class Routed(Server):
 
     def __init__(self, *given, **named):
         super().__init__(*given, **named)
-        self.own = self.net
+        self.router = self.net
 
     def take(self, conn):
         if not conn.passed:
-            answer, conn.stream, conn.passed = router_answer(self.own, conn.stream)
+            answer, conn.stream, conn.passed = router_answer(self.router, conn.stream)
             if answer:
                 queued(conn, answer)
         if conn.passed:

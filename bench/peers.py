@@ -1,14 +1,17 @@
 #!/usr/bin/env python3
-"""Peers that behave badly against `ads serve`, and what the others get meanwhile.
+"""Peers that behave badly against `ads serve`, or `adsd` in a profile, and what the others get meanwhile.
 
 Build the program first: in crates/ads, `rt run -- selftest ../../examples/state.script`. Each scene starts with a good client that asks for the state and reads a
 value, before and after, and compares every byte. One line a scene: `ok` or what came. The program ends with 1 where a scene differs.
 
 The scenes of the last group are played while 40 further connections ask without end. In two scenes the server's own clocks are set forward (bench/set_clocks.c, which gcc builds), so
-that five minutes pass at once; where this program may do so (as root), one has its peers vanish without a word, by TCP repair.
+that five minutes pass at once; where this program may do so (as root), one has its peers vanish without a word, by TCP repair. The profile `wide` has three scenes more,
+of peers that ask a local AMS router. Behind each group descriptors and threads must be as many as before; what the process grew by is told.
 
-python3 bench/peers.py [PROGRAM]
+python3 bench/peers.py [PROGRAM] [--short]
+python3 bench/peers.py --adsd PROGRAM [--profile strict|wide] [--short]      without a profile both; --short leaves out the scenes in which seconds must pass
 """
+import argparse
 import contextlib
 import os
 import selectors
@@ -19,8 +22,10 @@ import sys
 import tempfile
 import time
 
+sys.dont_write_bytecode = True
+import held  # noqa: E402
+
 HERE = os.path.dirname(os.path.abspath(__file__))
-PROGRAM = os.path.abspath(sys.argv[1]) if len(sys.argv) > 1 else os.path.join(HERE, "..", "crates", "ads", "out", "ads")
 PLANT = os.path.join(HERE, "..", "examples", "plant.toml")
 NET = bytes([5, 1, 2, 3, 1, 1])
 ME = bytes([192, 168, 0, 9, 1, 1])
@@ -48,12 +53,15 @@ COUNT_REPLY = reply(2, 2, struct.pack("<II", 0, 2) + struct.pack("<H", 1000))
 
 
 class Server:
+    """The program that is tried. `program` and `profile` are set by the words; `profile` is none for `ads serve`."""
+    program, profile = os.path.join(HERE, "..", "crates", "ads", "out", "ads"), None
+
     def __init__(self, plant=PLANT, **more):
         with socket.socket() as s:
             s.bind(("127.0.0.1", 0))
             self.port = s.getsockname()[1]
-        self.process = subprocess.Popen([PROGRAM, "serve", plant, "--listen", f"127.0.0.1:{self.port}", "--events",
-                                         "18446744073709551615"], stdout=subprocess.PIPE, **more)
+        words = [plant, "--log", "none", "--profile", self.profile] if self.profile else ["serve", plant, "--events", "18446744073709551615"]
+        self.process = subprocess.Popen([self.program, *words, "--listen", f"127.0.0.1:{self.port}"], stdout=subprocess.PIPE, **more)
         said = self.process.stdout.readline()
         if said != b"listening\n":
             sys.exit(f"the server said {said!r}")
@@ -62,14 +70,6 @@ class Server:
         s = socket.create_connection(("127.0.0.1", self.port), timeout=seconds)
         s.setsockopt(socket.IPPROTO_TCP, socket.TCP_NODELAY, 1)
         return s
-
-    def descriptors(self):
-        return len(os.listdir(f"/proc/{self.process.pid}/fd"))
-
-    def resident(self):
-        for line in open(f"/proc/{self.process.pid}/status"):
-            if line.startswith("VmRSS"):
-                return int(line.split()[1])
 
     def stop(self):
         self.process.kill()
@@ -446,50 +446,103 @@ def load(server, count=40):
         os.waitpid(child, 0)
 
 
+ASKS_NET, TELLS_NET = bytes.fromhex("021000000000"), bytes.fromhex("021006000000") + NET
+
+
+def many_to_a_router(server):
+    """A peer asks a local router for its NetId without end, and sends a frame behind it all."""
+    with server.open() as s:
+        s.sendall(ASKS_NET * 10000 + STATE)
+        want = TELLS_NET * 10000 + STATE_REPLY
+        got = take(s, len(want))
+        return None if got == want else f"{len(got)} bytes"
+
+
+def part_of_a_router_packet(server):
+    """Peers that send the first bytes of such a packet and wait, are reset, or go on with what is none."""
+    for cut in range(1, len(ASKS_NET)):
+        with server.open() as s:
+            s.sendall(ASKS_NET + ASKS_NET[:cut])
+            if take(s, len(TELLS_NET)) != TELLS_NET or waits(s, 0.05):
+                return f"{cut} bytes of a packet were answered"
+            s.setsockopt(socket.SOL_SOCKET, socket.SO_LINGER, struct.pack("ii", 1, 0))
+    with server.open() as s:
+        s.sendall(ASKS_NET[:2] + b"\xff" * 100)
+        got = ends(s)
+        return None if got == b"" else got.hex()
+
+
+def router_never_read(server):
+    """A peer that asks for far more of a router than is queued for it, and never reads: the other is served all the while."""
+    with server.open() as s, server.open() as other:
+        s.settimeout(0.2)
+        with contextlib.suppress(ConnectionError, TimeoutError, socket.timeout):
+            for _ in range(60):
+                s.sendall(ASKS_NET * 20000)
+                wrong = good(other)
+                if wrong:
+                    return wrong
+        return good(other)
+
+
 SCENES = [byte_by_byte, many_in_one_piece, half_closed, reset_in_mid_frame, broken_frame, unknown_route, sixty_five,
           notifications, reload, silent_longest, vanished]
+ROUTED = [many_to_a_router, part_of_a_router_packet, router_never_read]
 LARGE = [half_closed_large, never_reads, full_socket]
 LOADED = [two_in_one_write, half_closed, half_closed_large, full_socket, notifications_in_time]
+SLOW = {reload, silent_longest, vanished}
 
 
 def play(server, scenes, name=""):
     """How many scenes went wrong."""
     wrong = 0
     with server.open() as s:
-        first = good(s)
-        fds, kib = server.descriptors(), server.resident()
+        first, before = good(s), held.counts(server.process.pid)
         for scene in scenes:
             said = first or scene(server) or good(s)
             print(f"{scene.__name__ + name:36}", said or "ok", flush=True)
             wrong += said is not None
-        for _ in range(30):
-            if server.descriptors() == fds:
-                break
-            time.sleep(0.1)
-        left = server.descriptors() - fds
-        print(f"{'descriptors left over':36}", left)
-        print(f"{'resident KiB, grown by':36}", server.resident() - kib)
-        return wrong + (left != 0)
+        left = held.left_over(server.process.pid, before)
+        print(f"{'behind them':36}", held.told(left), flush=True)
+        return wrong + (left[:2] != (0, 0))
 
 
-def main():
-    wrong = 0
-    large = open(PLANT).read().replace("data = 128", "data = 1000000")
+def play_all(is_short):
+    """How many scenes of this program went wrong."""
+    wrong, large = 0, open(PLANT).read().replace("data = 128", "data = 1000000")
+    small = [it for it in SCENES if not is_short or it not in SLOW] + (ROUTED if Server.profile == "wide" else [])
     with tempfile.NamedTemporaryFile("w", suffix=".toml") as it:
         it.write(large)
         it.flush()
-        for plant, scenes in ((PLANT, SCENES), (it.name, LARGE), (it.name, None)):
+        for plant, scenes in ((PLANT, small), (it.name, LARGE), (it.name, None)):
             server = Server(plant)
-            if scenes:
-                wrong += play(server, scenes)
-            else:
-                with load(server):
-                    wrong += play(server, LOADED, ", under load")
-            if server.process.poll() is not None:
-                print("the server ended with", server.process.returncode)
-                wrong += 1
-            server.stop()
+            try:
+                if scenes:
+                    wrong += play(server, scenes)
+                else:
+                    with load(server):
+                        wrong += play(server, LOADED, ", under load")
+                if server.process.poll() is not None:
+                    print("the server ended with", server.process.returncode)
+                    wrong += 1
+            finally:
+                server.stop()
+    return wrong
+
+
+def main():
+    it = argparse.ArgumentParser(description=__doc__, formatter_class=argparse.RawDescriptionHelpFormatter)
+    it.add_argument("program", nargs="?", default=Server.program)
+    it.add_argument("--adsd")
+    it.add_argument("--profile", choices=("strict", "wide"))
+    it.add_argument("--short", action="store_true")
+    given, wrong = it.parse_args(), 0
+    Server.program = os.path.abspath(given.adsd or given.program)
+    for Server.profile in ([given.profile] if given.profile else ["strict", "wide"]) if given.adsd else [None]:
+        print(f"{os.path.basename(Server.program)} {Server.profile or 'serve'}")
+        wrong += play_all(given.short)
     sys.exit(1 if wrong else 0)
 
 
-main()
+if __name__ == "__main__":
+    main()

@@ -4,6 +4,7 @@ then what it printed is a beginning of what it prints with memory, and behind it
 for what the run saves; that of a run that records must have the rows that stood and a first part of those of the whole run, with their totals, as Python's sqlite3 reads them.
 
     python3 bench/refused_memory.py [--program PATH] [--most N] [--run WORD]
+    python3 bench/refused_memory.py --adsd PATH [--most N] [--run WORD]          runs of the daemon, of bench/refused_daemon.py
 
 Build the program first: in crates/ads, `rt run -- selftest ../../examples/state.script`. The runs are those below; of one with more than N calls for memory
 (2,000 unless told) every k-th fails. It prints a table, and ends with 1 where anything else came.
@@ -100,9 +101,9 @@ class Peer(threading.Thread):
             conn.sendall(b"".join(bytes.fromhex(line.split()[2]) for line in lines if line.startswith("out ")))
 
 
-def built(folder):
-    shim = os.path.join(folder, "fail_nth.so")
-    subprocess.run(["cc", "-O2", "-shared", "-fPIC", "-o", shim, os.path.join(HERE, "fail_nth.c"), "-ldl"], check=True)
+def built(folder, name="fail_nth"):
+    shim = os.path.join(folder, f"{name}.so")
+    subprocess.run(["cc", "-O2", "-shared", "-fPIC", "-o", shim, os.path.join(HERE, f"{name}.c"), "-ldl"], check=True)
     return shim
 
 
@@ -216,9 +217,15 @@ def main():
     it.add_argument("--program", default=PROGRAM)
     it.add_argument("--most", type=int, default=2000)
     it.add_argument("--run", default="", help="only the runs whose name has this word")
+    it.add_argument("--adsd")
     given = it.parse_args()
     program, wrong = os.path.abspath(given.program), 0
-    print("| run | calls for memory | failed in turn | as usual | status 10 | wrong |\n|---|---|---|---|---|---|")
+    print("| run | calls for memory | failed in turn | as usual | status 10 | wrong |\n|---|---|---|---|---|---|", flush=True)
+    if given.adsd:
+        import refused_daemon  # noqa: PLC0415
+        with tempfile.TemporaryDirectory() as folder:
+            shims = [built(folder), built(folder, "set_clocks")]
+            return 1 if refused_daemon.main(os.path.abspath(given.adsd), shims, given.most, given.run) else 0
     peer = Peer()
     peer.start()
     with tempfile.TemporaryDirectory() as folder:

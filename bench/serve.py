@@ -62,9 +62,9 @@ def request(kind, first, r):
     return {"s": (4, b""), "r": (2, by_group), "h": (2, by_handle), "w": (3, by_group + given), "W": (3, by_handle + given)}[kind]
 
 
-def plan(k, once, again, ticks=0):
+def plan(k, once, again, ticks=0, wide=False):
     """The plan of connection k (see serve_client.c). What is asked again and again is asked once before, so that each time finds what the last one left."""
-    server, asks = model.Server(plant(OWN * k, OWN), [range(1000)]), []
+    server, asks = model.Server(plant(OWN * k, OWN), [range(1000)], wide), []
     model.turn(server, ("open", 1), [])
     client, head = server.conns[1], model.net_of(NET) + model.u16(851) + model.net_of(ME) + model.u16(32905 + k)
     for number, (command, payload) in enumerate(once + again + again):
@@ -88,9 +88,9 @@ def plan_of_load(k, kinds):
     return plan(k, once, [request(kind, first, r) for kind in kinds])
 
 
-def plan_all(plan_of):
+def plan_all(plan_of, count=CONNECTIONS):
     pathlib.Path("plan").unlink(missing_ok=True)
-    pathlib.Path("plan").write_bytes(b"".join(map(plan_of, range(CONNECTIONS))))
+    pathlib.Path("plan").write_bytes(b"".join(map(plan_of, range(count))))
 
 
 def compile_c(name):
