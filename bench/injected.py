@@ -73,11 +73,11 @@ class Spot:
 
     def __init__(self, folder, call=None, fault=None, at=0):
         self.folder, self.call, self.fault, self.at = pathlib.Path(folder), call, fault, at
-        self.trace, self.is_kill, self.goes_on = self.folder / "trace", fault == "KILL", fault == "EIO from there on"
+        self.trace, self.is_kill, self.goes_on, self.missed = self.folder / "trace", fault == "KILL", fault == "EIO from there on", False
 
     def words(self, *names):
-        """The words before a program's: strace looks at its calls on these files of the folder, and on the folder."""
-        paths = [word for path in (*(self.folder / name for name in names), self.folder) for word in ("-P", str(path))]
+        """The words before a program's: strace looks at its calls on these files of the folder."""
+        paths = [word for name in names for word in ("-P", os.path.normpath(self.folder / name))]
         inject = ["-e", f"inject={self.call}:{FAULTS[self.fault].format(self.at)}"] if self.call else []
         faster = [] if self.is_kill else ["--seccomp-bpf"]    # (with it, strace does not send the signal)
         return ["strace", "-D", "-f", *faster, "-q", "-e", "signal=KILL", "-e", f"trace={','.join(CALLS)}", *inject, *paths, "-o", str(self.trace), "--"]
@@ -97,7 +97,10 @@ class Spot:
         return re.findall(r"^(\d+) +(\w+)\(", self.said(process), re.M)
 
     def is_hit(self, process):
-        return "(INJECTED)" in self.said(process) or self.is_kill and "+++ killed by SIGKILL" in self.said(process)
+        """Whether the run came to the call; a run has not always as many as the first."""
+        is_hit = self.call and ("(INJECTED)" in self.said(process) or self.is_kill and "+++ killed by SIGKILL" in self.said(process))
+        self.missed = self.call and not is_hit
+        return is_hit
 
 
 # The store of `keep`.
@@ -141,7 +144,7 @@ class Keep:
         (spot.folder / "it.script").write_text("".join(line[2:] + "\n" for event in self.events for line in hostile.lines_of(event, "")))
         if self.before:
             (spot.folder / "store").write_bytes(self.before)
-        it, out = self.ran(spot.folder, spot.words("store"))
+        it, out = self.ran(spot.folder, spot.words("store", "."))
         kinds = Kinds(self.before)
         store.kept(hostile.PLANT, hostile.SIGNALS, self.events, kinds)
         if not spot.call:
@@ -182,33 +185,36 @@ build = 0
 data = 64
 """ + "".join(f'[[port.symbol]]\nname = "Kept.a{k}"\ntype = "UDINT"\narea = "data"\noffset = {4 * k}\npersistent = true\n' for k in range(PARTS))
 ANOTHER = PLANT.replace("Kept.a0", "Kept.b0")
-STORE = ("kept", "kept.lock", "kept.before", "kept.before.new")
+STORE = ("kept", "kept.lock", "kept.before", "kept.before.new", ".")
+KEEPS = ("--store", "kept", "--save-each", "1")
 
 
 class Run:
     """A run of the daemon under strace, or without it."""
 
-    def __init__(self, stack, program, folder, words=(), plant=PLANT, more=("--save-each", "1")):
+    def __init__(self, stack, program, folder, words=(), plant=PLANT, more=KEEPS):
         self.folder, self.log = folder, folder / "log"
         self.log.unlink(missing_ok=True)
         (folder / "it.toml").write_text(plant)
         port, stderr = daemon.free_port(), stack.enter_context(open(self.log, "wb"))
-        given = [*words, program, "it.toml", "--listen", f"127.0.0.1:{port}", "--store", str(folder / "kept"), "--status", str(folder / "status.prom"), *more]
+        more = [str(folder / word) if word == "kept" else word for word in more]
+        given = [*words, program, "it.toml", "--listen", f"127.0.0.1:{port}", "--status", str(folder / "status.prom"), *more]
         self.it = daemon.Daemon(stack, given[0], given[1:], bare=True, listens=False, folder=str(folder), port=port, stderr=stderr)
         self.listens, self.link = self.it.process.stdout.readline() == b"listening\n", None
         if self.listens:
-            self.link = stack.enter_context(self.it.link())
+            with contextlib.suppress(ConnectionError):
+                self.link = stack.enter_context(self.it.link())
 
     def lines(self, part):
         return [line for line in self.log.read_text(errors="replace").splitlines() if part in line]
 
     def ask(self, number, command, payload):
         """The answer's payload behind its result; None where the daemon is gone."""
-        try:
-            self.link.sendall(daemon.frame(number, command, payload))
-            got = daemon.reply(self.link)
-        except OSError:
-            got = None
+        got = None
+        with contextlib.suppress(OSError):
+            if self.link:
+                self.link.sendall(daemon.frame(number, command, payload))
+                got = daemon.reply(self.link)
         see(got is None or got[0] == number and got[1][:4] == bytes(4), f"a request was answered by {got!r}")
         return got and got[1][4:]
 
@@ -268,14 +274,20 @@ class Adsd:
             before = len(run.lines("saved "))
             if not run.write(number):
                 return number, saved
-            if run.waits(lambda: len(run.lines("saved ")) > before, 2.5 if spot.goes_on else 30):
+            run.waits(lambda: len(run.lines("saved ")) > before or self.stands_anyway(run, spot, number), 2.5 if spot.goes_on else 30)
+            if len(run.lines("saved ")) > before:
                 saved = number
-            else:
+            elif not self.stands_anyway(run, spot, number):
                 see(run.it.process.poll() is not None or spot.goes_on, f"{number} was written, and not saved in 30 seconds: {run.lines('')[-3:]}")
         return number, saved
 
+    @staticmethod
+    def stands_anyway(run, spot, number):
+        """Whether a save that failed stands in the file: where its last sync failed, the next look finds nothing to save."""
+        return run.lines("store fault") and set(values_in(spot.folder).values()) == {number}
+
     def judged(self, run, spot, status, number, saved):
-        stands, was_hit = one_moment(values_in(spot.folder)), spot.call and spot.is_hit(run.it.process)
+        stands, was_hit = one_moment(values_in(spot.folder)), spot.is_hit(run.it.process)
         see(saved <= stands <= number, f"the store has {stands}, where {saved} was saved and {number} was written last")
         if not was_hit or spot.is_kill:
             is_right = status == (-signal.SIGKILL if was_hit else 0) and (was_hit or stands == number)
@@ -292,7 +304,10 @@ class Adsd:
         see(stands == number, f"status 0, and {stands} stands, where {number} was written")
         if not run.lines("store fault"):
             return "saved as usual"
-        see(faults and int(faults[1]) > 0 and run.lines("the store takes saves"), f"{faults and faults[0]}, and the log says {run.lines('store')}")
+        see(faults and int(faults[1]) > 0, f"{faults and faults[0]}, and the log says {run.lines('store')}")
+        if saved < number and not run.lines("the store takes saves"):
+            return "store fault, counted, and the failed save stands"
+        see(run.lines("the store takes saves"), f"the log says {run.lines('store')}")
         return "store fault, counted, saved later"
 
     def again(self, spot, number):
@@ -325,7 +340,9 @@ class Gone(Adsd):
             if run.listens:
                 run.waits(lambda: run.lines("saved "), 2.5 if spot.goes_on else 30)
             status, _ = run.stopped()
-            see(status in (0, 14, -signal.SIGKILL), f"status {status}: {run.lines('')[-3:]}")
+            was_hit = spot.is_hit(run.it.process)
+            ends = (-signal.SIGKILL,) if was_hit and spot.is_kill else (0, 14) if was_hit else (0,)
+            see(status in ends, f"status {status}: {run.lines('')[-3:]}")
             return f"status {status}, {self.kept(spot, run)}"
 
     def kept(self, spot, run):
@@ -347,13 +364,13 @@ class StatusFile(Adsd):
 
     def go(self, spot):
         with contextlib.ExitStack() as stack:
-            run = Run(stack, self.program, spot.folder, spot.words("status.prom", "status.prom.new"))
-            see(run.listens, f"it does not listen: {run.lines('')}")
+            run = Run(stack, self.program, spot.folder, spot.words("status.prom", "status.prom.new"), more=())
+            see(run.listens or spot.is_kill, f"it does not listen: {run.lines('')}")
             for _ in range(10):
                 see(run.read() is not None or spot.is_kill, "it does not serve")
                 time.sleep(0.1)
             status, _ = run.stopped()
-            was_hit, file = spot.call and spot.is_hit(run.it.process), spot.folder / "status.prom"
+            was_hit, file = spot.is_hit(run.it.process), spot.folder / "status.prom"
             see(status == (-signal.SIGKILL if was_hit and spot.is_kill else 0), f"status {status}: {run.lines('')[-3:]}")
             text = file.read_text() if file.exists() else None
             see(text is None or re.search(r"^adsd_log_lines_lost_total \d+\n\Z", text, re.M), f"a part of the status file stands there: {text!r}")
@@ -368,14 +385,14 @@ def copied(folder, names, to):
     """A copy of a database with what stands beside it, so that a look at it changes nothing."""
     os.makedirs(to)
     for name in names:
-        if (folder / name).exists():
+        if (folder / name).is_file():
             shutil.copy(folder / name, to)
     return pathlib.Path(to, names[0])
 
 
 class Record:
     """`ads record` over the server in the same process, whose samples are the same each time."""
-    FILES = ("it.db", "it.db-wal", "it.db-shm", "it.db-journal")
+    FILES = ("it.db", "it.db-wal", "it.db-shm", "it.db-journal", ".")
 
     def __init__(self, ads, is_on_top):
         self.ads, self.name, self.stood, self.before = ads, "record on top" if is_on_top else "record", [], None
@@ -406,7 +423,7 @@ class Record:
         if self.before:
             (spot.folder / "it.db").write_bytes(self.before)
         it, out = self.ran(spot.folder, spot.words(*self.FILES))
-        was_hit, rows = spot.call and spot.is_hit(it), self.rows_in(spot.folder)
+        was_hit, rows = spot.is_hit(it), self.rows_in(spot.folder)
         ends = {(0, self.usual)} | ({(-signal.SIGKILL, "")} if spot.is_kill else {(16, "ads: keeper fault\n")} if was_hit else set())
         see((it.returncode, out) in ends, f"status {it.returncode} and {out[-100:]!r}")
         see(len(self.stood) <= len(rows) and rows == self.rows[:len(rows)], f"{len(rows)} rows, where {len(self.stood)} stood: {rows[-2:]}")
@@ -420,7 +437,7 @@ class Record:
 
 class History:
     """tools/history.py into an SQLite file, of a server that counts its ticks."""
-    name, FILES, SECONDS = "history", ("it.db", "it.db-wal", "it.db-shm", "it.db-journal"), 2
+    name, FILES, SECONDS = "history", Record.FILES, 2
 
     def ran(self, spot, plant, words=()):
         given = ["record", "GVL.*", "--to", plant.to, "--netid", NET, "--me", ME, "--mode", "cycle", "--cycle", "0", "--sqlite", str(spot.folder / "it.db")]
@@ -447,7 +464,7 @@ class History:
     def go(self, spot):
         with FakePlant({f"GVL.v{k}": "DINT" for k in range(4)}) as plant:
             it, out, err = self.ran(spot, plant, spot.words(*self.FILES))
-            was_hit, history = spot.call and spot.is_hit(it), self.read(spot)
+            was_hit, history = spot.is_hit(it), self.read(spot)
             seen = self.judged(spot, was_hit, it.returncode, out, err, history)
             again, out, err = self.ran(spot, plant)
             see(again.returncode == 0, f"the next run ends with {again.returncode}: {err[-300:]}")
@@ -479,7 +496,9 @@ def tried(scene, call, fault, at):
     """What was seen of a run; a text that begins with `WRONG` where it differs."""
     with tempfile.TemporaryDirectory(prefix="injected-") as folder:
         try:
-            return scene.go(Spot(folder, call, fault, at))
+            spot = Spot(folder, call, fault, at)
+            seen = scene.go(spot)
+            return "not reached" if spot.missed else seen
         except (Differs, Wrong, daemon.Failed, recorded.Differs, OSError, ValueError, sqlite3.Error, subprocess.SubprocessError) as why:
             return f"WRONG: {type(why).__name__}: {why}"
 

@@ -9,6 +9,8 @@ import concurrent.futures
 import contextlib
 import os
 import pathlib
+import re
+import select
 import signal
 import socket
 import struct
@@ -24,7 +26,8 @@ import store
 from hostile import add, ask, frame, head, read, state, sum_of, write
 from random_runs import toml_of
 
-LINE = b"ads: memory\n"
+# What may be printed where memory ran out: the first lines, and the first letters of the last one.
+PRINTED = re.compile(r"(listening\n)?(connections [a-z0-9 ]+\n(saved \d+\n)?)?(" + "".join(f"({letter}" for letter in "ads: memory\n") + ")?" * 12 + ")?")
 NAME, TITLE, PLACE = b"Main.count", b"Main.title", 72
 OLD, NEW = b"Old\0\0\0\0\0", b"New\0\0\0\0\0"
 MOMENT = slice(46, 54)
@@ -171,10 +174,10 @@ class Try:
             raise Over
 
     def waits(self, what, seconds):
-        """Whether the log comes to have these words."""
+        """Whether the log comes to have these words, or to tell that lines of it are lost."""
         until = time.monotonic() + seconds
         while time.monotonic() < until:
-            if what in self.log():
+            if what in self.log() or " lines lost" in self.log():
                 return True
             if self.it.process.poll() is not None:
                 raise Over
@@ -185,16 +188,19 @@ class Try:
         self.waits("saved ", 3)
 
     def reload(self, d):
-        """Another description takes the place of the first, and seconds pass for the daemon until it is taken."""
+        """Another description takes the place of the first, and seconds pass for the daemon until it is taken. Where no call for memory succeeds any more, the
+        first may be served on."""
         (self.folder / "new").write_text(toml_of(d))
         os.replace(self.folder / "new", self.folder / "it.toml")
-        for _ in range(5):
+        for _ in range(2 if self.on else 5):
             self.clock += 2
-            (self.folder / "clock").write_bytes(struct.pack("<qq", 0, self.clock))
-            if self.waits("reload accepted", 2):
+            with open(self.folder / "clock", "r+b") as it:    # (in place: the daemon has it mapped)
+                it.write(struct.pack("<qq", 0, self.clock))
+            if self.waits("reload accepted", 2) or select.select([self.link], [], [], 0)[0]:
                 self.hears(b"", self.told(("reload", d)), MOMENT)
                 return
-        raise Wrong("the new description was not taken in five looks")
+        if not self.on:
+            raise Wrong("the new description was not taken in five looks")
 
     # How it ended.
 
@@ -208,7 +214,7 @@ class Try:
             raise Wrong(f"it ended with {status}")
         if status == 0 and (is_over or not daemon.SUMMARY.match(out[len("listening\n"):])):
             raise Wrong(f"it ended with 0, printed {out!r} and {'closed a connection' if is_over else 'served all'}")
-        if status == 10 and not any(out == begun + LINE[:cut].decode() for begun in ("", "listening\n") for cut in range(len(LINE) + 1)):
+        if status == 10 and not PRINTED.fullmatch(out):
             raise Wrong(f"it ended with 10 and printed {out!r}")
         if self.run.stands:
             self.store_is_right(status)
