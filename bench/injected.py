@@ -424,8 +424,10 @@ class Record:
             (spot.folder / "it.db").write_bytes(self.before)
         it, out = self.ran(spot.folder, spot.words(*self.FILES))
         was_hit, rows = spot.is_hit(it), self.rows_in(spot.folder)
-        ends = {(0, self.usual)} | ({(-signal.SIGKILL, "")} if spot.is_kill else {(16, "ads: keeper fault\n")} if was_hit else set())
+        # One that is killed has printed nothing, or all where it was killed at its last calls, and then all rows stand.
+        ends = {(0, self.usual)} | ({(-signal.SIGKILL, ""), (-signal.SIGKILL, self.usual)} if spot.is_kill else {(16, "ads: keeper fault\n")} if was_hit else set())
         see((it.returncode, out) in ends, f"status {it.returncode} and {out[-100:]!r}")
+        see(out != self.usual or rows == self.rows, f"all was printed of {len(rows)} rows of {len(self.rows)}")
         see(len(self.stood) <= len(rows) and rows == self.rows[:len(rows)], f"{len(rows)} rows, where {len(self.stood)} stood: {rows[-2:]}")
         see(it.returncode or rows == self.rows, f"status 0 and {len(rows)} rows of {len(self.rows)}")
         again, out = self.ran(spot.folder)
