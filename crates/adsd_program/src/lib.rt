@@ -7,6 +7,7 @@ mod log_board;
 mod log_notes;
 mod plant_judge;
 mod process;
+mod read_before;
 mod real_names;
 mod real_outlet;
 mod serving;

@@ -3,15 +3,16 @@
 ghost use Rattle.std.specs.Prelude.{◌≡◌, option_map};
 ghost use Rattle.adsd_program.specs.Profiles.{manner_said, rights_said};
 
-use crate::kept_body::{first_body, net_in, standing_body};
+use crate::kept_body::{first_body, net_in, standing_body, unopened_sentence};
 use crate::log_board::LogBoard;
 use crate::log_notes::LogNotes;
 use crate::plant_judge::PlantJudge;
+use crate::read_before::ReadBefore;
 use crate::real_names::RealNames;
 use crate::real_outlet::RealOutlet;
 use ads_base::{ListOf, NetId, NoMemory, Octets};
 use ads_edge::{AllowedNet, RealFiles, RealWire, given_doors};
-use ads_outside::{Files, Got, Sink};
+use ads_outside::Sink;
 use cli_words::Text;
 use daemon_edge::{LockFault, SignalStop, StatusFile, StoreLock, SystemdBeacon, moment_now};
 use daemon_entries::{count_in, unfit_names};
@@ -23,7 +24,7 @@ use daemon_words::{IpNet, LogForm, OthersWord, ProfileWord, Setup};
 use local_router::Routed;
 use port_device::Manner;
 use real_disk::RealDisk;
-use run_tasks::{Status, end_without_memory, print_and_end};
+use run_tasks::{Status, end_without_memory, print_and_end, print_line};
 use server_core::Profile;
 use signals::Signal;
 use std::thread::Threads;
@@ -36,8 +37,8 @@ type RealLog = Chronicle<RealNames, PlantJudge, RealOutlet, SystemdBeacon, Statu
 /// The wire of a daemon, with what looks on.
 type RealWatched = Watched<Routed<RealWire<HostRuntime>>, SignalStop<HostRuntime>, RealLog>;
 
-/// Serves the plant of a setup until it is stopped. A store that another daemon keeps, and a signal that can't be made, end it
-/// with a sentence on standard error before anything is opened.
+/// Serves the plant of a setup until it is stopped. A store that another daemon keeps or that can't be opened, and a signal that
+/// can't be made, end it with a sentence on standard error before anything is served.
 pub(crate) fn serve_setup<T: Threads + Sync, S: Sink, E: Sink>(
     rt: &HostRuntime,
     threads: &T,
@@ -76,10 +77,7 @@ fn serve_locked<T: Threads + Sync, S: Sink, E: Sink>(
     let mut recordings = SqliteRecordings::new(*rt);
     match read_sources(rt.alloc(), setup.signals.as_slice(), files, &mut recordings) {
         Err(fault) => tell_source(rt, &fault, err),
-        Ok(list) => match serve_logged(rt, threads, setup, list, files, out) {
-            Ok(status) => status,
-            Err(NoMemory) => end_without_memory(out),
-        },
+        Ok(list) => serve_kept(rt, threads, setup, list, out, err),
     }
 }
 
@@ -101,18 +99,76 @@ fn status_of_trouble(trouble: Trouble) -> Status {
     }
 }
 
-// Serves with a log.
-fn serve_logged<T: Threads + Sync, S: Sink>(
+// Serves with what stands in the store, which is read once: where the disk failed, nothing is served.
+fn serve_kept<T: Threads + Sync, S: Sink, E: Sink>(
     rt: &HostRuntime,
     threads: &T,
     setup: &Setup,
     list: ListOf<Played>,
-    files: &mut RealFiles<HostRuntime>,
+    out: &mut S,
+    err: &mut E,
+) -> Status {
+    match &setup.store {
+        None => serve_body(rt, threads, setup, &[], list, out),
+        Some(store) => match standing_body(rt, store.as_str()) {
+            Err(NoMemory) => end_without_memory(out),
+            Ok(None) => tell_unopened(rt, store, out, err),
+            Ok(Some(body)) => serve_body(rt, threads, setup, body.as_slice(), list, out),
+        },
+    }
+}
+
+// That the store can't be opened is told.
+fn tell_unopened<S: Sink, E: Sink>(
+    rt: &HostRuntime,
+    store: &Text,
+    out: &mut S,
+    err: &mut E,
+) -> Status {
+    if let Ok(text) = unopened_sentence(rt.alloc(), store.as_str()) {
+        let _ = print_and_end(err, text.as_slice(), Status::StoreFault);
+    }
+    print_line(rt.alloc(), Status::StoreFault, out)
+}
+
+// Serves with this body of the store.
+fn serve_body<T: Threads + Sync, S: Sink>(
+    rt: &HostRuntime,
+    threads: &T,
+    setup: &Setup,
+    body: &[u8],
+    list: ListOf<Played>,
+    out: &mut S,
+) -> Status {
+    match serve_logged(rt, threads, setup, body, list, out) {
+        Ok(status) => status,
+        Err(NoMemory) => end_without_memory(out),
+    }
+}
+
+// Serves with a log. The description is read once, for the server and for all that is told of it.
+fn serve_logged<T: Threads + Sync, S: Sink>(
+    rt: &HostRuntime,
+    threads: &T,
+    setup: &Setup,
+    body: &[u8],
+    list: ListOf<Played>,
     out: &mut S,
 ) -> Result<Status, NoMemory> {
     let board = Noticeboard::new(rt.alloc())?;
-    let mut watched = watched_of(rt, setup, files, &board)?;
-    let status = serve_posted(rt, threads, setup, list, files, &mut watched, out, &board);
+    let real = RealFiles::new(rt.alloc(), *rt)?;
+    let mut files = ReadBefore::new(real, setup.description.as_str());
+    let mut watched = watched_of(rt, setup, body, files.text(), &board)?;
+    let status = serve_posted(
+        rt,
+        threads,
+        setup,
+        list,
+        &mut files,
+        &mut watched,
+        out,
+        &board,
+    );
     if let Ok(Status::BadDescription { number, item }) = &status {
         watched.onlooker.refused(*number, *item);
     }
@@ -124,19 +180,20 @@ fn serve_logged<T: Threads + Sync, S: Sink>(
 fn watched_of(
     rt: &HostRuntime,
     setup: &Setup,
-    files: &mut RealFiles<HostRuntime>,
+    body: &[u8],
+    text: Option<&[u8]>,
     board: &Noticeboard,
 ) -> Result<RealWatched, NoMemory> {
     let mut stop = SignalStop::new(rt.alloc(), *rt, copy_of_name(rt, &setup.stop_file)?)?;
-    let mut log = log_of(rt, setup, board)?;
+    let mut log = log_of(rt, setup, body, board)?;
     if !stop.is_terminate_blocked() {
         log.warn("stop: SIGTERM is not blocked, it ends the process at once");
     }
     if let Some(word) = setup.others {
         log.lets_others_in(word.sentence());
     }
-    tell_store(rt, setup, files, &mut log)?;
-    let wire = wire_of(rt, setup, files)?;
+    tell_store(rt, setup, body, text, &mut log)?;
+    let wire = wire_of(rt, setup, text)?;
     Ok(Watched::new(wire, stop, log))
 }
 
@@ -144,9 +201,9 @@ fn watched_of(
 fn wire_of(
     rt: &HostRuntime,
     setup: &Setup,
-    files: &mut RealFiles<HostRuntime>,
+    text: Option<&[u8]>,
 ) -> Result<Routed<RealWire<HostRuntime>>, NoMemory> {
-    let net = router_net(rt, setup, files)?;
+    let net = router_net(rt, setup, text)?;
     let nets = nets_of(rt, setup.allow.as_slice())?;
     let doors = RealWire::with_doors(rt.alloc(), *rt, "adsd", given_doors(rt), nets)?;
     Ok(Routed::new(rt.alloc(), doors, net))
@@ -158,7 +215,7 @@ fn serve_posted<T: Threads + Sync, S: Sink>(
     threads: &T,
     setup: &Setup,
     list: ListOf<Played>,
-    files: &mut RealFiles<HostRuntime>,
+    files: &mut ReadBefore,
     watched: &mut RealWatched,
     out: &mut S,
     board: &Noticeboard,
@@ -182,7 +239,7 @@ fn serve_signals<T: Threads + Sync, S: Sink>(
     threads: &T,
     setup: &Setup,
     list: ListOf<Played>,
-    files: &mut RealFiles<HostRuntime>,
+    files: &mut ReadBefore,
     watched: &mut RealWatched,
     out: &mut S,
     disk: &mut RealDisk<HostRuntime>,
@@ -215,12 +272,17 @@ fn serve_signals<T: Threads + Sync, S: Sink>(
 }
 
 // The log, with the body that stands in the store.
-fn log_of(rt: &HostRuntime, setup: &Setup, board: &Noticeboard) -> Result<RealLog, NoMemory> {
+fn log_of(
+    rt: &HostRuntime,
+    setup: &Setup,
+    body: &[u8],
+    board: &Noticeboard,
+) -> Result<RealLog, NoMemory> {
     let judge = PlantJudge {
         rt: *rt,
         signals: setup.signals.len() as u32,
         store: copy_of_name(rt, &setup.store)?,
-        body: body_at_start(rt, &setup.store)?,
+        body: Octets::copy_of(rt.alloc(), body)?,
         lets_others_in: setup.others.is_some(),
     };
     let file = StatusFile::new(rt.alloc(), *rt, &setup.status)?;
@@ -237,30 +299,23 @@ fn log_of(rt: &HostRuntime, setup: &Setup, board: &Noticeboard) -> Result<RealLo
     ))
 }
 
-fn body_at_start(rt: &HostRuntime, store: &Option<Text>) -> Result<Octets, NoMemory> {
-    match store {
-        Some(store) => standing_body(rt, store.as_str()),
-        None => Ok(Octets::new(rt.alloc())),
-    }
-}
-
 // What stands in the store is told, and what of it fits nothing of the description.
 fn tell_store(
     rt: &HostRuntime,
     setup: &Setup,
-    files: &mut RealFiles<HostRuntime>,
+    body: &[u8],
+    text: Option<&[u8]>,
     log: &mut RealLog,
 ) -> Result<(), NoMemory> {
     let Some(store) = &setup.store else {
         return Ok(());
     };
-    let body = standing_body(rt, store.as_str())?;
-    log.store_opened(store.as_str(), count_in(body.as_slice()), body.len() as u64);
-    let Got::Bytes(text) = files.read(setup.description.as_str()) else {
+    log.store_opened(store.as_str(), count_in(body), body.len() as u64);
+    let Some(text) = text else {
         return Ok(());
     };
-    if let Some(served) = first_body(rt.alloc(), text.as_slice(), setup.signals.len() as u32)? {
-        let names = unfit_names(rt.alloc(), body.as_slice(), served.as_slice())?;
+    if let Some(served) = first_body(rt.alloc(), text, setup.signals.len() as u32)? {
+        let names = unfit_names(rt.alloc(), body, served.as_slice())?;
         log.unfit(names.as_slice());
     }
     Ok(())
@@ -270,12 +325,10 @@ fn tell_store(
 fn router_net(
     rt: &HostRuntime,
     setup: &Setup,
-    files: &mut RealFiles<HostRuntime>,
+    text: Option<&[u8]>,
 ) -> Result<Option<NetId>, NoMemory> {
-    match (setup.profile, files.read(setup.description.as_str())) {
-        (ProfileWord::Wide, Got::Bytes(text)) => {
-            net_in(rt.alloc(), text.as_slice(), setup.signals.len() as u32)
-        }
+    match (setup.profile, text) {
+        (ProfileWord::Wide, Some(text)) => net_in(rt.alloc(), text, setup.signals.len() as u32),
         _ => Ok(None),
     }
 }
