@@ -39,7 +39,8 @@ use Rattle.ams_relay.specs.Peers.{Peers, Sets, peers_in, net_of, owned_of, owned
 use Rattle.ams_relay.specs.Taking.{DisownsIn, Disowns}
 use Rattle.ams_relay.proofs.BesideLemmas.{beside_changed, beside_opened, beside_ended, sets_behind}
 use Rattle.ams_relay.proofs.CarryLemmas.{unseated, closing_is, value_there}
-use Rattle.ams_relay.proofs.HoldLemmas.{SameBeside, column_same, peers_same, own_changed_list, named_changed, named_filter, named_at, counts_changed, routed_changed}
+use Rattle.ams_relay.proofs.HoldLemmas.{SameBeside, column_same, peers_same, own_changed_list, named_changed, named_filter, named_at, counts_changed}
+use Rattle.ams_relay.proofs.HoldLemmas.{routed_changed}
 use Rattle.ams_relay.proofs.ListLemmas.{filter-no}
 use Rattle.ams_relay.proofs.OwnerLemmas.{IsUnheard, some_same, owners_unheard, owners_ended, owners_disowned, owners_opened, fresh_client}
 use Rattle.ams_relay.proofs.RequestLemmas.{Hearing, hearing, AreSame, same_narrower, heard_found, heard_none}

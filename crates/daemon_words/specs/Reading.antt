@@ -1,7 +1,8 @@
 -- What the words of a command line say, one behind another. This project's own choice.
 use Rattle.std.specs.Prelude.{◌≡◌, ◌⊎◌, ℕ, List, [], ◌∷◌, ◌++◌, Option, Some, None, codes}
 use Rattle.daemon_words.specs.declared.field.Field.{Field}
-use Rattle.daemon_words.specs.declared.field.Field.TheVariants.{Description, Listen, Store, SaveEach, Allow, OtherRoutes, Profile, Signal, Status, Log, StopFile}
+use Rattle.daemon_words.specs.declared.field.Field.TheVariants.{Description, Listen, Store, SaveEach, Allow, OtherRoutes, Profile, Signal, Status, Log}
+use Rattle.daemon_words.specs.declared.field.Field.TheVariants.{StopFile}
 use Rattle.daemon_words.specs.Said.{Said, Puts, nothing_said}
 
 -- the option of a field; the description and the signals have none

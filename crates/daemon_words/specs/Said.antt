@@ -1,7 +1,8 @@
 -- What words and a configuration say of a daemon, a field at a time. This project's own choice.
 use Rattle.std.specs.Prelude.{◌≡◌, ℕ, List, [], ◌∷◌, ◌++◌, Option, Some, None, IsSome, decimal}
 use Rattle.daemon_words.specs.declared.field.Field.{Field}
-use Rattle.daemon_words.specs.declared.field.Field.TheVariants.{Description, Listen, Store, SaveEach, Allow, OtherRoutes, Profile, Signal, Status, Log, StopFile}
+use Rattle.daemon_words.specs.declared.field.Field.TheVariants.{Description, Listen, Store, SaveEach, Allow, OtherRoutes, Profile, Signal, Status, Log}
+use Rattle.daemon_words.specs.declared.field.Field.TheVariants.{StopFile}
 use Rattle.daemon_words.specs.declared.ip_net.IpNet.{IpNet}
 use Rattle.daemon_words.specs.declared.seconds.Seconds.{Seconds}
 use Rattle.daemon_words.specs.declared.log_form.LogForm.{LogForm}

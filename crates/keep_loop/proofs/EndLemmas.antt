@@ -120,7 +120,8 @@ module _ {W C D : Type 0} (every : ℕ) (of_world : BodyOf W) (step : EventStep 
   })
 
   -- the moves of whole turns and the first ones of a turn are offers
-  offers_then : (old_serves mid_serves : Standing W C → Type 0) (old mid : WireHistory) (count : ℕ) (first : StoreState) (saves : List (List ℕ)) (later : List Move)
+  offers_then : (old_serves mid_serves : Standing W C → Type 0) (old mid : WireHistory) (count : ℕ) (first : StoreState) (saves : List (List ℕ))
+      (later : List Move)
       → (keeps : Keeps step noted old_serves mid_serves (bodies_looked_at every of_world step) (body_of first) old mid count saves)
       → ((y : Standing W C) → StandsOver mid_serves mid.opened y → AreOffers step y.running.state later)
       → (x : Standing W C) → StandsOver old_serves old.opened x → AreOffers step x.running.state (keeps.turns.moves ++ later)
@@ -165,17 +166,20 @@ module _ {W C D : Type 0} (every : ℕ) (of_world : BodyOf W) (step : EventStep 
       → (b : IsBegun (IsBodyOf of_world new_serves) contents moment left_since mid_disk disk mid_store) → is_over_limit mid_store.standing b.body ≡ false
       → ((d : D) (t : ℕ) (c : List ℕ) → t ≤ moment d → may_leave d c → left_since d t c)
       → Ends keep.StoreFault old_serves new_serves old new limit old_disk disk first
-  fails_at_tick old_serves mid_serves new_serves old mid new count left limit old_disk mid_disk disk first mid_store saved fewer due so_far takes b within counts = record {
-    saves = so_far.saves ++ b.body ∷ [];
-    took = at_tick old_serves new_serves old new count limit first (so_far.saves ++ b.body ∷ []) fewer
-        (tick_keeps every of_world step noted contents may_leave moment left_since Also (λ x ms. Unit {0}) old_serves mid_serves new_serves old.history mid new.history count left
-        old_disk mid_disk first mid_store saved b.body due so_far takes b.is b.differs
-        (λ x ms ns one logged more are also. tt)).keeps;
-    left = left_then contents moment left_since old_disk mid_disk disk first.standing
-        mid_store.standing so_far.saves (b.body ∷ []) so_far.left so_far.told so_far.standing b.left;
-    counted = over_then so_far.saves b.body first.standing mid_store.standing false so_far.within so_far.standing within;
-    stands = begun_last old_disk mid_disk disk first.standing mid_store.standing so_far.saves b.body counts so_far.within so_far.standing so_far.told b.left;
-  }
+  fails_at_tick old_serves mid_serves new_serves old mid new count left limit old_disk mid_disk disk first mid_store saved fewer due so_far takes b
+      within counts = record {
+        saves = so_far.saves ++ b.body ∷ [];
+        took = at_tick old_serves new_serves old new count limit first (so_far.saves ++ b.body ∷ []) fewer
+            (tick_keeps every of_world step noted contents may_leave moment left_since Also (λ x ms. Unit {0}) old_serves mid_serves new_serves old.history mid
+            new.history count left
+            old_disk mid_disk first mid_store saved b.body due so_far takes b.is b.differs
+            (λ x ms ns one logged more are also. tt)).keeps;
+        left = left_then contents moment left_since old_disk mid_disk disk first.standing
+            mid_store.standing so_far.saves (b.body ∷ []) so_far.left so_far.told so_far.standing b.left;
+        counted = over_then so_far.saves b.body first.standing mid_store.standing false so_far.within so_far.standing within;
+        stands = begun_last old_disk mid_disk disk first.standing mid_store.standing so_far.saves b.body counts so_far.within so_far.standing so_far.told
+            b.left;
+      }
 
   -- it was refused by its limit
   pub limit_at_tick : (old_serves mid_serves new_serves : Standing W C → Type 0) (old : WireState) (mid : WireHistory)
@@ -184,17 +188,19 @@ module _ {W C D : Type 0} (every : ℕ) (of_world : BodyOf W) (step : EventStep 
       → TakesEvent step noted mid_serves new_serves mid new.history turn.Tick
       → (d : Differs (IsBodyOf of_world new_serves) mid_store) → is_over_limit mid_store.standing d.body ≡ true → disk ≡ mid_disk
       → IsReady contents may_leave mid_disk mid_store → Ends keep.StoreLimit old_serves new_serves old new limit old_disk disk first
-  limit_at_tick old_serves mid_serves new_serves old mid new count left limit old_disk mid_disk disk first mid_store saved fewer due so_far takes d over same ready = record {
-    saves = so_far.saves ++ d.body ∷ [];
-    took = at_tick old_serves new_serves old new count limit first (so_far.saves ++ d.body ∷ []) fewer
-        (tick_keeps every of_world step noted contents may_leave moment left_since Also (λ x ms. Unit {0}) old_serves mid_serves new_serves old.history mid new.history count left
-        old_disk mid_disk first mid_store saved d.body due so_far takes d.is d.differs
-        (λ x ms ns one logged more are also. tt)).keeps;
-    left = left_more contents moment left_since old_disk mid_disk disk first.standing so_far.saves (d.body ∷ []) so_far.left same;
-    counted = over_then so_far.saves d.body first.standing mid_store.standing true so_far.within so_far.standing over;
-    stands = none_last old_disk mid_disk disk first.standing mid_store so_far.saves (d.body ∷ []) (so_far.saves ++ d.body ∷ []) refl (omega arith)
-        so_far.within so_far.standing so_far.told ready so_far.open_ same;
-  }
+  limit_at_tick old_serves mid_serves new_serves old mid new count left limit old_disk mid_disk disk first mid_store saved fewer due so_far takes d over same
+      ready = record {
+        saves = so_far.saves ++ d.body ∷ [];
+        took = at_tick old_serves new_serves old new count limit first (so_far.saves ++ d.body ∷ []) fewer
+            (tick_keeps every of_world step noted contents may_leave moment left_since Also (λ x ms. Unit {0}) old_serves mid_serves new_serves old.history mid
+            new.history count left
+            old_disk mid_disk first mid_store saved d.body due so_far takes d.is d.differs
+            (λ x ms ns one logged more are also. tt)).keeps;
+        left = left_more contents moment left_since old_disk mid_disk disk first.standing so_far.saves (d.body ∷ []) so_far.left same;
+        counted = over_then so_far.saves d.body first.standing mid_store.standing true so_far.within so_far.standing over;
+        stands = none_last old_disk mid_disk disk first.standing mid_store so_far.saves (d.body ∷ []) (so_far.saves ++ d.body ∷ []) refl (omega arith)
+            so_far.within so_far.standing so_far.told ready so_far.open_ same;
+      }
 
   -- memory was wanting behind a tick: for the body, or in its save
   pub memory_at_tick : (old_serves mid_serves new_serves : Standing W C → Type 0) (old : WireState) (mid : WireHistory)
@@ -204,26 +210,30 @@ module _ {W C D : Type 0} (every : ℕ) (of_world : BodyOf W) (step : EventStep 
       → (disk ≡ mid_disk) ⊎ IsBegun (IsBodyOf of_world new_serves) contents moment left_since mid_disk disk mid_store
       → IsReady contents may_leave mid_disk mid_store → ((d : D) (t : ℕ) (c : List ℕ) → t ≤ moment d → may_leave d c → left_since d t c)
       → Ends keep.Memory old_serves new_serves old new limit old_disk disk first
-  memory_at_tick old_serves mid_serves new_serves old mid new count left limit old_disk mid_disk disk first mid_store saved fewer due so_far takes (inl same) ready counts = record {
-    saves = so_far.saves;
-    took = inl (breaks_off old_serves mid_serves old mid new count limit first so_far.saves takes.leads.moves so_far.paced.keeps
-        (inl takes.leads.logged) (let one = takes.leads.events in omega (arith, one, fewer)) (λ y over. (takes.leads.are y over).offers));
-    left = left_same contents moment left_since old_disk mid_disk disk first.standing so_far.saves so_far.left same;
-    counted = tt;
-    stands = none_last old_disk mid_disk disk first.standing mid_store so_far.saves [] so_far.saves (sym (append-nil so_far.saves)) (omega arith)
-        so_far.within so_far.standing so_far.told ready so_far.open_ same;
-  }
-  memory_at_tick old_serves mid_serves new_serves old mid new count left limit old_disk mid_disk disk first mid_store saved fewer due so_far takes (inr b) ready counts = record {
-    saves = so_far.saves ++ b.body ∷ [];
-    took = inr (at_tick old_serves new_serves old new count limit first (so_far.saves ++ b.body ∷ []) fewer
-        (tick_keeps every of_world step noted contents may_leave moment left_since Also (λ x ms. Unit {0}) old_serves mid_serves new_serves old.history mid new.history count left
-        old_disk mid_disk first mid_store saved b.body due so_far takes b.is b.differs
-        (λ x ms ns one logged more are also. tt)).keeps);
-    left = left_then contents moment left_since old_disk mid_disk disk first.standing
-        mid_store.standing so_far.saves (b.body ∷ []) so_far.left so_far.told so_far.standing b.left;
-    counted = tt;
-    stands = begun_last old_disk mid_disk disk first.standing mid_store.standing so_far.saves b.body counts so_far.within so_far.standing so_far.told b.left;
-  }
+  memory_at_tick old_serves mid_serves new_serves old mid new count left limit old_disk mid_disk disk first mid_store saved fewer due so_far takes (inl same)
+      ready counts = record {
+        saves = so_far.saves;
+        took = inl (breaks_off old_serves mid_serves old mid new count limit first so_far.saves takes.leads.moves so_far.paced.keeps
+            (inl takes.leads.logged) (let one = takes.leads.events in omega (arith, one, fewer)) (λ y over. (takes.leads.are y over).offers));
+        left = left_same contents moment left_since old_disk mid_disk disk first.standing so_far.saves so_far.left same;
+        counted = tt;
+        stands = none_last old_disk mid_disk disk first.standing mid_store so_far.saves [] so_far.saves (sym (append-nil so_far.saves)) (omega arith)
+            so_far.within so_far.standing so_far.told ready so_far.open_ same;
+      }
+  memory_at_tick old_serves mid_serves new_serves old mid new count left limit old_disk mid_disk disk first mid_store saved fewer due so_far takes (inr b)
+      ready counts = record {
+        saves = so_far.saves ++ b.body ∷ [];
+        took = inr (at_tick old_serves new_serves old new count limit first (so_far.saves ++ b.body ∷ []) fewer
+            (tick_keeps every of_world step noted contents may_leave moment left_since Also (λ x ms. Unit {0}) old_serves mid_serves new_serves old.history mid
+            new.history count left
+            old_disk mid_disk first mid_store saved b.body due so_far takes b.is b.differs
+            (λ x ms ns one logged more are also. tt)).keeps);
+        left = left_then contents moment left_since old_disk mid_disk disk first.standing
+            mid_store.standing so_far.saves (b.body ∷ []) so_far.left so_far.told so_far.standing b.left;
+        counted = tt;
+        stands = begun_last old_disk mid_disk disk first.standing mid_store.standing so_far.saves b.body counts so_far.within so_far.standing so_far.told
+            b.left;
+      }
 
   -- memory was wanting in a turn
   pub memory_in_turn : (old_serves mid_serves new_serves : Standing W C → Type 0) (old : WireState) (mid : WireHistory)
@@ -331,7 +341,8 @@ module _ {W C D : Type 0} (every : ℕ) (of_world : BodyOf W) (step : EventStep 
       → Ends (end_by_save by ended saved) old_serves new_serves old new limit old_disk disk first
   ends_by save.Same ended old_serves mid_serves new_serves old mid new count left limit old_disk
       mid_disk disk first mid_store now saved so_far came stays same ready mid_ready counts =
-      let P : List (List ℕ) → Type 0 = λ l. Keeps step noted old_serves new_serves (bodies_to_end every of_world step) (body_of first) old.history mid count l in
+      let P : List (List ℕ) → Type 0 = λ l. Keeps step noted old_serves new_serves (bodies_to_end every of_world step) (body_of first) old.history mid count
+      l in
       all_done ended saved so_far.saves old_serves new_serves old new limit old_disk disk first
       (took_all ended old_serves new_serves old mid new count limit first so_far.saves came (subst P (append-nil so_far.saves)
       (last_keeps old_serves mid_serves new_serves old.history mid count left old_disk mid_disk first mid_store saved [] so_far stays
@@ -411,7 +422,8 @@ module _ {W C D : Type 0} (every : ℕ) (of_world : BodyOf W) (step : EventStep 
       → EndsBySave end ended saved (IsBodyOf of_world new_serves) contents moment left_since mid_disk disk mid_store now → IsReady contents may_leave disk now
       → IsReady contents may_leave mid_disk mid_store → ((d : D) (t : ℕ) (c : List ℕ) → t ≤ moment d → may_leave d c → left_since d t c)
       → Ends end old_serves new_serves old new limit old_disk disk first
-  ends_here end ended old_serves mid_serves new_serves old mid new count left limit old_disk mid_disk disk first mid_store now saved so_far came stays ends ready mid_ready counts =
+  ends_here end ended old_serves mid_serves new_serves old mid new count left limit old_disk mid_disk disk first mid_store now saved so_far came stays ends
+      ready mid_ready counts =
       let P : KeepEnd → Type 0 = λ e. Ends e old_serves new_serves old new limit old_disk disk first in
       subst P (sym ends.is)
       (ends_by ends.by ended old_serves mid_serves new_serves old mid new count left limit old_disk

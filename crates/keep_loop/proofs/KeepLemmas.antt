@@ -41,7 +41,8 @@ use Rattle.keep_loop.proofs.TurnLemmas.{bodies_of_turn, AlsoThen, keeps_then, ke
 abbrev pub IsBodyOf : {W C : Type 0} → BodyOf W → (Standing W C → Type 0) → List ℕ → Type 0
 IsBodyOf {W} {C} of_world serves body = (x : Standing W C) → serves x → body ≡ of_world x.running.state.world
 
-pub any_over : {W C : Type 0} (serves : Standing W C → Type 0) (opened : List ℕ) (y : Standing W C) → StandsOver serves opened y → StandsOver serves_any opened y
+pub any_over : {W C : Type 0} (serves : Standing W C → Type 0) (opened : List ℕ) (y : Standing W C) → StandsOver serves opened y
+    → StandsOver serves_any opened y
 any_over serves opened y over = record { stands = tt; numbers = over.numbers }
 
 pub length_one : (saves : List (List ℕ)) (body : List ℕ) → length (saves ++ body ∷ []) ≡ length saves + 1
@@ -139,7 +140,8 @@ module _ {W C D : Type 0} (every : ℕ) (of_world : BodyOf W) (step : EventStep 
       (ap length (looked ∙ ap (λ l. before ++ l) (paced-due every left body due)) ∙ length_one before body) are also
 
   -- a turn behind which nothing is looked at
-  passes : (Also Then : Standing W C → List Move → Type 0) (old_serves mid_serves new_serves : Standing W C → Type 0) (old mid new : WireHistory) (count left then_ : ℕ) (tells : Turn)
+  passes : (Also Then : Standing W C → List Move → Type 0) (old_serves mid_serves new_serves : Standing W C → Type 0) (old mid new : WireHistory)
+      (count left then_ : ℕ) (tells : Turn)
       (old_disk disk : D) (first now : StoreState) (saved : ℕ)
       → SoFar Also old_serves mid_serves old mid count left old_disk disk first now saved → TakesEvent step noted mid_serves new_serves mid new tells
       → ((body : List ℕ) → then_ ≡ left_behind every left (bodies_of_turn tells body)) → ((body : List ℕ) → paced every left (bodies_of_turn tells body) ≡ [])
@@ -151,7 +153,8 @@ module _ {W C D : Type 0} (every : ℕ) (of_world : BodyOf W) (step : EventStep 
         saves = so_far.saves;
         paced = subst P (append-nil so_far.saves)
             (keeps_then every of_world step noted Also Then old_serves mid_serves new_serves (body_of first) old mid new count left then_ tells
-            so_far.saves [] (then_passed Also Then new_serves (body_of first) old new left tells (so_far.saves ++ []) none goes_on) so_far.paced takes next (λ z over. ap (saves_in stood) (none (of_world z.running.state.world)) ∙ saves-none stood));
+            so_far.saves [] (then_passed Also Then new_serves (body_of first) old new left tells (so_far.saves ++ []) none goes_on) so_far.paced takes next
+            (λ z over. ap (saves_in stood) (none (of_world z.running.state.world)) ∙ saves-none stood));
         counted = so_far.counted;
         within = so_far.within;
         standing = so_far.standing;
@@ -224,10 +227,12 @@ module _ {W C D : Type 0} (every : ℕ) (of_world : BodyOf W) (step : EventStep 
       → TakesEvent step noted mid_serves new_serves mid new turn.Tick → IsBodyOf of_world new_serves body → is_standing (body_of mid_store) body ≡ false
       → AlsoLooks Also Then (body_of first) old new (so_far.saves ++ body ∷ [])
       → Paced Then old_serves new_serves (body_of first) old new (count + 1) (every - 1) (so_far.saves ++ body ∷ [])
-  tick_keeps Also Then old_serves mid_serves new_serves old mid new count left old_disk mid_disk first mid_store saved body due so_far takes is differs goes_on =
+  tick_keeps Also Then old_serves mid_serves new_serves old mid new count left old_disk mid_disk first mid_store saved body due so_far takes is differs
+      goes_on =
       let stood = last_of (body_of first) so_far.saves in
       keeps_then every of_world step noted Also Then old_serves mid_serves new_serves (body_of first) old mid new count left (every - 1) turn.Tick
-      so_far.saves (body ∷ []) (then_looked Also Then new_serves (body_of first) old new left (so_far.saves ++ body ∷ []) due goes_on) so_far.paced takes (λ other. left-due every left other due)
+      so_far.saves (body ∷ []) (then_looked Also Then new_serves (body_of first) old new left (so_far.saves ++ body ∷ []) due goes_on) so_far.paced takes
+      (λ other. left-due every left other due)
       (λ z over. ap (saves_in stood) (paced-due every left (of_world z.running.state.world) due)
       ∙ other_adds first mid_store so_far.saves body (of_world z.running.state.world) so_far.standing differs (is z over.stands))
 
@@ -239,15 +244,16 @@ module _ {W C D : Type 0} (every : ℕ) (of_world : BodyOf W) (step : EventStep 
       → (s : IsSaved (IsBodyOf of_world new_serves) contents moment left_since mid_disk disk mid_store now)
       → AlsoLooks Also Then (body_of first) old new (so_far.saves ++ s.body ∷ [])
       → SoFar Then old_serves new_serves old new (count + 1) (every - 1) old_disk disk first now (saved + 1)
-  keeps_saved Also Then old_serves mid_serves new_serves old mid new count left old_disk mid_disk disk first mid_store now saved due so_far takes s goes_on = record {
-    saves = so_far.saves ++ s.body ∷ [];
-    paced = tick_keeps Also Then old_serves mid_serves new_serves old mid new count left old_disk mid_disk first mid_store saved s.body due so_far takes
-        s.is s.differs goes_on;
-    counted = ap (λ n. n + 1) so_far.counted ∙ sym (length_one so_far.saves s.body);
-    within = over_then so_far.saves s.body first.standing mid_store.standing false so_far.within so_far.standing s.within;
-    standing = ap (λ (t : StoreState). t.standing) s.store ∙ standing_then so_far.saves s.body first.standing mid_store.standing so_far.standing;
-    open_ = ap (λ (t : StoreState). t.shut) s.store;
-    told = told_then contents moment left_since old_disk mid_disk disk so_far.told s.told;
-    left = left_then contents moment left_since old_disk mid_disk disk first.standing
-        mid_store.standing so_far.saves (s.body ∷ []) so_far.left so_far.told so_far.standing s.left;
-  }
+  keeps_saved Also Then old_serves mid_serves new_serves old mid new count left old_disk mid_disk disk first mid_store now saved due so_far takes s
+      goes_on = record {
+        saves = so_far.saves ++ s.body ∷ [];
+        paced = tick_keeps Also Then old_serves mid_serves new_serves old mid new count left old_disk mid_disk first mid_store saved s.body due so_far takes
+            s.is s.differs goes_on;
+        counted = ap (λ n. n + 1) so_far.counted ∙ sym (length_one so_far.saves s.body);
+        within = over_then so_far.saves s.body first.standing mid_store.standing false so_far.within so_far.standing s.within;
+        standing = ap (λ (t : StoreState). t.standing) s.store ∙ standing_then so_far.saves s.body first.standing mid_store.standing so_far.standing;
+        open_ = ap (λ (t : StoreState). t.shut) s.store;
+        told = told_then contents moment left_since old_disk mid_disk disk so_far.told s.told;
+        left = left_then contents moment left_since old_disk mid_disk disk first.standing
+            mid_store.standing so_far.saves (s.body ∷ []) so_far.left so_far.told so_far.standing s.left;
+      }

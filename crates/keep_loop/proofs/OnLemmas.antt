@@ -38,7 +38,8 @@ module _ {W C D : Type 0} (every : ℕ) (of_world : BodyOf W) (step : EventStep 
   abbrev SoFar : (Standing W C → List Move → Type 0) → (Standing W C → Type 0) → (Standing W C → Type 0) → WireHistory → WireHistory → ℕ → ℕ
       → D → D → StoreState → StoreState → SaveCounts → Type 0
   SoFar Also old_serves new_serves old new count left old_disk new_disk first now counts =
-      ServesOnSoFar Also every of_world step noted contents may_leave moment left_since old_serves new_serves old new count left old_disk new_disk first now counts
+      ServesOnSoFar Also every of_world step noted contents may_leave moment left_since old_serves new_serves old new count left old_disk new_disk first now
+      counts
 
   abbrev Looked : D → D → StoreState → StoreState → SaveCounts → List (List ℕ) → Type 0
   Looked old_disk new_disk first now counts looked = LookedSoFar contents may_leave moment left_since old_disk new_disk first now counts looked
@@ -49,7 +50,8 @@ module _ {W C D : Type 0} (every : ℕ) (of_world : BodyOf W) (step : EventStep 
 
   -- before the first turn
   pub on_first : (Also : Standing W C → List Move → Type 0) (serves : Standing W C → Type 0) (h : WireHistory) (disk : D) (store : StoreState)
-      → ((x : Standing W C) → Also x []) → ((d : D) (c : List ℕ) → left_since d (moment d) c → may_leave d c) → IsReady contents may_leave disk store → store.shut ≡ false
+      → ((x : Standing W C) → Also x []) → ((d : D) (c : List ℕ) → left_since d (moment d) c → may_leave d c) → IsReady contents may_leave disk store
+      → store.shut ≡ false
       → SoFar Also serves serves h h 0 (every - 1) disk disk store store none_counted
   unfolding history_after standing_after_all bodies_at_ticks paced left_behind
   on_first Also serves h disk store also only ready open_ = record {
@@ -91,7 +93,8 @@ module _ {W C D : Type 0} (every : ℕ) (of_world : BodyOf W) (step : EventStep 
       → Also x ms → Then x (ms ++ ns)
 
   -- a turn more
-  on_then : (Also Then : Standing W C → List Move → Type 0) (old_serves mid_serves new_serves : Standing W C → Type 0) (old mid new : WireHistory) (count left then_ : ℕ) (tells : Turn)
+  on_then : (Also Then : Standing W C → List Move → Type 0) (old_serves mid_serves new_serves : Standing W C → Type 0) (old mid new : WireHistory)
+      (count left then_ : ℕ) (tells : Turn)
       (old_disk mid_disk disk : D) (first mid_store now : StoreState) (counts more : SaveCounts)
       → AlsoOn Also Then old new left tells old_disk disk first now more
       → SoFar Also old_serves mid_serves old mid count left old_disk mid_disk first mid_store counts
@@ -123,7 +126,8 @@ module _ {W C D : Type 0} (every : ℕ) (of_world : BodyOf W) (step : EventStep 
       let z = standing_after_all step noted y ns in
       let P : List (List ℕ) → Type 0 = λ l. Looked old_disk disk first now more l in
       subst P (sym (more_looked x over))
-      (adds z (takes.leads.stands y (turns.stands x over)) (paced every (every - 1) (bodies_at_ticks of_world step x.running.state ms)) (so_far.looked x over)) in
+      (adds z (takes.leads.stands y (turns.stands x over)) (paced every (every - 1) (bodies_at_ticks of_world step x.running.state ms))
+      (so_far.looked x over)) in
       record {
         turns = record {
           moves = ms ++ ns;
@@ -148,7 +152,8 @@ module _ {W C D : Type 0} (every : ℕ) (of_world : BodyOf W) (step : EventStep 
       }
 
   -- one behind which nothing is looked at
-  passes : (Also Then : Standing W C → List Move → Type 0) (old_serves mid_serves new_serves : Standing W C → Type 0) (old mid new : WireHistory) (count left then_ : ℕ) (tells : Turn)
+  passes : (Also Then : Standing W C → List Move → Type 0) (old_serves mid_serves new_serves : Standing W C → Type 0) (old mid new : WireHistory)
+      (count left then_ : ℕ) (tells : Turn)
       (old_disk disk : D) (first now : StoreState) (counts : SaveCounts)
       → AlsoOn Also Then old new left tells old_disk disk first now counts
       → SoFar Also old_serves mid_serves old mid count left old_disk disk first now counts
@@ -162,7 +167,8 @@ module _ {W C D : Type 0} (every : ℕ) (of_world : BodyOf W) (step : EventStep 
       takes next
       (λ z over looked so_far. subst P (sym (ap (λ l. looked ++ l) (none (of_world z.running.state.world)) ∙ append-nil looked)) so_far)
 
-  pub on_other : (Also Then : Standing W C → List Move → Type 0) (old_serves mid_serves new_serves : Standing W C → Type 0) (old mid new : WireHistory) (count left : ℕ)
+  pub on_other : (Also Then : Standing W C → List Move → Type 0) (old_serves mid_serves new_serves : Standing W C → Type 0) (old mid new : WireHistory)
+      (count left : ℕ)
       (old_disk disk : D) (first now : StoreState) (counts : SaveCounts)
       → AlsoOn Also Then old new left turn.Other old_disk disk first now counts
       → SoFar Also old_serves mid_serves old mid count left old_disk disk first now counts
@@ -172,7 +178,8 @@ module _ {W C D : Type 0} (every : ℕ) (of_world : BodyOf W) (step : EventStep 
       passes Also Then old_serves mid_serves new_serves old mid new count left left turn.Other old_disk disk first now counts goes_on so_far takes
       (λ body. left-none every left) (λ body. paced-none every left)
 
-  pub on_passed : (Also Then : Standing W C → List Move → Type 0) (old_serves mid_serves new_serves : Standing W C → Type 0) (old mid new : WireHistory) (count left : ℕ)
+  pub on_passed : (Also Then : Standing W C → List Move → Type 0) (old_serves mid_serves new_serves : Standing W C → Type 0) (old mid new : WireHistory)
+      (count left : ℕ)
       (old_disk disk : D) (first now : StoreState) (counts : SaveCounts) → 0 < left
       → AlsoOn Also Then old new left turn.Tick old_disk disk first now counts
       → SoFar Also old_serves mid_serves old mid count left old_disk disk first now counts
@@ -183,7 +190,8 @@ module _ {W C D : Type 0} (every : ℕ) (of_world : BodyOf W) (step : EventStep 
       (λ body. left-passed every left body pass) (λ body. paced-passed every left body pass)
 
   -- a tick whose body is looked at
-  pub on_looked : (Also Then : Standing W C → List Move → Type 0) (by : SaveEnd) (old_serves mid_serves new_serves : Standing W C → Type 0) (old mid new : WireHistory) (count left : ℕ)
+  pub on_looked : (Also Then : Standing W C → List Move → Type 0) (by : SaveEnd) (old_serves mid_serves new_serves : Standing W C → Type 0)
+      (old mid new : WireHistory) (count left : ℕ)
       (old_disk mid_disk disk : D) (first mid_store now : StoreState) (counts : SaveCounts) → left ≡ 0
       → ((d : D) (file : List ℕ) → contents d ≡ Some file → may_leave d file)
       → ((d : D) (t : ℕ) (c : List ℕ) → t ≤ moment d → may_leave d c → left_since d t c)
@@ -220,7 +228,8 @@ module _ {W C D : Type 0} (every : ℕ) (of_world : BodyOf W) (step : EventStep 
   }
 
   -- the bodies of these moves, with the look at their end
-  keeps_last : (Also : Standing W C → List Move → Type 0) (by : SaveEnd) (r : KeptOn) (old_serves mid_serves new_serves : Standing W C → Type 0) (old mid : WireHistory) (count left : ℕ)
+  keeps_last : (Also : Standing W C → List Move → Type 0) (by : SaveEnd) (r : KeptOn) (old_serves mid_serves new_serves : Standing W C → Type 0)
+      (old mid : WireHistory) (count left : ℕ)
       (old_disk mid_disk disk : D) (first mid_store now : StoreState) (counts : SaveCounts)
       → ((d : D) (file : List ℕ) → contents d ≡ Some file → may_leave d file)
       → ((d : D) (t : ℕ) (c : List ℕ) → t ≤ moment d → may_leave d c → left_since d t c)
@@ -259,7 +268,8 @@ module _ {W C D : Type 0} (every : ℕ) (of_world : BodyOf W) (step : EventStep 
       }
 
   -- a run whose wire ended
-  pub ends_done : (Also : Standing W C → List Move → Type 0) (r : KeptOn) (old_serves mid_serves new_serves : Standing W C → Type 0) (old : WireState) (mid : WireHistory) (new : WireState)
+  pub ends_done : (Also : Standing W C → List Move → Type 0) (r : KeptOn) (old_serves mid_serves new_serves : Standing W C → Type 0) (old : WireState)
+      (mid : WireHistory) (new : WireState)
       (count left limit : ℕ) (old_disk mid_disk disk : D) (first mid_store now : StoreState) (counts : SaveCounts)
       → ((d : D) (file : List ℕ) → contents d ≡ Some file → may_leave d file)
       → ((d : D) (t : ℕ) (c : List ℕ) → t ≤ moment d → may_leave d c → left_since d t c)
@@ -284,7 +294,8 @@ module _ {W C D : Type 0} (every : ℕ) (of_world : BodyOf W) (step : EventStep 
       })
 
   -- one whose wire failed
-  pub ends_fault : (Also : Standing W C → List Move → Type 0) (r : KeptOn) (old_serves mid_serves new_serves : Standing W C → Type 0) (old : WireState) (mid : WireHistory) (new : WireState)
+  pub ends_fault : (Also : Standing W C → List Move → Type 0) (r : KeptOn) (old_serves mid_serves new_serves : Standing W C → Type 0) (old : WireState)
+      (mid : WireHistory) (new : WireState)
       (count left limit : ℕ) (old_disk mid_disk disk : D) (first mid_store now : StoreState) (counts : SaveCounts)
       → ((d : D) (file : List ℕ) → contents d ≡ Some file → may_leave d file)
       → ((d : D) (t : ℕ) (c : List ℕ) → t ≤ moment d → may_leave d c → left_since d t c)
@@ -327,7 +338,8 @@ module _ {W C D : Type 0} (every : ℕ) (of_world : BodyOf W) (step : EventStep 
       })
 
   -- one that memory ended
-  pub ends_memory : (Also : Standing W C → List Move → Type 0) (old_serves mid_serves new_serves : Standing W C → Type 0) (old : WireState) (mid : WireHistory) (new : WireState)
+  pub ends_memory : (Also : Standing W C → List Move → Type 0) (old_serves mid_serves new_serves : Standing W C → Type 0) (old : WireState)
+      (mid : WireHistory) (new : WireState)
       (count left limit : ℕ) (old_disk disk : D) (first now : StoreState) (counts : SaveCounts)
       → SoFar Also old_serves mid_serves old.history mid count left old_disk disk first now counts → count < limit
       → BreaksTurn step noted mid_serves mid new.history 1 → IsReady contents may_leave disk now

@@ -202,5 +202,6 @@ module _ {W C D : Type 0} (every : ℕ) (of_world : BodyOf W) (step : EventStep 
       let P : KeptOn → Type 0 = λ k. EndsOnMarked (comes_to_end k.ended) k.counts old_serves old new old_disk disk first in
       let Q : Bool → Type 0 = λ b. EndsOnMarked b (counted ends.by counts) old_serves old new old_disk disk first in
       subst P (sym ends.is) (subst Q (sym came)
-      (last_marked ends.by old_serves mid_serves new_serves old mid new count left old_disk mid_disk disk first mid_store now counts here laws so_far after stays
+      (last_marked ends.by old_serves mid_serves new_serves old mid new count left old_disk mid_disk disk first mid_store now counts here laws so_far after
+      stays
       ends.looks ready stay))

@@ -166,7 +166,8 @@ pub record KeepsPaced {W C : Type 0} (Also : Standing W C → List Move → Type
   pub also : (x : Standing W C) → StandsOver old_serves old.opened x → Also x keeps.turns.moves
 
 -- the saves so far, the file, and the store. No public clause cites it.
-pub record KeepsSoFar {W C D : Type 0} (Also : Standing W C → List Move → Type 0) (every : ℕ) (body_of_world : BodyOf W) (step : EventStep W C) (noted : Noting W C)
+pub record KeepsSoFar {W C D : Type 0} (Also : Standing W C → List Move → Type 0) (every : ℕ) (body_of_world : BodyOf W) (step : EventStep W C)
+    (noted : Noting W C)
     (contents : D → Option (List ℕ)) (moment : D → ℕ) (left_since : D → ℕ → List ℕ → Type 0)
     (old_serves new_serves : Standing W C → Type 0) (old new : WireHistory) (count left_out : ℕ) (old_disk new_disk : D)
     (first now : StoreState) (saved : ℕ) : Type 0 where

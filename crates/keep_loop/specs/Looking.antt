@@ -104,7 +104,8 @@ pub record LookedSoFar {D : Type 0} (contents : D → Option (List ℕ)) (may_le
   pub file : FileSoFar contents may_leave moment left_since old_disk new_disk first.standing begun
 
 -- so many turns were taken so far, of the bodies after their ticks each so manieth was looked at, and what else holds of the moves
-pub record ServesOnSoFar {W C D : Type 0} (Also : served.Standing W C → List Move → Type 0) (every : ℕ) (of_world : BodyOf W) (step : EventStep W C) (noted : Noting W C)
+pub record ServesOnSoFar {W C D : Type 0} (Also : served.Standing W C → List Move → Type 0) (every : ℕ) (of_world : BodyOf W) (step : EventStep W C)
+    (noted : Noting W C)
     (contents : D → Option (List ℕ)) (may_leave : D → List ℕ → Type 0) (moment : D → ℕ) (left_since : D → ℕ → List ℕ → Type 0)
     (old_serves new_serves : served.Standing W C → Type 0) (old new : WireHistory) (count left : ℕ) (old_disk new_disk : D)
     (first now : StoreState) (counts : SaveCounts) : Type 0 where

@@ -42,7 +42,8 @@ pub fn keep_turns<T: Threads + Sync, W: Wire, M: Persistent, D: Disk>(
     requires few { limit + 1 < 2 ^ 64 }
     // The turns, the saves among the bodies of their moves, and what a stop at any moment leaves of them.
     ensures keeps { AfterKeep
-        (TookTurns result every M.body_of M.steps M.noted (M.serves served.old) (M.serves served.new) (body_of store.old) (W.state wire.old) (W.state wire.new) limit)
+        (TookTurns result every M.body_of M.steps M.noted (M.serves served.old) (M.serves served.new) (body_of store.old) (W.state wire.old)
+        (W.state wire.new) limit)
         (LeavesEach D.contents D.moment D.left_since disk.old disk.new store.old.standing)
         (CountsSaves result store.old.standing)
         (StandsAtEnd result D.contents D.may_leave disk.old disk.new store.old.standing) }
@@ -95,7 +96,8 @@ fn keep_saves<T: Threads + Sync, W: Wire, M: Persistent, D: Disk>(
     requires few { limit + 1 < 2 ^ 64 }
     // The turns, the saves among the bodies of their moves, and what a stop at any moment leaves of them.
     ensures keeps { AfterKeep
-        (TookTurns result every M.body_of M.steps M.noted (M.serves served.old) (M.serves served.new) (body_of store.old) (W.state wire.old) (W.state wire.new) limit)
+        (TookTurns result every M.body_of M.steps M.noted (M.serves served.old) (M.serves served.new) (body_of store.old) (W.state wire.old)
+        (W.state wire.new) limit)
         (LeavesEach D.contents D.moment D.left_since disk.old disk.new store.old.standing)
         (CountsSaves result store.old.standing)
         (StandsAtEnd result D.contents D.may_leave disk.old disk.new store.old.standing) }

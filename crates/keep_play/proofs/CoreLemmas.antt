@@ -157,7 +157,8 @@ pub ends_kept : (result : Result KeptPlay NoMemory) (disk : DiskUse) (d stored :
     → IfOk result (λ end. EndsSo (saved_text stored waves lines (length (saves_over stored waves lines (body_standing standing))))
     (MarkedOver stored waves lines disk standing) disk end standing
     (saves_over stored waves lines (body_standing standing)))
-    → IfOk result (λ end. EndsSo (kept_text d waves lines standing) (AllMarked d waves lines disk standing) disk end standing (saves_of_play d waves lines standing))
+    → IfOk result (λ end. EndsSo (kept_text d waves lines standing) (AllMarked d waves lines disk standing) disk end standing
+    (saves_of_play d waves lines standing))
 ends_kept (Ok end) disk d stored waves lines standing is ends =
     let P : Description → Type 0 = λ x. EndsSo (saved_text x waves lines (length (saves_over x waves lines (body_standing standing))))
     (MarkedOver x waves lines disk standing) disk end standing

@@ -110,7 +110,8 @@ pub took_none : (old : CoreView) (s : ServedState) (buf : List ℕ) → CopiesOf
 took_none old s buf copies machine serves = none_of old s buf (offer_in old 1) refl copies machine serves
 
 -- as many as the offer has, or as the buffer takes
-whole_of : (old : CoreView) (s : ServedState) (n size : ℕ) (buf : List ℕ) (o : Option (List ℕ)) → offer_in old 1 ≡ o → length buf ≡ size → 0 < n → CopiesOffer n o buf
+whole_of : (old : CoreView) (s : ServedState) (n size : ℕ) (buf : List ℕ) (o : Option (List ℕ)) → offer_in old 1 ≡ o → length buf ≡ size → 0 < n
+    → CopiesOffer n o buf
     → ((x : CoreState) → Serves old x → offer_in old 1 ≡ offer_at 1 x) → Serves old (unblocked s) → TakesFirst n size s
 whole_of old s n size buf None e long some copies machine serves = absurd (omega (arith, some, copies))
 whole_of old s n size buf (Some left) e long some copies machine serves = record {

@@ -90,7 +90,15 @@ module _ {Net : Type 0} where
   event_none : (net : Option Net) (n : ℕ) (e : Event) (h g : WireHistory) → net ≡ None → g ≡ event_given e h
       → history_seen net n g ≡ event_given e (history_seen net n h)
   event_none None n e h g none is =
-      ap (λ (x : WireHistory). record h { log = x.log; streams = x.streams; starts = x.starts; opened = x.opened; events = x.events; ends = x.ends; stops = x.stops }) is
+      ap (λ (x : WireHistory). record h {
+        log = x.log;
+        streams = x.streams;
+        starts = x.starts;
+        opened = x.opened;
+        events = x.events;
+        ends = x.ends;
+        stops = x.stops;
+      }) is
   event_none (Some net) n e h g none is = absurd (let wrong : Some net ≡ None = none in cc)
 
   pub gives_none : (net : Option Net) (answer : Next) (n w : ℕ) (old new : WireState) → net ≡ None → Gives answer old new

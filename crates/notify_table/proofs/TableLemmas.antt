@@ -405,7 +405,8 @@ module _ (kept : List KeptPlace) (numbers : List ℕ) (port : ℕ) where
   kept_len (InArea (Size area)) there = λ gone. absurd (cc)
   kept_len (Own first len) there = own_len (list_any (λ n. n == port) numbers) first len there
 
-kept_watchable : (kept : List KeptPlace) (numbers : List ℕ) (w v : Watch Watched) → watch_after_reload (watched_after kept numbers) w ≡ Some v → IsWatchable w → IsWatchable v
+kept_watchable : (kept : List KeptPlace) (numbers : List ℕ) (w v : Watch Watched) → watch_after_reload (watched_after kept numbers) w ≡ Some v → IsWatchable w
+    → IsWatchable v
 kept_watchable kept numbers w v = by_answer (watched_after kept numbers w.port w.watched) (λ there. kept_len kept numbers w.port w.watched there)
   where
     by_answer : (o : Option Watched) → ((there : Watched) → o ≡ Some there → watched_len there ≡ watched_len w.watched)
@@ -433,7 +434,8 @@ module _ (kept : List KeptPlace) (numbers : List ℕ) (ws : List (Watch Watched)
         watched = All-filter_map g IsWatchable (kept_watchable kept numbers) ws granted.watched;
       }
 
-  pub reloaded_table : table_from (watches_after_reload (watched_after kept numbers) ws) n ≡ table_after (table_from ws n) (Reloaded (watched_after kept numbers))
+  pub reloaded_table : table_from (watches_after_reload (watched_after kept numbers) ws) n
+      ≡ table_after (table_from ws n) (Reloaded (watched_after kept numbers))
   unfolding watches_after_reload
   reloaded_table =
       ap (λ (l : List (Watch Watched)). let t : WatchTable = record { watches = l; additions = n } in t)

@@ -99,14 +99,16 @@ behind_last r ws n last in_turn is_len is_last later = record {
 }
 
 -- what comes behind all may stand there
-pub in_turn_behind : (w : Watch Watched) (ws : List (Watch Watched)) → HasHandle w → AreInTurn ws → IsPlaceOf (turn_rank w) ws (length ws) → AreInTurn (ws ++ w ∷ [])
+pub in_turn_behind : (w : Watch Watched) (ws : List (Watch Watched)) → HasHandle w → AreInTurn ws → IsPlaceOf (turn_rank w) ws (length ws)
+    → AreInTurn (ws ++ w ∷ [])
 in_turn_behind w ws handle in_turn place = record {
   handles = All-push HasHandle ws w in_turn.handles handle;
   rise = IsNonDecreasingBy-push turn_rank ws w in_turn.rise (λ d some. place.before (length ws - 1) d (omega (arith, some)));
 }
 
 -- and so at any place that is its own
-pub in_turn-insert : (w : Watch Watched) (ws : List (Watch Watched)) (i : ℕ) → HasHandle w → AreInTurn ws → IsPlaceOf (turn_rank w) ws i → AreInTurn (insert ws i w)
+pub in_turn-insert : (w : Watch Watched) (ws : List (Watch Watched)) (i : ℕ) → HasHandle w → AreInTurn ws → IsPlaceOf (turn_rank w) ws i
+    → AreInTurn (insert ws i w)
 in_turn-insert w ws i handle in_turn place = record {
   handles = All-insert HasHandle ws i w in_turn.handles handle;
   rise = IsNonDecreasingBy-insert turn_rank ws i w in_turn.rise place.within place.before place.behind;

@@ -7,7 +7,8 @@ ghost use Rattle.ads_outside.specs.Rose.{Rose};
 ghost use Rattle.ads_outside.specs.FailingCalls.{none_made};
 ghost use Rattle.spec_store.specs.Disk.{written, Torn};
 ghost use Rattle.persist_store.specs.Disk.{bytes_at};
-ghost use Rattle.persist_store.specs.MemDisk.{stops_next, has_stopped, is_to_fail, are_made_by, some_of, put_next, after_call, after_name, after_put, after_sync};
+ghost use Rattle.persist_store.specs.MemDisk.{stops_next, has_stopped, is_to_fail, are_made_by, some_of, put_next, after_call, after_name, after_put};
+ghost use Rattle.persist_store.specs.MemDisk.{after_sync};
 
 use crate::past_write::{PastWrite, PastWrites};
 use crate::written::written_copy;

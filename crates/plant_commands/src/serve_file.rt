@@ -76,7 +76,8 @@ pub fn serve_in<T: Threads + Sync, F: Files, W: Wire, S: Sink, G: Sources>(
 ) -> Status
     requires few { length (G.waves signals) < 2 ^ 32 }
     ensures ends { OverFile (F.state files.old).held (λ held.
-        ServesBy (verdict_of_file (verdict_of_serve_in (profile_of profile) (G.waves signals) description.now listen.now events) (bytes_of held description.now))
+        ServesBy (verdict_of_file (verdict_of_serve_in (profile_of profile) (G.waves signals) description.now listen.now events)
+        (bytes_of held description.now))
         (Rose (F.state files.old).faults (F.state files.new).faults) result (S.state out.old) (S.state out.new)
         (W.state wire.old).history (W.state wire.new).history) }
     ensures reads { ReadsOne result (F.state files.old).names (F.state files.new).names description.now }

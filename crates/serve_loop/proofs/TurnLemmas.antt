@@ -146,7 +146,8 @@ told_turn step noted old_serves new_serves old new (event.Reload bytes) takes = 
 told_turn step noted old_serves new_serves old new (event.Writable c) takes = takes
 
 -- and the event went back to the wire, which changes nothing
-pub told_after : {W C : Type 0} (step : EventStep W C) (noted : Noting W C) (old_serves new_serves : Standing W C → Type 0) (old mid new : WireState) (e : Event)
+pub told_after : {W C : Type 0} (step : EventStep W C) (noted : Noting W C) (old_serves new_serves : Standing W C → Type 0) (old mid new : WireState)
+    (e : Event)
     → new ≡ mid → TakesEvent step noted old_serves new_serves old.history mid.history (turn_of_event e)
     → (tells : Turn) → tells ≡ turn_of_event e → AfterTurn tells step noted old_serves new_serves old new
 told_after {W} {C} step noted old_serves new_serves old mid new e same takes tells is =

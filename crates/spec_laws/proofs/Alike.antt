@@ -6,7 +6,8 @@ use Rattle.spec_plant.specs.Description.{Area, Inputs, Outputs, Memory, Process}
 use Rattle.spec_plant.specs.World.{Block, Part, SymbolPart, AreaPart, StatePart, PlantSymbol, PlantPort, Plant, symbol_size, is_block_of, block_of}
 use Rattle.spec_plant.proofs.BlockLemmas.{with_byte-length, nth-length}
 use Rattle.spec_plant.proofs.SameSizes.{same_type-size}
-use Rattle.spec_machine.specs.World.{port_numbered, first_symbol_block, first_area_block, first_state_block, first_blocks, first_memory, FIRST_VERSION, VERSION_AT}
+use Rattle.spec_machine.specs.World.{port_numbered, first_symbol_block, first_area_block, first_state_block, first_blocks, first_memory, FIRST_VERSION}
+use Rattle.spec_machine.specs.World.{VERSION_AT}
 use Rattle.spec_machine.specs.Access.{Put, addressed_name, byte_after, memory_after_put, memory_after_puts}
 use Rattle.spec_machine.specs.Acts.{Act, Refusal, Allowed, memory_after, memory_after_acts}
 use Rattle.spec_machine.specs.Client.{Kept}

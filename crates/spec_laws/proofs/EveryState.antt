@@ -124,7 +124,11 @@ pub record Goes (x y : Exchange World Client) : Type 0 where
   pub memory : Alike y.world.memory x.world.memory
 
 goes_then : (x y z : Exchange World Client) → Goes x y → Goes y z → Goes x z
-goes_then x y z p q = record { profile = q.profile ∙ p.profile; plant = q.plant ∙ p.plant; memory = alike_then z.world.memory y.world.memory x.world.memory q.memory p.memory }
+goes_then x y z p q = record {
+  profile = q.profile ∙ p.profile;
+  plant = q.plant ∙ p.plant;
+  memory = alike_then z.world.memory y.world.memory x.world.memory q.memory p.memory;
+}
 
 packet-goes : (reading : DescriptionReading) (p : List ℕ) (x : Exchange World Client) → Goes x (after_packet (ads_device reading) p x)
 unfolding after_packet performed
@@ -377,7 +381,8 @@ watches-there : (plant : Plant) (m : List Block) → Alike m (first_memory FIRST
 watches-there plant m a [] e = tt
 watches-there plant m a (w ∷ ws) e = (watch-there plant m a w.watched (e.0), watches-there plant m a ws (e.1))
 
-each-there : (w : World) → Alike w.memory (first_memory FIRST_VERSION w.plant) → (ks : List (Connection Client)) → Each (ConnFits w.plant) ks → Each (ConnectionFits w) ks
+each-there : (w : World) → Alike w.memory (first_memory FIRST_VERSION w.plant) → (ks : List (Connection Client)) → Each (ConnFits w.plant) ks
+    → Each (ConnectionFits w) ks
 each-there w a [] e = tt
 each-there w a (k ∷ ks) e = (
   λ heard. record { handles = (e.0 heard).handles; watches = watches-there w.plant w.memory a k.client.watches (e.0 heard).watches },

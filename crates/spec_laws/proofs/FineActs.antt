@@ -293,7 +293,8 @@ read_write-fine plant d c p k (Some InfoByName) len name =
     act_if plant (nat_lt len 12) (Refusal invalid_size)
     (if_found (found_of p.symbols name) (λ f. fixed_data (info_of f))) (act_refusal plant invalid_size) inside
 read_write-fine plant d c p k (Some ExtendedInfoByName) len name =
-    if_found-fine plant (found_of p.symbols name) (λ f. fixed_reply len (entry_bytes (entry_of_part d.profile.manner f))) (λ f e. search (act_if, act_refusal, act_fixed))
+    if_found-fine plant (found_of p.symbols name) (λ f. fixed_reply len (entry_bytes (entry_of_part d.profile.manner f)))
+    (λ f e. search (act_if, act_refusal, act_fixed))
 read_write-fine plant d c p k g len name = act_refusal plant invalid_group
 
 watch-fine : (plant : Plant) (c : Client) (w : Watch (List Addressed)) → AreNamed plant w.watched → FineAct plant (add_watch c w)

@@ -14,7 +14,8 @@ use Rattle.spec_machine.proofs.FirstMemory.{first-own as own_first, first-area a
 use Rattle.spec_laws.specs.Soundness.{Each, IsSoundSymbol, IsSoundPlant}
 
 -- a port's own bytes are five
-pub first-own : (v n : ℕ) (p : PlantPort) (ps : List PlantPort) → port_numbered n ps ≡ Some p → length (block_of (flat_map (first_blocks v) ps) n StatePart) ≡ OWN_SIZE
+pub first-own : (v n : ℕ) (p : PlantPort) (ps : List PlantPort) → port_numbered n ps ≡ Some p
+    → length (block_of (flat_map (first_blocks v) ps) n StatePart) ≡ OWN_SIZE
 first-own v n p ps e = ap length (own_first v n p ps e)
 
 -- an area's block is as long as the area

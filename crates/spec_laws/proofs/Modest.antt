@@ -63,7 +63,8 @@ abbrev pub IsModestPlant : Plant → Type 0
 IsModestPlant plant = Each IsModestPort plant.ports
 
 -- the upload has the size that is accepted
-length-entry : (x : Manner) (types : List NamedType) (s : Symbol) → length (entry_bytes (entry_of_symbol x (plant_symbol types s))) ≡ symbol_entry_length types s
+length-entry : (x : Manner) (types : List NamedType) (s : Symbol) → length (entry_bytes (entry_of_symbol x (plant_symbol types s)))
+    ≡ symbol_entry_length types s
 length-entry x types s = let e = length-entry_fields (entry_of_symbol x (plant_symbol types s)) in omega (arith, e)
 
 pub length-upload : (x : Manner) (types : List NamedType) (ss : List Symbol)

@@ -103,7 +103,8 @@ read_write-next d c p (Some InfoByName) len name =
     let inside = if_found-next c (found_of p.symbols name) (λ f. fixed_data (info_of f)) (λ f. next_fixed c (info_of f)) in
     next_if c (nat_lt len 12) (Refusal invalid_size) (if_found (found_of p.symbols name) (λ f. fixed_data (info_of f))) (next_refusal c invalid_size) inside
 read_write-next d c p (Some ExtendedInfoByName) len name =
-    if_found-next c (found_of p.symbols name) (λ f. fixed_reply len (entry_bytes (entry_of_part d.profile.manner f))) (λ f. search (next_if, next_refusal, next_fixed))
+    if_found-next c (found_of p.symbols name) (λ f. fixed_reply len (entry_bytes (entry_of_part d.profile.manner f)))
+    (λ f. search (next_if, next_refusal, next_fixed))
 read_write-next d c p g len name = next_refusal c invalid_group
 
 add_reached-next : (c : Client) (k : Asker) (mode : Mode) (len cycle : ℕ) (r : Result (List Addressed) ℕ) → NextAct c (add_reached c k mode len cycle r)

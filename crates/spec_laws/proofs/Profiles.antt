@@ -36,7 +36,8 @@ use Rattle.spec_machine.specs.AdsDevice.{DescriptionReading, reloading, ads_devi
 use Rattle.spec_machine.proofs.Meanings.{meant-strict}
 use Rattle.spec_machine.proofs.MoreActs.{more_act-strict}
 use Rattle.spec_laws.specs.Isolation.{start_in}
-use Rattle.spec_laws.specs.Profiles.{KeepsProfile, StrictIsPlain, WritesArePlain, WideReadsByHandle, WideReadsByName, WideModes, WideTypes, StrictSums, WideSums}
+use Rattle.spec_laws.specs.Profiles.{KeepsProfile, StrictIsPlain, WritesArePlain, WideReadsByHandle, WideReadsByName, WideModes, WideTypes, StrictSums}
+use Rattle.spec_laws.specs.Profiles.{WideSums}
 use Rattle.spec_laws.proofs.EveryState.{Goes, piece-goes, took-goes, gone-goes}
 
 -- the profile of every state

@@ -262,7 +262,8 @@ refuses_handle d c k handle code dead =
     let reach : (len : ℕ) → addressed_by_status k.port.number (kept_status c.handles handle k.port.number) len ≡ Err code =
     λ len. dead-reach k.port.number (kept_status c.handles handle k.port.number) code len dead in
     record {
-      read = λ len g. rw (more_read-none d.profile.manner k.port.number value_by_handle handle len refl, g) (let r = reach (read_len_in d.profile.manner c k.port (Some ValueByHandle) handle len) in rw r refl);
+      read = λ len g. rw (more_read-none d.profile.manner k.port.number value_by_handle handle len refl, g)
+          (let r = reach (read_len_in d.profile.manner c k.port (Some ValueByHandle) handle len) in rw r refl);
       write = λ bytes g may. rw g (let r = reach (length bytes) in rw (may, r) refl);
       write_without_right = λ bytes g may. rw g (rw may refl);
       add = λ len number delay cycle mode g known few.

@@ -87,7 +87,8 @@ read-limit : (d : Setup) (c : Client) (p : PlantPort) → IsKnown d.plant c p
 unfolding read_group
 read-limit d c p k (Some (AreaSize a)) offset len = fixed-within greatest_len len (to_le_bytes w32 (size_in p.sizes a)) (omega arith)
 read-limit d c p k (Some SymbolVersion) offset len = fixed-within greatest_len len (d.version ∷ []) (omega arith)
-read-limit d c p k (Some SymbolUpload) offset len = fixed-within greatest_len len (symbol_upload_of d.profile.manner p) ((port-modest d.plant c p k).upload d.profile.manner)
+read-limit d c p k (Some SymbolUpload) offset len = fixed-within greatest_len len (symbol_upload_of d.profile.manner p)
+    ((port-modest d.plant c p k).upload d.profile.manner)
 read-limit d c p k (Some UploadInfo) offset len = fixed-within greatest_len len (upload_info_of d.profile.manner p) (omega arith)
 read-limit d c p k (Some TypeUpload) offset len = upload-short len (type_upload_of d.plant)
 read-limit d c p k (Some UploadInfoWithTypes) offset len = fixed-within greatest_len len (upload_info_with_types_of d.profile.manner d.plant p) (omega arith)
@@ -142,7 +143,8 @@ read_write-limit d c p k (Some InfoByName) len name =
     (λ h. if_found-short greatest_len (found_of p.symbols name) (λ f. fixed_data (info_of f)) (λ f e. short_fixed greatest_len (info_of f) (omega arith)))
 read_write-limit d c p k (Some ExtendedInfoByName) len name =
     if_found-short greatest_len (found_of p.symbols name) (λ f. fixed_reply len (entry_bytes (entry_of_part d.profile.manner f)))
-    (λ f e. fixed-within greatest_len len (entry_bytes (entry_of_part d.profile.manner f)) (entry-short d.profile.manner p (port-modest d.plant c p k) name f e))
+    (λ f e. fixed-within greatest_len len (entry_bytes (entry_of_part d.profile.manner f))
+    (entry-short d.profile.manner p (port-modest d.plant c p k) name f e))
 read_write-limit d c p k g len name = short_refusal greatest_len _
 
 plain-limit : (d : Setup) (c : Client) (k : Asker) → IsKnown d.plant c k.port → (r : Request) → IsShort greatest_len (plain_act d c k r)
@@ -152,7 +154,8 @@ plain-limit d c k i (Read group offset len) = read-limit d c k.port i (answered_
 plain-limit d c k i (Write group offset bytes) = write_group-limit greatest_len c k (answered_group _ group) offset bytes
 plain-limit d c k i ReadState = short_reading greatest_len (map WholeByte (state_names k.port)) (omega arith)
 plain-limit d c k i (WriteControl ads device bytes) = control-limit greatest_len k ads device
-plain-limit d c k i (AddDeviceNotification group offset len mode delay cycle) = add-limit c k len cycle _ (reach_of c k.port (answered_group _ group) offset len)
+plain-limit d c k i (AddDeviceNotification group offset len mode delay cycle) = add-limit c k len cycle _
+    (reach_of c k.port (answered_group _ group) offset len)
 plain-limit d c k i (DeleteDeviceNotification handle) =
     short_if greatest_len _ _ _ (short_changing greatest_len [] (Deletes handle) (omega arith)) (short_refusal greatest_len _)
 plain-limit d c k i (DeviceNotification bytes) = short_fixed greatest_len [] (omega arith)

@@ -215,7 +215,8 @@ read_write-asked d c p (Some InfoByName) len name =
     least-short len 12 len invalid_size _
     (λ h. if_found-short len (found_of p.symbols name) (λ f. fixed_data (info_of f)) (λ f e. short_fixed len (info_of f) h))
 read_write-asked d c p (Some ExtendedInfoByName) len name =
-    if_found-short len (found_of p.symbols name) (λ f. fixed_reply len (entry_bytes (entry_of_part d.profile.manner f))) (λ f e. fixed-asked len (entry_bytes (entry_of_part d.profile.manner f)))
+    if_found-short len (found_of p.symbols name) (λ f. fixed_reply len (entry_bytes (entry_of_part d.profile.manner f)))
+    (λ f e. fixed-asked len (entry_bytes (entry_of_part d.profile.manner f)))
 read_write-asked d c p g len name = short_refusal len _
 
 -- what an act gives

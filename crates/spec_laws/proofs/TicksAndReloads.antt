@@ -118,7 +118,8 @@ kept_byte (AreaPart area) xs ys first i e = e
 kept_byte StatePart xs ys first i e =
     elim (cases_eq VERSION_AT i) [
       | inl q ↦
-          let P : ℕ → Type 0 = λ j. slice_get xs j ≡ slice_get ys j → slice_get (with_nth_byte xs VERSION_AT f) j ≡ slice_get (with_nth_byte ys VERSION_AT f) j in
+          let P : ℕ → Type 0 = λ j. slice_get xs j ≡ slice_get ys j → slice_get (with_nth_byte xs VERSION_AT f) j
+          ≡ slice_get (with_nth_byte ys VERSION_AT f) j in
           subst P q (λ d. nth-same VERSION_AT f xs ∙ ap (option_map f) d ∙ sym (nth-same VERSION_AT f ys)) e
       | inr ne ↦ nth-other VERSION_AT i f xs (λ q. ne (sym q)) ∙ e ∙ sym (nth-other VERSION_AT i f ys (λ q. ne (sym q)))
     ]

@@ -5,7 +5,8 @@ use Rattle.std.specs.List.{list_all, list_any}
 use Rattle.std.specs.Option.{option_map_or}
 use Rattle.std.proofs.lemmas.Bool.{cases_Bool, and_parts, and_from, eqb-true, eq-eqb, leb-true, ltb-true, le-leb, lt-ltb, false≢true}
 use Rattle.spec_plant.specs.Description.{Area, size_in}
-use Rattle.spec_plant.specs.World.{Plant, PlantPort, PlantSymbol, Part, SymbolPart, AreaPart, StatePart, ByteName, symbol_size, lower_name, is_same_area, is_same_part}
+use Rattle.spec_plant.specs.World.{Plant, PlantPort, PlantSymbol, Part, SymbolPart, AreaPart, StatePart, ByteName, symbol_size, lower_name, is_same_area}
+use Rattle.spec_plant.specs.World.{is_same_part}
 use Rattle.spec_plant.specs.Named.{port_numbered, symbol_named}
 use Rattle.spec_plant.specs.Sound.{Each, IsSoundSymbol, IsSoundPort, IsSoundPlant}
 use Rattle.spec_plant.proofs.BlockLemmas.{same_area-true, same_area-refl, same_part-true, same_part-refl, tells_names_apart}
@@ -20,7 +21,8 @@ use Rattle.spec_machine.specs.Reloads.{is_kept, is_kept_part}
 use Rattle.spec_machine.specs.HandleLaws.{AgreeingPlaces}
 use Rattle.spec_machine.specs.AreaNames.{is_covered}
 use Rattle.spec_machine.specs.NumberedPlaces.{NumberedPlace, KeptSymbol, IsEntryOf, is_entry_of_symbol, entry_of_symbol, AreKeptSymbols}
-use Rattle.spec_machine.specs.WatchedRanges.{is_same_addressed, are_same_addressed, is_range_at, is_watched_at, is_same_watched, has_bytes, entry_of_bytes, bytes_of_entry}
+use Rattle.spec_machine.specs.WatchedRanges.{is_same_addressed, are_same_addressed, is_range_at, is_watched_at, is_same_watched, has_bytes, entry_of_bytes}
+use Rattle.spec_machine.specs.WatchedRanges.{bytes_of_entry}
 use Rattle.spec_machine.specs.WatchedRanges.{Watched, InArea, Own, bit_of_entry, moved_watched, numbers_of, WatchedMoveAlike}
 use Rattle.spec_machine.proofs.AreaNames.{tiles_give_names, spans_give_names}
 use Rattle.spec_machine.proofs.Reloaded.{IsCoveredBy, covered_by, part-kept}
@@ -311,7 +313,8 @@ watched_parts : (ports : List PlantPort) (port : ℕ) (named : List Addressed) (
     → IsWatchedOf ports port named watched
 watched_parts ports port named watched t = go (port_numbered port ports) refl t
   where
-    go : (o : Option PlantPort) → port_numbered port ports ≡ o → option_map_or (is_watched_at named watched) o false ≡ true → IsWatchedOf ports port named watched
+    go : (o : Option PlantPort) → port_numbered port ports ≡ o → option_map_or (is_watched_at named watched) o false ≡ true
+        → IsWatchedOf ports port named watched
     go None e u = absurd (false≢true u)
     go (Some p) e u = record { at_port = p; port_found = e; is_watched = u }
 
@@ -336,8 +339,10 @@ bit_of_range watched area offset bit p t =
 bytes_alike : (old new : Plant) (kept : List KeptSymbol) (numbers : List ℕ) → IsSoundPlant old → IsSoundPlant new → AreKeptSymbols old new kept
     → (port : ℕ) (watched : List Addressed) (area : Area) (offset len : ℕ)
     → is_same_watched old.ports port watched (InArea (Bytes area offset len)) ≡ true
-    → AgreeingPlaces (is_same_watched new.ports) port (kept_bytes (is_kept old new) port watched) (moved_watched kept numbers port (InArea (Bytes area offset len)))
-bytes_alike old new kept numbers so sn are port watched area offset len t = go (entry_of_bytes kept port area offset len) refl (are_kept (is_kept old new) watched) refl
+    → AgreeingPlaces (is_same_watched new.ports) port (kept_bytes (is_kept old new) port watched)
+    (moved_watched kept numbers port (InArea (Bytes area offset len)))
+bytes_alike old new kept numbers so sn are port watched area offset len t = go (entry_of_bytes kept port area offset len) refl
+    (are_kept (is_kept old new) watched) refl
   where
     i : IsWatchedOf old.ports port watched (InArea (Bytes area offset len))
     i = watched_parts old.ports port watched (InArea (Bytes area offset len)) t
@@ -355,7 +360,8 @@ bytes_alike old new kept numbers so sn are port watched area offset len t = go (
     moved_to e f = let both =
         found_bytes old new port area offset len kept are.each e f in moved old new port i.at_port area offset len e so sn i.port_found both.0 both.1
 
-    there : (e : KeptSymbol) → IsMoved old new port i.at_port area offset len e → is_same_watched new.ports port watched (InArea (bytes_of_entry offset len e)) ≡ true
+    there : (e : KeptSymbol) → IsMoved old new port i.at_port area offset len e
+        → is_same_watched new.ports port watched (InArea (bytes_of_entry offset len e)) ≡ true
     there e m =
         let first : ℕ = e.after.first + (offset - e.before.first) in
         let watched_is : watched ≡ map WholeByte (names_at m.at_port e.after.area first len) = names ∙ ap (map WholeByte) m.names in
@@ -367,7 +373,8 @@ bytes_alike old new kept numbers so sn are port watched area offset len t = go (
         (and_from (nat_lt 0 len && nat_le (first + len) (size_in m.at_port.sizes e.after.area)) _ (and_from (nat_lt 0 len) _ a b) same)
 
     go : (o : Option KeptSymbol) → entry_of_bytes kept port area offset len ≡ o → (k : Bool) → are_kept (is_kept old new) watched ≡ k
-        → AgreeingPlaces (is_same_watched new.ports) port (kept_bytes (is_kept old new) port watched) (moved_watched kept numbers port (InArea (Bytes area offset len)))
+        → AgreeingPlaces (is_same_watched new.ports) port (kept_bytes (is_kept old new) port watched)
+        (moved_watched kept numbers port (InArea (Bytes area offset len)))
     go (Some e) f true g = rw (g, f) (there e (moved_to e f))
     go (Some e) f false g = absurd (false≢true (sym g ∙ kept_watched ∙ (moved_to e f).kept some))
     go None f true g =
@@ -382,8 +389,10 @@ single p area offset = refl
 bit_alike : (old new : Plant) (kept : List KeptSymbol) (numbers : List ℕ) → IsSoundPlant old → IsSoundPlant new → AreKeptSymbols old new kept
     → (port : ℕ) (watched : List Addressed) (area : Area) (offset bit : ℕ)
     → is_same_watched old.ports port watched (InArea (Bit area offset bit)) ≡ true
-    → AgreeingPlaces (is_same_watched new.ports) port (kept_bytes (is_kept old new) port watched) (moved_watched kept numbers port (InArea (Bit area offset bit)))
-bit_alike old new kept numbers so sn are port watched area offset bit t = go (entry_of_bytes kept port area offset 1) refl (are_kept (is_kept old new) watched) refl
+    → AgreeingPlaces (is_same_watched new.ports) port (kept_bytes (is_kept old new) port watched)
+    (moved_watched kept numbers port (InArea (Bit area offset bit)))
+bit_alike old new kept numbers so sn are port watched area offset bit t = go (entry_of_bytes kept port area offset 1) refl
+    (are_kept (is_kept old new) watched) refl
   where
     i : IsWatchedOf old.ports port watched (InArea (Bit area offset bit))
     i = watched_parts old.ports port watched (InArea (Bit area offset bit)) t
@@ -405,7 +414,8 @@ bit_alike old new kept numbers so sn are port watched area offset bit t = go (en
     first_of n [] = n
     first_of n (m ∷ ms) = m
 
-    there : (e : KeptSymbol) → IsMoved old new port i.at_port area offset 1 e → is_same_watched new.ports port watched (InArea (bit_of_entry offset bit e)) ≡ true
+    there : (e : KeptSymbol) → IsMoved old new port i.at_port area offset 1 e
+        → is_same_watched new.ports port watched (InArea (bit_of_entry offset bit e)) ≡ true
     there e m =
         let first : ℕ = e.after.first + (offset - e.before.first) in
         let head : name_at i.at_port area offset ≡ name_at m.at_port e.after.area first
@@ -419,7 +429,8 @@ bit_alike old new kept numbers so sn are port watched area offset bit t = go (en
         (and_from (nat_lt first (size_in m.at_port.sizes e.after.area)) _ a same)
 
     go : (o : Option KeptSymbol) → entry_of_bytes kept port area offset 1 ≡ o → (k : Bool) → are_kept (is_kept old new) watched ≡ k
-        → AgreeingPlaces (is_same_watched new.ports) port (kept_bytes (is_kept old new) port watched) (moved_watched kept numbers port (InArea (Bit area offset bit)))
+        → AgreeingPlaces (is_same_watched new.ports) port (kept_bytes (is_kept old new) port watched)
+        (moved_watched kept numbers port (InArea (Bit area offset bit)))
     go (Some e) f true g = rw (g, f) (there e (moved_to e f))
     go (Some e) f false g = absurd (false≢true (sym g ∙ kept_watched ∙ (moved_to e f).kept some))
     go None f true g =

@@ -74,7 +74,8 @@ zeros (suc n) (suc i) h = zeros n i (omega (arith, h))
 
 -- in a new world
 
-first_symbol : (version : ℕ) (plant : Plant) (p : PlantPort) (n : ℕ) (s : PlantSymbol) (k : ℕ) → IsSoundPlant plant → port_numbered p.number plant.ports ≡ Some p
+first_symbol : (version : ℕ) (plant : Plant) (p : PlantPort) (n : ℕ) (s : PlantSymbol) (k : ℕ) → IsSoundPlant plant
+    → port_numbered p.number plant.ports ≡ Some p
     → slice_get p.symbols n ≡ Some s
     → byte_at (first_memory version plant) (name_in_symbol p.number s k) ≡ slice_get s.initial k
 unfolding byte_at
@@ -83,17 +84,20 @@ first_symbol version plant p n s k sound found g =
     let own = each-get (IsSoundSymbol p) p.symbols n s port.symbols g in
     ap (λ xs. slice_get xs k) (first-symbol version p.number (lower_name s) p s plant.ports found own.found)
 
-first_gap : (version : ℕ) (plant : Plant) (p : PlantPort) (area : Area) (offset : ℕ) → port_numbered p.number plant.ports ≡ Some p → offset < size_in p.sizes area
+first_gap : (version : ℕ) (plant : Plant) (p : PlantPort) (area : Area) (offset : ℕ) → port_numbered p.number plant.ports ≡ Some p
+    → offset < size_in p.sizes area
     → byte_at (first_memory version plant) (name_in_gap p.number area offset) ≡ Some 0
 unfolding byte_at
-first_gap version plant p area offset found u = ap (λ xs. slice_get xs offset) (first-area version p.number area p plant.ports found) ∙ zeros (size_in p.sizes area) offset u
+first_gap version plant p area offset found u = ap (λ xs. slice_get xs offset) (first-area version p.number area p plant.ports found)
+    ∙ zeros (size_in p.sizes area) offset u
 
 first_own : (version : ℕ) (plant : Plant) (p : PlantPort) (k : ℕ) → port_numbered p.number plant.ports ≡ Some p
     → byte_at (first_memory version plant) (own_name p.number k) ≡ slice_get (own_bytes RUN 0 version) k
 unfolding byte_at
 first_own version plant p k found = ap (λ xs. slice_get xs k) (first-own version p.number p plant.ports found)
 
-first_tiles : (version : ℕ) (plant : Plant) (p : PlantPort) (image : List ℕ) → IsSoundPlant plant → port_numbered p.number plant.ports ≡ Some p → IsFirstImage p image
+first_tiles : (version : ℕ) (plant : Plant) (p : PlantPort) (image : List ℕ) → IsSoundPlant plant → port_numbered p.number plant.ports ≡ Some p
+    → IsFirstImage p image
     → StandByTiles (first_memory version plant) p image
 first_tiles version plant p image sound found f = record {
   symbols = λ n s k g u. first_symbol version plant p n s k sound found g ∙ sym (f.symbols n s k g u);
@@ -185,10 +189,12 @@ old_byte memory was b ports port name s k sound same found u h =
     name_with : ℕ → Part → ℕ → ByteName
     name_with n part i = record { port = n; part = part; index = i }
 
-symbol_reloaded : (version : ℕ) (old new : Plant) (memory : List Block) (was p : PlantPort) (b : PortBytes) (image : List ℕ) → IsSoundPlant old → IsSoundPlant new
+symbol_reloaded : (version : ℕ) (old new : Plant) (memory : List Block) (was p : PlantPort) (b : PortBytes) (image : List ℕ) → IsSoundPlant old
+    → IsSoundPlant new
     → port_numbered p.number old.ports ≡ Some was → port_numbered p.number new.ports ≡ Some p → Holds memory was b → IsReloadedImage was b.image p image
     → (n : ℕ) (t : PlantSymbol) (k : ℕ) → slice_get p.symbols n ≡ Some t → k < symbol_size t
-    → byte_at (memory_after_reload (is_kept old new) memory (first_memory version new)) (name_in_symbol p.number t k) ≡ image_byte p.sizes image t.area (t.offset + k)
+    → byte_at (memory_after_reload (is_kept old new) memory (first_memory version new)) (name_in_symbol p.number t k)
+    ≡ image_byte p.sizes image t.area (t.offset + k)
 symbol_reloaded version old new memory was p b image so sn eo en h r n t k g u = go (symbol_named (lower_name t) was.symbols) refl
   where
     name : ByteName
@@ -228,7 +234,8 @@ symbol_reloaded version old new memory was p b image so sn eo en h r n t k g u =
               ∙ sym (r.kept n s t k g e f u)
         ]
 
-gap_reloaded : (version : ℕ) (old new : Plant) (memory : List Block) (p : PlantPort) (area : Area) (offset : ℕ) (o : Option PlantPort) → port_numbered p.number old.ports ≡ o
+gap_reloaded : (version : ℕ) (old new : Plant) (memory : List Block) (p : PlantPort) (area : Area) (offset : ℕ) (o : Option PlantPort)
+    → port_numbered p.number old.ports ≡ o
     → port_numbered p.number new.ports ≡ Some p → offset < size_in p.sizes area
     → byte_at (memory_after_reload (is_kept old new) memory (first_memory version new)) (name_in_gap p.number area offset) ≡ Some 0
 gap_reloaded version old new memory p area offset o eo en u =

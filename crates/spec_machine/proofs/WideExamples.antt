@@ -86,9 +86,11 @@ record WideRows : Type 0 where
       ++ a 9 6 (codes "00000000 08000000 00000000 00000000") ++ a 2 7 (codes "00000000 04000000 07000900")
   -- the modes in the context of a task are those without; others are refused as ever
   modes : given_wide (
-      piece 1 (added 1 (codes "40400000 00000000 04000000 06000000 00000000 00000000") ++ added 2 (codes "40400000 00000000 04000000 05000000 00000000 00000000"))
+      piece 1 (added 1 (codes "40400000 00000000 04000000 06000000 00000000 00000000")
+      ++ added 2 (codes "40400000 00000000 04000000 05000000 00000000 00000000"))
       ∷ tick 1000 ∷ tick 2000
-      ∷ piece 1 (added 3 (codes "40400000 00000000 04000000 02000000 00000000 00000000") ++ added 4 (codes "40400000 00000000 04000000 07000000 00000000 00000000")) ∷ [])
+      ∷ piece 1 (added 3 (codes "40400000 00000000 04000000 02000000 00000000 00000000")
+      ++ added 4 (codes "40400000 00000000 04000000 07000000 00000000 00000000")) ∷ [])
       ≡ a 6 1 (codes "00000000 01000000") ++ a 6 2 (codes "00000000 02000000")
       ++ stamp 1000 2 (codes "01000000 04000000 2a000000 02000000 04000000 2a000000") ++ stamp 2000 1 (codes "02000000 04000000 2a000000")
       ++ a 6 3 (codes "13070000 00000000") ++ a 6 4 (codes "13070000 00000000")
@@ -139,4 +141,14 @@ unfolding ams_length_of is_header front_of packet_of behind_frame frames_from fr
     acts_of_log acts_by_others reply_in_forms outcome_in_all response_packet performed grouped frames_of_samples samples_at watches_after_tick
     reach_of outcomes_of memory_after_acts client_after_acts is_kept memory_after_reload world_after_reload client_reloaded answered_group
     after_packet after_packets after_piece read_group acts_of decide_request decide digits
-wide_rows = record { longer_reads = refl; as_ever = refl; over_a_reload = refl; names = refl; modes = refl; told_reads = refl; additions = refl; deletions = refl; notes_limits = refl }
+wide_rows = record {
+  longer_reads = refl;
+  as_ever = refl;
+  over_a_reload = refl;
+  names = refl;
+  modes = refl;
+  told_reads = refl;
+  additions = refl;
+  deletions = refl;
+  notes_limits = refl;
+}

@@ -30,7 +30,8 @@ put_here m n b there = byte_at-same m n (λ old. b) ∙ some (byte_at m n) there
     some (Some x) ne = refl
 
 -- a word's byte behind a put of another
-put_beside : (m : List Block) (p : PlantPort) (i j b : ℕ) → i ≢ j → byte_at (with_put m (own_name p.number i) b) (own_name p.number j) ≡ byte_at m (own_name p.number j)
+put_beside : (m : List Block) (p : PlantPort) (i j b : ℕ) → i ≢ j → byte_at (with_put m (own_name p.number i) b) (own_name p.number j)
+    ≡ byte_at m (own_name p.number j)
 put_beside m p i j b ne = byte_at-other m (own_name p.number i) (own_name p.number j) (λ old. b) (λ e. ne (ap (λ (x : ByteName). x.index) e))
 
 four : (a b c d x y z w : ℕ) → a ≡ x → b ≡ y → c ≡ z → d ≡ w → ◌≡◌ {A = List ℕ} (a ∷ b ∷ c ∷ d ∷ []) (x ∷ y ∷ z ∷ w ∷ [])

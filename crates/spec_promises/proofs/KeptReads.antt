@@ -229,7 +229,8 @@ reads-as-before s (Ok d) sound w fits c k l asker later h handle live live_later
     let placed = subst (IsPlacedStatus s.world.plant port) stays.live (kept-placed s.world.plant k.client.handles handle port fit.handles) in
     let after : kept_status l.client.handles handle later.port.number ≡ Live stays.place = ap (kept_status l.client.handles handle) h.same_port ∙ status
     ∙ stays.later in
-    same-reading (setup_of s.world) (setup_of new) s.world.memory new.memory k.client l.client asker later handle len stays.place refl h.same_port stays.live after
+    same-reading (setup_of s.world) (setup_of new) s.world.memory new.memory k.client l.client asker later handle len stays.place refl h.same_port stays.live
+    after
     (place-kept (next_version s.world.version) s.world.plant (plant_of d) s.world.memory w.sound (sound d refl) port stays.place placed stays.is_kept
     (len_of_place s.world.profile.manner stays.place len))
 

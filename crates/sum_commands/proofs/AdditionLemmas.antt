@@ -66,5 +66,6 @@ pub addition-ends : (r : Request) (o : Outcome) (answer : Result ℕ Code) (at :
     → (f : Form) → is_of_additions f ≡ true → IsAddition r o at base out f
 addition-ends r o answer at base out gives fits written =
     let whole : out ≡ written_over at (handle_front o) (base ++ []) =
-    written ∙ ap (λ x. written_over at x base) (handle_front-answer o answer gives fits) ∙ ap (λ x. written_over at (handle_front o) x) (sym (append-nil base)) in
+    written ∙ ap (λ x. written_over at x base) (handle_front-answer o answer gives fits)
+    ∙ ap (λ x. written_over at (handle_front o) x) (sym (append-nil base)) in
     by_additions (IsAddition r o at base out) (record { bytes = whole; asked = omega arith }) (record { bytes = whole; asked = omega arith })

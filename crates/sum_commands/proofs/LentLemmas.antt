@@ -17,7 +17,8 @@ use Rattle.sum_commands.specs.Reads.{WritesLent}
 use Rattle.sum_commands.proofs.RunningLemmas.{Continues, continues-first, continues-next, replies}
 
 -- bytes written over the same bytes
-written_over-there : (front bytes behind : List ℕ) (at : ℕ) → length front ≡ at → written_over at bytes (front ++ (bytes ++ behind)) ≡ front ++ (bytes ++ behind)
+written_over-there : (front bytes behind : List ℕ) (at : ℕ) → length front ≡ at
+    → written_over at bytes (front ++ (bytes ++ behind)) ≡ front ++ (bytes ++ behind)
 written_over-there front bytes behind at count =
     let text = front ++ (bytes ++ behind) in
     let before : take at text ≡ front = take_at front (bytes ++ behind) at count in
@@ -57,14 +58,16 @@ written-up at len bytes room room' fits long written =
 -- the text whose last bytes were lent and written
 pub rest-written : (n len asked begin : ℕ) (base text lent_text lent : List ℕ) → text ≡ base ++ replicate len 0 → len ≡ 4 * n + asked
     → begin ≡ length base + 4 * n → lent_text ≡ text → length lent ≡ length lent_text - begin
-    → take (length text) (put_mid begin (length lent_text - begin) lent_text lent ++ drop (length (put_mid begin (length lent_text - begin) lent_text lent)) text)
+    → take (length text) (put_mid begin (length lent_text - begin) lent_text lent
+    ++ drop (length (put_mid begin (length lent_text - begin) lent_text lent)) text)
     ≡ base ++ (replicate (4 * n) 0 ++ lent)
 rest-written n len asked begin base text lent_text lent whole split there same long =
     let zeros = replicate {A = ℕ} (4 * n) 0 in
     let behind = replicate {A = ℕ} asked 0 in
     let put = put_mid begin (length lent_text - begin) lent_text lent in
     let parts : lent_text ≡ (base ++ zeros) ++ behind =
-    same ∙ whole ∙ ap (λ k. base ++ replicate k 0) split ∙ ap (λ x. base ++ x) (sym (replicate-append-replicate (4 * n) asked 0)) ∙ sym (append_assoc base zeros behind) in
+    same ∙ whole ∙ ap (λ k. base ++ replicate k 0) split ∙ ap (λ x. base ++ x) (sym (replicate-append-replicate (4 * n) asked 0))
+    ∙ sym (append_assoc base zeros behind) in
     let front_long : length (base ++ zeros) ≡ begin = omega (arith, length-append base zeros, length-replicate {A = ℕ} (4 * n) 0, there) in
     let front : take begin lent_text ≡ base ++ zeros = ap (take begin) parts ∙ take_at (base ++ zeros) behind begin front_long in
     let none : drop (length lent_text - begin) (drop begin lent_text) ≡ [] =

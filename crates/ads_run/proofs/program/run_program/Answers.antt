@@ -31,7 +31,8 @@ returns-in-Err-clause-ends g c =
     g.S.Sink.state c.args.out.now c.run_signals.new.out (g.S.Sink.state c.end_without_memory.new.out)
     (λ w. (g.W.Wire.state w).history) c.args.wire.now c.run_signals.new.wire
     g.L.Link.tells g.L.Link.state c.args.link.now c.run_signals.new.link
-    (disk_used g.D.Disk.contents g.D.Disk.may_leave g.D.Disk.moment g.D.Disk.left_since g.D.Disk.marked g.D.Disk.fault_count c.args.disk.now c.run_signals.new.disk)
+    (disk_used g.D.Disk.contents g.D.Disk.may_leave g.D.Disk.moment g.D.Disk.left_since g.D.Disk.marked g.D.Disk.fault_count c.args.disk.now
+    c.run_signals.new.disk)
     (keeper_used g.K.Keeper.state c.args.keeper.now c.run_signals.new.keeper) (
       untouched_same g.D.Disk.may_leave g.D.Disk.moment g.D.Disk.left_since g.met.D.Disk.only_now c.args.disk.now c.run_signals.new.disk
           c.in-Err.ensures.no_memory.4,

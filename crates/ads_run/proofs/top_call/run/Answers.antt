@@ -19,7 +19,8 @@ returns-clause-usage g c =
     (uses (g.S.Sink.state c.args.out.now) (g.S.Sink.state c.run_words-status.new.out)
     (g.W.Wire.state c.args.wire.now).history (g.W.Wire.state c.run_words-status.new.wire).history
     (link_used g.L.Link.tells g.L.Link.state c.args.link.now c.run_words-status.new.link)
-    (disk_used g.D.Disk.contents g.D.Disk.may_leave g.D.Disk.moment g.D.Disk.left_since g.D.Disk.marked g.D.Disk.fault_count c.args.disk.now c.run_words-status.new.disk)
+    (disk_used g.D.Disk.contents g.D.Disk.may_leave g.D.Disk.moment g.D.Disk.left_since g.D.Disk.marked g.D.Disk.fault_count c.args.disk.now
+    c.run_words-status.new.disk)
     (keeper_used g.K.Keeper.state c.args.keeper.now c.run_words-status.new.keeper)) c.run_words-status.ensures.ends).usage
 
 pub returns-clause-write_fault : goal.returns-clause-write_fault
@@ -29,7 +30,8 @@ returns-clause-write_fault g c =
     (uses (g.S.Sink.state c.args.out.now) (g.S.Sink.state c.run_words-status.new.out)
     (g.W.Wire.state c.args.wire.now).history (g.W.Wire.state c.run_words-status.new.wire).history
     (link_used g.L.Link.tells g.L.Link.state c.args.link.now c.run_words-status.new.link)
-    (disk_used g.D.Disk.contents g.D.Disk.may_leave g.D.Disk.moment g.D.Disk.left_since g.D.Disk.marked g.D.Disk.fault_count c.args.disk.now c.run_words-status.new.disk)
+    (disk_used g.D.Disk.contents g.D.Disk.may_leave g.D.Disk.moment g.D.Disk.left_since g.D.Disk.marked g.D.Disk.fault_count c.args.disk.now
+    c.run_words-status.new.disk)
     (keeper_used g.K.Keeper.state c.args.keeper.now c.run_words-status.new.keeper)) c.run_words-status.ensures.ends).write_fault
 
 pub returns-clause-store_fault : goal.returns-clause-store_fault
@@ -37,7 +39,8 @@ returns-clause-store_fault g c =
     let u = uses (g.S.Sink.state c.args.out.now) (g.S.Sink.state c.run_words-status.new.out)
     (g.W.Wire.state c.args.wire.now).history (g.W.Wire.state c.run_words-status.new.wire).history
     (link_used g.L.Link.tells g.L.Link.state c.args.link.now c.run_words-status.new.link)
-    (disk_used g.D.Disk.contents g.D.Disk.may_leave g.D.Disk.moment g.D.Disk.left_since g.D.Disk.marked g.D.Disk.fault_count c.args.disk.now c.run_words-status.new.disk)
+    (disk_used g.D.Disk.contents g.D.Disk.may_leave g.D.Disk.moment g.D.Disk.left_since g.D.Disk.marked g.D.Disk.fault_count c.args.disk.now
+    c.run_words-status.new.disk)
     (keeper_used g.K.Keeper.state c.args.keeper.now c.run_words-status.new.keeper) in
     store_fault (asked_task (map string_bytes c.args.words.now)) c.run_words-status.result u
     (run_has_cause (g.G.Sources.waves c.args.signals) (map string_bytes c.args.words.now) c.run_words-status.result
@@ -48,7 +51,8 @@ returns-clause-keeper_fault g c =
     let u = uses (g.S.Sink.state c.args.out.now) (g.S.Sink.state c.run_words-status.new.out)
     (g.W.Wire.state c.args.wire.now).history (g.W.Wire.state c.run_words-status.new.wire).history
     (link_used g.L.Link.tells g.L.Link.state c.args.link.now c.run_words-status.new.link)
-    (disk_used g.D.Disk.contents g.D.Disk.may_leave g.D.Disk.moment g.D.Disk.left_since g.D.Disk.marked g.D.Disk.fault_count c.args.disk.now c.run_words-status.new.disk)
+    (disk_used g.D.Disk.contents g.D.Disk.may_leave g.D.Disk.moment g.D.Disk.left_since g.D.Disk.marked g.D.Disk.fault_count c.args.disk.now
+    c.run_words-status.new.disk)
     (keeper_used g.K.Keeper.state c.args.keeper.now c.run_words-status.new.keeper) in
     keeper_fault (asked_task (map string_bytes c.args.words.now)) c.run_words-status.result u
     (run_has_cause (g.G.Sources.waves c.args.signals) (map string_bytes c.args.words.now) c.run_words-status.result

@@ -17,7 +17,8 @@ use Rattle.ads_run.proofs.top_call.run_task.Goals as goal
 pub returns-in-OfFiles-clause-ends : goal.returns-in-OfFiles-clause-ends
 returns-in-OfFiles-clause-ends g c =
     let held = (g.F.Files.state c.args.files.now).held in
-    let disk = disk_used g.D.Disk.contents g.D.Disk.may_leave g.D.Disk.moment g.D.Disk.left_since g.D.Disk.marked g.D.Disk.fault_count c.args.disk.now c.args.disk.now in
+    let disk = disk_used g.D.Disk.contents g.D.Disk.may_leave g.D.Disk.moment g.D.Disk.left_since g.D.Disk.marked g.D.Disk.fault_count c.args.disk.now
+    c.args.disk.now in
     let keeper = keeper_used g.K.Keeper.state c.args.keeper.now c.args.keeper.now in
     let waves = g.G.Sources.waves c.args.signals in
     let failed = Rose (g.F.Files.state c.args.files.now).faults (g.F.Files.state c.print_file_task.new.files).faults in
@@ -32,7 +33,8 @@ returns-in-OfFiles-clause-ends g c =
 pub returns-in-Serve-clause-ends : goal.returns-in-Serve-clause-ends
 returns-in-Serve-clause-ends g c =
     let held = (g.F.Files.state c.args.files.now).held in
-    let disk = disk_used g.D.Disk.contents g.D.Disk.may_leave g.D.Disk.moment g.D.Disk.left_since g.D.Disk.marked g.D.Disk.fault_count c.args.disk.now c.args.disk.now in
+    let disk = disk_used g.D.Disk.contents g.D.Disk.may_leave g.D.Disk.moment g.D.Disk.left_since g.D.Disk.marked g.D.Disk.fault_count c.args.disk.now
+    c.args.disk.now in
     let keeper = keeper_used g.K.Keeper.state c.args.keeper.now c.args.keeper.now in
     let waves = g.G.Sources.waves c.args.signals in
     let failed = Rose (g.F.Files.state c.args.files.now).faults (g.F.Files.state c.serve.new.files).faults in
@@ -49,7 +51,8 @@ returns-in-Serve-clause-ends g c =
 pub returns-in-RelayServe-clause-ends : goal.returns-in-RelayServe-clause-ends
 returns-in-RelayServe-clause-ends g c =
     let held = (g.F.Files.state c.args.files.now).held in
-    let disk = disk_used g.D.Disk.contents g.D.Disk.may_leave g.D.Disk.moment g.D.Disk.left_since g.D.Disk.marked g.D.Disk.fault_count c.args.disk.now c.args.disk.now in
+    let disk = disk_used g.D.Disk.contents g.D.Disk.may_leave g.D.Disk.moment g.D.Disk.left_since g.D.Disk.marked g.D.Disk.fault_count c.args.disk.now
+    c.args.disk.now in
     let keeper = keeper_used g.K.Keeper.state c.args.keeper.now c.args.keeper.now in
     let waves = g.G.Sources.waves c.args.signals in
     let failed = Rose (g.F.Files.state c.args.files.now).faults (g.F.Files.state c.serve_relay.new.files).faults in
@@ -68,7 +71,8 @@ returns-in-RelayServe-clause-ends g c =
 pub returns-in-Ask-clause-ends : goal.returns-in-Ask-clause-ends
 returns-in-Ask-clause-ends g c =
     let held = (g.F.Files.state c.args.files.now).held in
-    let disk = disk_used g.D.Disk.contents g.D.Disk.may_leave g.D.Disk.moment g.D.Disk.left_since g.D.Disk.marked g.D.Disk.fault_count c.args.disk.now c.args.disk.now in
+    let disk = disk_used g.D.Disk.contents g.D.Disk.may_leave g.D.Disk.moment g.D.Disk.left_since g.D.Disk.marked g.D.Disk.fault_count c.args.disk.now
+    c.args.disk.now in
     let keeper = keeper_used g.K.Keeper.state c.args.keeper.now c.args.keeper.now in
     let waves = g.G.Sources.waves c.args.signals in
     let failed = Rose (g.F.Files.state c.args.files.now).faults (g.F.Files.state c.ask.new.files).faults in
@@ -82,7 +86,8 @@ returns-in-Ask-clause-ends g c =
 pub returns-in-Keep-clause-ends : goal.returns-in-Keep-clause-ends
 returns-in-Keep-clause-ends g c =
     let held = (g.F.Files.state c.args.files.now).held in
-    let disk = disk_used g.D.Disk.contents g.D.Disk.may_leave g.D.Disk.moment g.D.Disk.left_since g.D.Disk.marked g.D.Disk.fault_count c.args.disk.now c.keep.new.disk in
+    let disk = disk_used g.D.Disk.contents g.D.Disk.may_leave g.D.Disk.moment g.D.Disk.left_since g.D.Disk.marked g.D.Disk.fault_count c.args.disk.now
+    c.keep.new.disk in
     let keeper = keeper_used g.K.Keeper.state c.args.keeper.now c.args.keeper.now in
     let waves = g.G.Sources.waves c.args.signals in
     let failed = Rose (g.F.Files.state c.args.files.now).faults (g.F.Files.state c.keep.new.files).faults in
@@ -99,7 +104,8 @@ returns-in-Keep-clause-ends g c =
 pub returns-in-Record-clause-ends : goal.returns-in-Record-clause-ends
 returns-in-Record-clause-ends g c =
     let held = (g.F.Files.state c.args.files.now).held in
-    let disk = disk_used g.D.Disk.contents g.D.Disk.may_leave g.D.Disk.moment g.D.Disk.left_since g.D.Disk.marked g.D.Disk.fault_count c.args.disk.now c.args.disk.now in
+    let disk = disk_used g.D.Disk.contents g.D.Disk.may_leave g.D.Disk.moment g.D.Disk.left_since g.D.Disk.marked g.D.Disk.fault_count c.args.disk.now
+    c.args.disk.now in
     let keeper = keeper_used g.K.Keeper.state c.args.keeper.now c.record.new.keeper in
     let waves = g.G.Sources.waves c.args.signals in
     let failed = Rose (g.F.Files.state c.args.files.now).faults (g.F.Files.state c.record.new.files).faults in

@@ -19,7 +19,8 @@ returns-in-Ok-Some-clause-ends g c =
     (uses (g.S.Sink.state c.args.out.now) (g.S.Sink.state c.run_task.new.out)
     (g.W.Wire.state c.args.wire.now).history (g.W.Wire.state c.run_task.new.wire).history
     (link_used g.L.Link.tells g.L.Link.state c.args.link.now c.run_task.new.link)
-    (disk_used g.D.Disk.contents g.D.Disk.may_leave g.D.Disk.moment g.D.Disk.left_since g.D.Disk.marked g.D.Disk.fault_count c.args.disk.now c.run_task.new.disk)
+    (disk_used g.D.Disk.contents g.D.Disk.may_leave g.D.Disk.moment g.D.Disk.left_since g.D.Disk.marked g.D.Disk.fault_count c.args.disk.now
+    c.run_task.new.disk)
     (keeper_used g.K.Keeper.state c.args.keeper.now c.run_task.new.keeper))
     (sym c.in-Ok-Some.ensures.asked ∙ c.in-Ok-Some.field-0-is) c.run_task.ensures.ends
 

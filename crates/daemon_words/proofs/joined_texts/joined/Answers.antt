@@ -16,5 +16,6 @@ returns c =
     let none : drop c.loop-text.text-index c.args.texts.now ≡ [] = drop_all c.loop-text.text-index c.args.texts.now (search rules) in
     let line : c.as_str-2.result.now ≡ string_bytes c.loop-text.line = search rules in
     if_ok c.copy_of.result (λ t. t ≡ c.as_str-2.result.now) (λ t. t ≡ joined c.args.texts.now)
-    (λ t is. is ∙ (line ∙ joined_end c.args.texts.now (drop c.loop-text.text-index c.args.texts.now) (string_bytes c.loop-text.line) none c.loop-text.invariant))
+    (λ t is. is ∙ (line ∙ joined_end c.args.texts.now (drop c.loop-text.text-index c.args.texts.now) (string_bytes c.loop-text.line) none
+    c.loop-text.invariant))
     c.copy_of.ensures

@@ -14,10 +14,13 @@ use Rattle.keep_loop.proofs.keeping.keep_saves.Goals.{in-Tick, in-Tick-2+in-Same
 
 pub loop-taken-init : goal.loop-taken-init
 loop-taken-init g c = record {
-  so_far = keeps_first c.args.every g.M.Persistent.body_of g.M.Persistent.steps g.M.Persistent.noted g.D.Disk.contents g.D.Disk.may_leave g.D.Disk.moment g.D.Disk.left_since
-      (Also c.args.every g.M.Persistent.body_of g.M.Persistent.steps g.M.Persistent.noted g.D.Disk.contents g.D.Disk.may_leave g.D.Disk.moment g.D.Disk.left_since g.D.Disk.marked (g.W.Wire.state c.args.wire.now).history c.args.disk.now c.args.disk.now c.args.store.now)
+  so_far = keeps_first c.args.every g.M.Persistent.body_of g.M.Persistent.steps g.M.Persistent.noted g.D.Disk.contents g.D.Disk.may_leave g.D.Disk.moment
+      g.D.Disk.left_since
+      (Also c.args.every g.M.Persistent.body_of g.M.Persistent.steps g.M.Persistent.noted g.D.Disk.contents g.D.Disk.may_leave g.D.Disk.moment
+      g.D.Disk.left_since g.D.Disk.marked (g.W.Wire.state c.args.wire.now).history c.args.disk.now c.args.disk.now c.args.store.now)
       (g.M.Persistent.serves c.args.served.now) (g.W.Wire.state c.args.wire.now).history
-      c.args.disk.now c.args.store.now (also_first c.args.every g.M.Persistent.body_of g.M.Persistent.steps g.M.Persistent.noted g.D.Disk.contents g.D.Disk.may_leave g.D.Disk.moment g.D.Disk.left_since g.D.Disk.marked
+      c.args.disk.now c.args.store.now (also_first c.args.every g.M.Persistent.body_of g.M.Persistent.steps g.M.Persistent.noted g.D.Disk.contents
+      g.D.Disk.may_leave g.D.Disk.moment g.D.Disk.left_since g.D.Disk.marked
       (g.W.Wire.state c.args.wire.now).history c.args.disk.now c.args.store.now) g.met.D.Disk.only_now c.requires.ready c.requires.open;
   ready = c.requires.ready;
   few = le_refl _;
@@ -31,20 +34,26 @@ loop-taken-init g c = record {
 
 pub save_body-requires-clause-some : goal.save_body-requires-clause-some
 save_body-requires-clause-some g c =
-    some_after_tick c.args.every g.M.Persistent.body_of g.M.Persistent.steps g.M.Persistent.noted g.D.Disk.contents g.D.Disk.may_leave g.D.Disk.moment g.D.Disk.left_since
-    (Also c.args.every g.M.Persistent.body_of g.M.Persistent.steps g.M.Persistent.noted g.D.Disk.contents g.D.Disk.may_leave g.D.Disk.moment g.D.Disk.left_since g.D.Disk.marked (g.W.Wire.state c.args.wire.now).history c.args.disk.now c.loop-taken.disk c.args.store.now)
+    some_after_tick c.args.every g.M.Persistent.body_of g.M.Persistent.steps g.M.Persistent.noted g.D.Disk.contents g.D.Disk.may_leave g.D.Disk.moment
+    g.D.Disk.left_since
+    (Also c.args.every g.M.Persistent.body_of g.M.Persistent.steps g.M.Persistent.noted g.D.Disk.contents g.D.Disk.may_leave g.D.Disk.moment
+    g.D.Disk.left_since g.D.Disk.marked (g.W.Wire.state c.args.wire.now).history c.args.disk.now c.loop-taken.disk c.args.store.now)
     (g.M.Persistent.serves c.args.served.now) (g.M.Persistent.serves c.loop-taken.served) (g.M.Persistent.serves c.turn.new.self)
-    (g.W.Wire.state c.args.wire.now).history (g.W.Wire.state c.loop-taken.wire).history (g.W.Wire.state c.turn.new.wire).history c.loop-taken._taken c.loop-taken.left
+    (g.W.Wire.state c.args.wire.now).history (g.W.Wire.state c.loop-taken.wire).history (g.W.Wire.state c.turn.new.wire).history c.loop-taken._taken
+    c.loop-taken.left
     c.args.disk.now c.loop-taken.disk c.args.store.now c.loop-taken.store c.loop-taken.saved
     _ c.loop-taken.invariant.so_far c.in-Tick-2.ensures.turn c.requires.some
 
 pub returns-in-Failed-clause-keeps : goal.returns-in-Failed-clause-keeps
 returns-in-Failed-clause-keeps g c =
     let due : c.loop-taken.left ≡ 0 = search rules in
-    fails_at_tick c.args.every g.M.Persistent.body_of g.M.Persistent.steps g.M.Persistent.noted g.D.Disk.contents g.D.Disk.may_leave g.D.Disk.moment g.D.Disk.left_since
-    (Also c.args.every g.M.Persistent.body_of g.M.Persistent.steps g.M.Persistent.noted g.D.Disk.contents g.D.Disk.may_leave g.D.Disk.moment g.D.Disk.left_since g.D.Disk.marked (g.W.Wire.state c.args.wire.now).history c.args.disk.now c.loop-taken.disk c.args.store.now)
+    fails_at_tick c.args.every g.M.Persistent.body_of g.M.Persistent.steps g.M.Persistent.noted g.D.Disk.contents g.D.Disk.may_leave g.D.Disk.moment
+    g.D.Disk.left_since
+    (Also c.args.every g.M.Persistent.body_of g.M.Persistent.steps g.M.Persistent.noted g.D.Disk.contents g.D.Disk.may_leave g.D.Disk.moment
+    g.D.Disk.left_since g.D.Disk.marked (g.W.Wire.state c.args.wire.now).history c.args.disk.now c.loop-taken.disk c.args.store.now)
     (g.M.Persistent.serves c.args.served.now) (g.M.Persistent.serves c.loop-taken.served) (g.M.Persistent.serves c.turn.new.self)
-    (g.W.Wire.state c.args.wire.now) (g.W.Wire.state c.loop-taken.wire).history (g.W.Wire.state c.turn.new.wire) c.loop-taken._taken c.loop-taken.left c.args.limit
+    (g.W.Wire.state c.args.wire.now) (g.W.Wire.state c.loop-taken.wire).history (g.W.Wire.state c.turn.new.wire) c.loop-taken._taken c.loop-taken.left
+    c.args.limit
     c.args.disk.now c.loop-taken.disk c.save_body.new.disk c.args.store.now c.loop-taken.store
     c.loop-taken.saved c.loop-taken-test.true due c.loop-taken.invariant.so_far c.in-Tick-2.ensures.turn
     c.in-Failed.ensures.saved.0 c.in-Failed.ensures.saved.1 g.met.D.Disk.counts_now
@@ -52,10 +61,13 @@ returns-in-Failed-clause-keeps g c =
 pub returns-in-Limit-clause-keeps : goal.returns-in-Limit-clause-keeps
 returns-in-Limit-clause-keeps g c =
     let due : c.loop-taken.left ≡ 0 = search rules in
-    limit_at_tick c.args.every g.M.Persistent.body_of g.M.Persistent.steps g.M.Persistent.noted g.D.Disk.contents g.D.Disk.may_leave g.D.Disk.moment g.D.Disk.left_since
-    (Also c.args.every g.M.Persistent.body_of g.M.Persistent.steps g.M.Persistent.noted g.D.Disk.contents g.D.Disk.may_leave g.D.Disk.moment g.D.Disk.left_since g.D.Disk.marked (g.W.Wire.state c.args.wire.now).history c.args.disk.now c.loop-taken.disk c.args.store.now)
+    limit_at_tick c.args.every g.M.Persistent.body_of g.M.Persistent.steps g.M.Persistent.noted g.D.Disk.contents g.D.Disk.may_leave g.D.Disk.moment
+    g.D.Disk.left_since
+    (Also c.args.every g.M.Persistent.body_of g.M.Persistent.steps g.M.Persistent.noted g.D.Disk.contents g.D.Disk.may_leave g.D.Disk.moment
+    g.D.Disk.left_since g.D.Disk.marked (g.W.Wire.state c.args.wire.now).history c.args.disk.now c.loop-taken.disk c.args.store.now)
     (g.M.Persistent.serves c.args.served.now) (g.M.Persistent.serves c.loop-taken.served) (g.M.Persistent.serves c.turn.new.self)
-    (g.W.Wire.state c.args.wire.now) (g.W.Wire.state c.loop-taken.wire).history (g.W.Wire.state c.turn.new.wire) c.loop-taken._taken c.loop-taken.left c.args.limit
+    (g.W.Wire.state c.args.wire.now) (g.W.Wire.state c.loop-taken.wire).history (g.W.Wire.state c.turn.new.wire) c.loop-taken._taken c.loop-taken.left
+    c.args.limit
     c.args.disk.now c.loop-taken.disk c.save_body.new.disk c.args.store.now c.loop-taken.store
     c.loop-taken.saved c.loop-taken-test.true due c.loop-taken.invariant.so_far c.in-Tick-2.ensures.turn
     c.in-Limit.ensures.saved.0 c.in-Limit.ensures.saved.1 c.in-Limit.ensures.saved.2
@@ -64,10 +76,13 @@ returns-in-Limit-clause-keeps g c =
 pub returns-in-Memory-save_body-clause-keeps : goal.returns-in-Memory-save_body-clause-keeps
 returns-in-Memory-save_body-clause-keeps g c =
     let due : c.loop-taken.left ≡ 0 = search rules in
-    memory_at_tick c.args.every g.M.Persistent.body_of g.M.Persistent.steps g.M.Persistent.noted g.D.Disk.contents g.D.Disk.may_leave g.D.Disk.moment g.D.Disk.left_since
-    (Also c.args.every g.M.Persistent.body_of g.M.Persistent.steps g.M.Persistent.noted g.D.Disk.contents g.D.Disk.may_leave g.D.Disk.moment g.D.Disk.left_since g.D.Disk.marked (g.W.Wire.state c.args.wire.now).history c.args.disk.now c.loop-taken.disk c.args.store.now)
+    memory_at_tick c.args.every g.M.Persistent.body_of g.M.Persistent.steps g.M.Persistent.noted g.D.Disk.contents g.D.Disk.may_leave g.D.Disk.moment
+    g.D.Disk.left_since
+    (Also c.args.every g.M.Persistent.body_of g.M.Persistent.steps g.M.Persistent.noted g.D.Disk.contents g.D.Disk.may_leave g.D.Disk.moment
+    g.D.Disk.left_since g.D.Disk.marked (g.W.Wire.state c.args.wire.now).history c.args.disk.now c.loop-taken.disk c.args.store.now)
     (g.M.Persistent.serves c.args.served.now) (g.M.Persistent.serves c.loop-taken.served) (g.M.Persistent.serves c.turn.new.self)
-    (g.W.Wire.state c.args.wire.now) (g.W.Wire.state c.loop-taken.wire).history (g.W.Wire.state c.turn.new.wire) c.loop-taken._taken c.loop-taken.left c.args.limit
+    (g.W.Wire.state c.args.wire.now) (g.W.Wire.state c.loop-taken.wire).history (g.W.Wire.state c.turn.new.wire) c.loop-taken._taken c.loop-taken.left
+    c.args.limit
     c.args.disk.now c.loop-taken.disk c.save_body.new.disk c.args.store.now c.loop-taken.store
     c.loop-taken.saved c.loop-taken-test.true due c.loop-taken.invariant.so_far c.in-Tick-2.ensures.turn
     c.in-Memory-save_body.ensures.saved c.loop-taken.invariant.ready g.met.D.Disk.counts_now
@@ -110,8 +125,10 @@ returns-clause-memory g c = λ is.
 
 pub save_last-requires-clause-some : goal.save_last-requires-clause-some
 save_last-requires-clause-some g c =
-    some_at_end c.args.every g.M.Persistent.body_of g.M.Persistent.steps g.M.Persistent.noted g.D.Disk.contents g.D.Disk.may_leave g.D.Disk.moment g.D.Disk.left_since
-    (Also c.args.every g.M.Persistent.body_of g.M.Persistent.steps g.M.Persistent.noted g.D.Disk.contents g.D.Disk.may_leave g.D.Disk.moment g.D.Disk.left_since g.D.Disk.marked (g.W.Wire.state c.args.wire.now).history c.args.disk.now c.loop-taken.disk c.args.store.now)
+    some_at_end c.args.every g.M.Persistent.body_of g.M.Persistent.steps g.M.Persistent.noted g.D.Disk.contents g.D.Disk.may_leave g.D.Disk.moment
+    g.D.Disk.left_since
+    (Also c.args.every g.M.Persistent.body_of g.M.Persistent.steps g.M.Persistent.noted g.D.Disk.contents g.D.Disk.may_leave g.D.Disk.moment
+    g.D.Disk.left_since g.D.Disk.marked (g.W.Wire.state c.args.wire.now).history c.args.disk.now c.loop-taken.disk c.args.store.now)
     (g.M.Persistent.serves c.args.served.now) (g.M.Persistent.serves c.loop-taken.served) (g.M.Persistent.serves c.turn.new.self)
     (g.W.Wire.state c.args.wire.now).history (g.W.Wire.state c.loop-taken.wire).history c.loop-taken._taken c.loop-taken.left
     c.args.disk.now c.loop-taken.disk c.args.store.now c.loop-taken.store c.loop-taken.saved
@@ -119,8 +136,10 @@ save_last-requires-clause-some g c =
 
 pub save_last-requires-in-LinkFault-clause-some : goal.save_last-requires-in-LinkFault-clause-some
 save_last-requires-in-LinkFault-clause-some g c =
-    some_at_end c.args.every g.M.Persistent.body_of g.M.Persistent.steps g.M.Persistent.noted g.D.Disk.contents g.D.Disk.may_leave g.D.Disk.moment g.D.Disk.left_since
-    (Also c.args.every g.M.Persistent.body_of g.M.Persistent.steps g.M.Persistent.noted g.D.Disk.contents g.D.Disk.may_leave g.D.Disk.moment g.D.Disk.left_since g.D.Disk.marked (g.W.Wire.state c.args.wire.now).history c.args.disk.now c.loop-taken.disk c.args.store.now)
+    some_at_end c.args.every g.M.Persistent.body_of g.M.Persistent.steps g.M.Persistent.noted g.D.Disk.contents g.D.Disk.may_leave g.D.Disk.moment
+    g.D.Disk.left_since
+    (Also c.args.every g.M.Persistent.body_of g.M.Persistent.steps g.M.Persistent.noted g.D.Disk.contents g.D.Disk.may_leave g.D.Disk.moment
+    g.D.Disk.left_since g.D.Disk.marked (g.W.Wire.state c.args.wire.now).history c.args.disk.now c.loop-taken.disk c.args.store.now)
     (g.M.Persistent.serves c.args.served.now) (g.M.Persistent.serves c.loop-taken.served) (g.M.Persistent.serves c.turn.new.self)
     (g.W.Wire.state c.args.wire.now).history (g.W.Wire.state c.loop-taken.wire).history c.loop-taken._taken c.loop-taken.left
     c.args.disk.now c.loop-taken.disk c.args.store.now c.loop-taken.store c.loop-taken.saved
@@ -128,8 +147,10 @@ save_last-requires-in-LinkFault-clause-some g c =
 
 pub save_last-requires-2-clause-some : goal.save_last-requires-2-clause-some
 save_last-requires-2-clause-some g c =
-    some_at_end c.args.every g.M.Persistent.body_of g.M.Persistent.steps g.M.Persistent.noted g.D.Disk.contents g.D.Disk.may_leave g.D.Disk.moment g.D.Disk.left_since
-    (Also c.args.every g.M.Persistent.body_of g.M.Persistent.steps g.M.Persistent.noted g.D.Disk.contents g.D.Disk.may_leave g.D.Disk.moment g.D.Disk.left_since g.D.Disk.marked (g.W.Wire.state c.args.wire.now).history c.args.disk.now c.loop-taken.disk c.args.store.now)
+    some_at_end c.args.every g.M.Persistent.body_of g.M.Persistent.steps g.M.Persistent.noted g.D.Disk.contents g.D.Disk.may_leave g.D.Disk.moment
+    g.D.Disk.left_since
+    (Also c.args.every g.M.Persistent.body_of g.M.Persistent.steps g.M.Persistent.noted g.D.Disk.contents g.D.Disk.may_leave g.D.Disk.moment
+    g.D.Disk.left_since g.D.Disk.marked (g.W.Wire.state c.args.wire.now).history c.args.disk.now c.loop-taken.disk c.args.store.now)
     (g.M.Persistent.serves c.args.served.now) (g.M.Persistent.serves c.loop-taken.served) (g.M.Persistent.serves c.loop-taken.served)
     (g.W.Wire.state c.args.wire.now).history (g.W.Wire.state c.loop-taken.wire).history c.loop-taken._taken c.loop-taken.left
     c.args.disk.now c.loop-taken.disk c.args.store.now c.loop-taken.store c.loop-taken.saved
@@ -137,10 +158,14 @@ save_last-requires-2-clause-some g c =
 
 pub returns-in-End-clause-keeps : goal.returns-in-End-clause-keeps
 returns-in-End-clause-keeps g c =
-    ends_here c.args.every g.M.Persistent.body_of g.M.Persistent.steps g.M.Persistent.noted g.D.Disk.contents g.D.Disk.may_leave g.D.Disk.moment g.D.Disk.left_since
-    (Also c.args.every g.M.Persistent.body_of g.M.Persistent.steps g.M.Persistent.noted g.D.Disk.contents g.D.Disk.may_leave g.D.Disk.moment g.D.Disk.left_since g.D.Disk.marked (g.W.Wire.state c.args.wire.now).history c.args.disk.now c.loop-taken.disk c.args.store.now) c.save_last.result run.Done
+    ends_here c.args.every g.M.Persistent.body_of g.M.Persistent.steps g.M.Persistent.noted g.D.Disk.contents g.D.Disk.may_leave g.D.Disk.moment
+    g.D.Disk.left_since
+    (Also c.args.every g.M.Persistent.body_of g.M.Persistent.steps g.M.Persistent.noted g.D.Disk.contents g.D.Disk.may_leave g.D.Disk.moment
+    g.D.Disk.left_since g.D.Disk.marked (g.W.Wire.state c.args.wire.now).history c.args.disk.now c.loop-taken.disk c.args.store.now) c.save_last.result
+    run.Done
     (g.M.Persistent.serves c.args.served.now) (g.M.Persistent.serves c.loop-taken.served) (g.M.Persistent.serves c.turn.new.self)
-    (g.W.Wire.state c.args.wire.now) (g.W.Wire.state c.loop-taken.wire).history (g.W.Wire.state c.turn.new.wire) c.loop-taken._taken c.loop-taken.left c.args.limit
+    (g.W.Wire.state c.args.wire.now) (g.W.Wire.state c.loop-taken.wire).history (g.W.Wire.state c.turn.new.wire) c.loop-taken._taken c.loop-taken.left
+    c.args.limit
     c.args.disk.now c.loop-taken.disk c.save_last.new.disk c.args.store.now c.loop-taken.store
     c.save_last.new.store c.loop-taken.saved c.loop-taken.invariant.so_far
     (c.loop-taken-test.true, c.in-End.ensures.turn.0) c.in-End.ensures.turn.1 c.save_last.ensures.ends c.save_last.ensures.ready
@@ -151,10 +176,14 @@ returns-in-LinkFault-clause-keeps g c =
     let came = came_fault _ _ (g.M.Persistent.serves c.args.served.now) (g.M.Persistent.serves c.loop-taken.served)
     (g.W.Wire.state c.args.wire.now) (g.W.Wire.state c.loop-taken.wire) (g.W.Wire.state c.turn.new.wire) c.loop-taken._taken c.args.limit
     c.loop-taken.invariant.so_far.paced.keeps.turns c.loop-taken.invariant.wire_later c.loop-taken-test.true c.in-LinkFault.ensures.turn.0 in
-    ends_here c.args.every g.M.Persistent.body_of g.M.Persistent.steps g.M.Persistent.noted g.D.Disk.contents g.D.Disk.may_leave g.D.Disk.moment g.D.Disk.left_since
-    (Also c.args.every g.M.Persistent.body_of g.M.Persistent.steps g.M.Persistent.noted g.D.Disk.contents g.D.Disk.may_leave g.D.Disk.moment g.D.Disk.left_since g.D.Disk.marked (g.W.Wire.state c.args.wire.now).history c.args.disk.now c.loop-taken.disk c.args.store.now) c.save_last-in-LinkFault.result run.LinkFault
+    ends_here c.args.every g.M.Persistent.body_of g.M.Persistent.steps g.M.Persistent.noted g.D.Disk.contents g.D.Disk.may_leave g.D.Disk.moment
+    g.D.Disk.left_since
+    (Also c.args.every g.M.Persistent.body_of g.M.Persistent.steps g.M.Persistent.noted g.D.Disk.contents g.D.Disk.may_leave g.D.Disk.moment
+    g.D.Disk.left_since g.D.Disk.marked (g.W.Wire.state c.args.wire.now).history c.args.disk.now c.loop-taken.disk c.args.store.now)
+    c.save_last-in-LinkFault.result run.LinkFault
     (g.M.Persistent.serves c.args.served.now) (g.M.Persistent.serves c.loop-taken.served) (g.M.Persistent.serves c.turn.new.self)
-    (g.W.Wire.state c.args.wire.now) (g.W.Wire.state c.loop-taken.wire).history (g.W.Wire.state c.turn.new.wire) c.loop-taken._taken c.loop-taken.left c.args.limit
+    (g.W.Wire.state c.args.wire.now) (g.W.Wire.state c.loop-taken.wire).history (g.W.Wire.state c.turn.new.wire) c.loop-taken._taken c.loop-taken.left
+    c.args.limit
     c.args.disk.now c.loop-taken.disk c.save_last-in-LinkFault.new.disk c.args.store.now c.loop-taken.store
     c.save_last-in-LinkFault.new.store c.loop-taken.saved c.loop-taken.invariant.so_far
     came c.in-LinkFault.ensures.turn.1 c.save_last-in-LinkFault.ensures.ends c.save_last-in-LinkFault.ensures.ready
@@ -162,19 +191,26 @@ returns-in-LinkFault-clause-keeps g c =
 
 pub returns-in-Memory-clause-keeps : goal.returns-in-Memory-clause-keeps
 returns-in-Memory-clause-keeps g c =
-    memory_in_turn c.args.every g.M.Persistent.body_of g.M.Persistent.steps g.M.Persistent.noted g.D.Disk.contents g.D.Disk.may_leave g.D.Disk.moment g.D.Disk.left_since
-    (Also c.args.every g.M.Persistent.body_of g.M.Persistent.steps g.M.Persistent.noted g.D.Disk.contents g.D.Disk.may_leave g.D.Disk.moment g.D.Disk.left_since g.D.Disk.marked (g.W.Wire.state c.args.wire.now).history c.args.disk.now c.loop-taken.disk c.args.store.now)
+    memory_in_turn c.args.every g.M.Persistent.body_of g.M.Persistent.steps g.M.Persistent.noted g.D.Disk.contents g.D.Disk.may_leave g.D.Disk.moment
+    g.D.Disk.left_since
+    (Also c.args.every g.M.Persistent.body_of g.M.Persistent.steps g.M.Persistent.noted g.D.Disk.contents g.D.Disk.may_leave g.D.Disk.moment
+    g.D.Disk.left_since g.D.Disk.marked (g.W.Wire.state c.args.wire.now).history c.args.disk.now c.loop-taken.disk c.args.store.now)
     (g.M.Persistent.serves c.args.served.now) (g.M.Persistent.serves c.loop-taken.served) (g.M.Persistent.serves c.turn.new.self)
-    (g.W.Wire.state c.args.wire.now) (g.W.Wire.state c.loop-taken.wire).history (g.W.Wire.state c.turn.new.wire) c.loop-taken._taken c.loop-taken.left c.args.limit
+    (g.W.Wire.state c.args.wire.now) (g.W.Wire.state c.loop-taken.wire).history (g.W.Wire.state c.turn.new.wire) c.loop-taken._taken c.loop-taken.left
+    c.args.limit
     c.args.disk.now c.loop-taken.disk c.args.store.now c.loop-taken.store c.loop-taken.saved
     c.loop-taken-test.true c.loop-taken.invariant.so_far c.in-Memory.ensures.turn c.loop-taken.invariant.ready
 
 pub returns-clause-keeps : goal.returns-clause-keeps
 returns-clause-keeps g c =
-    ends_here c.args.every g.M.Persistent.body_of g.M.Persistent.steps g.M.Persistent.noted g.D.Disk.contents g.D.Disk.may_leave g.D.Disk.moment g.D.Disk.left_since
-    (Also c.args.every g.M.Persistent.body_of g.M.Persistent.steps g.M.Persistent.noted g.D.Disk.contents g.D.Disk.may_leave g.D.Disk.moment g.D.Disk.left_since g.D.Disk.marked (g.W.Wire.state c.args.wire.now).history c.args.disk.now c.loop-taken.disk c.args.store.now) c.save_last-2.result run.Budget
+    ends_here c.args.every g.M.Persistent.body_of g.M.Persistent.steps g.M.Persistent.noted g.D.Disk.contents g.D.Disk.may_leave g.D.Disk.moment
+    g.D.Disk.left_since
+    (Also c.args.every g.M.Persistent.body_of g.M.Persistent.steps g.M.Persistent.noted g.D.Disk.contents g.D.Disk.may_leave g.D.Disk.moment
+    g.D.Disk.left_since g.D.Disk.marked (g.W.Wire.state c.args.wire.now).history c.args.disk.now c.loop-taken.disk c.args.store.now) c.save_last-2.result
+    run.Budget
     (g.M.Persistent.serves c.args.served.now) (g.M.Persistent.serves c.loop-taken.served) (g.M.Persistent.serves c.loop-taken.served)
-    (g.W.Wire.state c.args.wire.now) (g.W.Wire.state c.loop-taken.wire).history (g.W.Wire.state c.loop-taken.wire) c.loop-taken._taken c.loop-taken.left c.args.limit
+    (g.W.Wire.state c.args.wire.now) (g.W.Wire.state c.loop-taken.wire).history (g.W.Wire.state c.loop-taken.wire) c.loop-taken._taken c.loop-taken.left
+    c.args.limit
     c.args.disk.now c.loop-taken.disk c.save_last-2.new.disk c.args.store.now c.loop-taken.store
     c.save_last-2.new.store c.loop-taken.saved c.loop-taken.invariant.so_far
     (omega (arith, c.loop-taken-test.false, c.loop-taken.auto._taken-end), refl) (λ x stands. stands) c.save_last-2.ensures.ends c.save_last-2.ensures.ready
@@ -182,54 +218,71 @@ returns-clause-keeps g c =
 
 pub returns-in-Failed-clause-marks : goal.returns-in-Failed-clause-marks
 returns-in-Failed-clause-marks g c =
-    stops_marked c.args.every g.M.Persistent.body_of g.M.Persistent.steps g.M.Persistent.noted g.D.Disk.contents g.D.Disk.may_leave g.D.Disk.moment g.D.Disk.left_since g.D.Disk.marked (g.M.Persistent.serves c.args.served.now) (g.M.Persistent.serves c.loop-taken.served)
+    stops_marked c.args.every g.M.Persistent.body_of g.M.Persistent.steps g.M.Persistent.noted g.D.Disk.contents g.D.Disk.may_leave g.D.Disk.moment
+    g.D.Disk.left_since g.D.Disk.marked (g.M.Persistent.serves c.args.served.now) (g.M.Persistent.serves c.loop-taken.served)
     (g.W.Wire.state c.args.wire.now) (g.W.Wire.state c.loop-taken.wire).history (g.W.Wire.state c.turn.new.wire) c.loop-taken._taken c.loop-taken.left
-    c.args.disk.now c.loop-taken.disk c.save_body.new.disk c.args.store.now c.loop-taken.store c.loop-taken.saved c.in-Tick-2.ensures.turn.leads.moves c.loop-taken.invariant.so_far
+    c.args.disk.now c.loop-taken.disk c.save_body.new.disk c.args.store.now c.loop-taken.store c.loop-taken.saved c.in-Tick-2.ensures.turn.leads.moves
+    c.loop-taken.invariant.so_far
     (let one = c.in-Tick-2.ensures.turn.leads.events in omega (arith, one)) (inl c.in-Tick-2.ensures.turn.leads.logged) c.in-Failed.ensures.marks
 
 pub returns-in-Limit-clause-marks : goal.returns-in-Limit-clause-marks
 returns-in-Limit-clause-marks g c =
-    stops_marked c.args.every g.M.Persistent.body_of g.M.Persistent.steps g.M.Persistent.noted g.D.Disk.contents g.D.Disk.may_leave g.D.Disk.moment g.D.Disk.left_since g.D.Disk.marked (g.M.Persistent.serves c.args.served.now) (g.M.Persistent.serves c.loop-taken.served)
+    stops_marked c.args.every g.M.Persistent.body_of g.M.Persistent.steps g.M.Persistent.noted g.D.Disk.contents g.D.Disk.may_leave g.D.Disk.moment
+    g.D.Disk.left_since g.D.Disk.marked (g.M.Persistent.serves c.args.served.now) (g.M.Persistent.serves c.loop-taken.served)
     (g.W.Wire.state c.args.wire.now) (g.W.Wire.state c.loop-taken.wire).history (g.W.Wire.state c.turn.new.wire) c.loop-taken._taken c.loop-taken.left
-    c.args.disk.now c.loop-taken.disk c.save_body.new.disk c.args.store.now c.loop-taken.store c.loop-taken.saved c.in-Tick-2.ensures.turn.leads.moves c.loop-taken.invariant.so_far
+    c.args.disk.now c.loop-taken.disk c.save_body.new.disk c.args.store.now c.loop-taken.store c.loop-taken.saved c.in-Tick-2.ensures.turn.leads.moves
+    c.loop-taken.invariant.so_far
     (let one = c.in-Tick-2.ensures.turn.leads.events in omega (arith, one)) (inl c.in-Tick-2.ensures.turn.leads.logged) c.in-Limit.ensures.marks
 
 pub returns-in-Memory-save_body-clause-marks : goal.returns-in-Memory-save_body-clause-marks
 returns-in-Memory-save_body-clause-marks g c =
-    stops_marked c.args.every g.M.Persistent.body_of g.M.Persistent.steps g.M.Persistent.noted g.D.Disk.contents g.D.Disk.may_leave g.D.Disk.moment g.D.Disk.left_since g.D.Disk.marked (g.M.Persistent.serves c.args.served.now) (g.M.Persistent.serves c.loop-taken.served)
+    stops_marked c.args.every g.M.Persistent.body_of g.M.Persistent.steps g.M.Persistent.noted g.D.Disk.contents g.D.Disk.may_leave g.D.Disk.moment
+    g.D.Disk.left_since g.D.Disk.marked (g.M.Persistent.serves c.args.served.now) (g.M.Persistent.serves c.loop-taken.served)
     (g.W.Wire.state c.args.wire.now) (g.W.Wire.state c.loop-taken.wire).history (g.W.Wire.state c.turn.new.wire) c.loop-taken._taken c.loop-taken.left
-    c.args.disk.now c.loop-taken.disk c.save_body.new.disk c.args.store.now c.loop-taken.store c.loop-taken.saved c.in-Tick-2.ensures.turn.leads.moves c.loop-taken.invariant.so_far
+    c.args.disk.now c.loop-taken.disk c.save_body.new.disk c.args.store.now c.loop-taken.store c.loop-taken.saved c.in-Tick-2.ensures.turn.leads.moves
+    c.loop-taken.invariant.so_far
     (let one = c.in-Tick-2.ensures.turn.leads.events in omega (arith, one)) (inl c.in-Tick-2.ensures.turn.leads.logged) c.in-Memory-save_body.ensures.marks
 
 pub returns-in-Memory-clause-marks : goal.returns-in-Memory-clause-marks
 returns-in-Memory-clause-marks g c =
-    stops_marked c.args.every g.M.Persistent.body_of g.M.Persistent.steps g.M.Persistent.noted g.D.Disk.contents g.D.Disk.may_leave g.D.Disk.moment g.D.Disk.left_since g.D.Disk.marked (g.M.Persistent.serves c.args.served.now) (g.M.Persistent.serves c.loop-taken.served)
+    stops_marked c.args.every g.M.Persistent.body_of g.M.Persistent.steps g.M.Persistent.noted g.D.Disk.contents g.D.Disk.may_leave g.D.Disk.moment
+    g.D.Disk.left_since g.D.Disk.marked (g.M.Persistent.serves c.args.served.now) (g.M.Persistent.serves c.loop-taken.served)
     (g.W.Wire.state c.args.wire.now) (g.W.Wire.state c.loop-taken.wire).history (g.W.Wire.state c.turn.new.wire) c.loop-taken._taken c.loop-taken.left
-    c.args.disk.now c.loop-taken.disk c.loop-taken.disk c.args.store.now c.loop-taken.store c.loop-taken.saved c.in-Memory.ensures.turn.breaks.moves c.loop-taken.invariant.so_far
-    (let count = c.in-Memory.ensures.turn.breaks.events in let most = c.in-Memory.ensures.turn.within in omega (arith, count, most)) (inl c.in-Memory.ensures.turn.breaks.logged) (λ marks told. told)
+    c.args.disk.now c.loop-taken.disk c.loop-taken.disk c.args.store.now c.loop-taken.store c.loop-taken.saved c.in-Memory.ensures.turn.breaks.moves
+    c.loop-taken.invariant.so_far
+    (let count = c.in-Memory.ensures.turn.breaks.events in let most = c.in-Memory.ensures.turn.within in omega (arith, count, most))
+    (inl c.in-Memory.ensures.turn.breaks.logged) (λ marks told. told)
 
 pub returns-in-End-clause-marks : goal.returns-in-End-clause-marks
 returns-in-End-clause-marks g c =
-    ends_marked c.args.every g.M.Persistent.body_of g.M.Persistent.steps g.M.Persistent.noted g.D.Disk.contents g.D.Disk.may_leave g.D.Disk.moment g.D.Disk.left_since g.D.Disk.marked
+    ends_marked c.args.every g.M.Persistent.body_of g.M.Persistent.steps g.M.Persistent.noted g.D.Disk.contents g.D.Disk.may_leave g.D.Disk.moment
+    g.D.Disk.left_since g.D.Disk.marked
     c.save_last.result run.Done (g.M.Persistent.serves c.args.served.now) (g.M.Persistent.serves c.loop-taken.served) (g.M.Persistent.serves c.turn.new.self)
     (g.W.Wire.state c.args.wire.now) (g.W.Wire.state c.loop-taken.wire).history (g.W.Wire.state c.turn.new.wire) c.loop-taken._taken c.loop-taken.left
     c.args.disk.now c.loop-taken.disk c.save_last.new.disk c.args.store.now c.loop-taken.store c.save_last.new.store c.loop-taken.saved
-    c.loop-taken.invariant.so_far (inr (inl c.in-End.ensures.turn.0)) c.in-End.ensures.turn.1 c.save_last.ensures.ends c.save_last.ensures.ready c.save_last.ensures.marks
+    c.loop-taken.invariant.so_far (inr (inl c.in-End.ensures.turn.0)) c.in-End.ensures.turn.1 c.save_last.ensures.ends c.save_last.ensures.ready
+    c.save_last.ensures.marks
 
 pub returns-in-LinkFault-clause-marks : goal.returns-in-LinkFault-clause-marks
 returns-in-LinkFault-clause-marks g c =
-    ends_marked c.args.every g.M.Persistent.body_of g.M.Persistent.steps g.M.Persistent.noted g.D.Disk.contents g.D.Disk.may_leave g.D.Disk.moment g.D.Disk.left_since g.D.Disk.marked
-    c.save_last-in-LinkFault.result run.LinkFault (g.M.Persistent.serves c.args.served.now) (g.M.Persistent.serves c.loop-taken.served) (g.M.Persistent.serves c.turn.new.self)
+    ends_marked c.args.every g.M.Persistent.body_of g.M.Persistent.steps g.M.Persistent.noted g.D.Disk.contents g.D.Disk.may_leave g.D.Disk.moment
+    g.D.Disk.left_since g.D.Disk.marked
+    c.save_last-in-LinkFault.result run.LinkFault (g.M.Persistent.serves c.args.served.now) (g.M.Persistent.serves c.loop-taken.served)
+    (g.M.Persistent.serves c.turn.new.self)
     (g.W.Wire.state c.args.wire.now) (g.W.Wire.state c.loop-taken.wire).history (g.W.Wire.state c.turn.new.wire) c.loop-taken._taken c.loop-taken.left
-    c.args.disk.now c.loop-taken.disk c.save_last-in-LinkFault.new.disk c.args.store.now c.loop-taken.store c.save_last-in-LinkFault.new.store c.loop-taken.saved
+    c.args.disk.now c.loop-taken.disk c.save_last-in-LinkFault.new.disk c.args.store.now c.loop-taken.store c.save_last-in-LinkFault.new.store
+    c.loop-taken.saved
     c.loop-taken.invariant.so_far (inr (inr (came_fault _ _ (g.M.Persistent.serves c.args.served.now) (g.M.Persistent.serves c.loop-taken.served)
     (g.W.Wire.state c.args.wire.now) (g.W.Wire.state c.loop-taken.wire) (g.W.Wire.state c.turn.new.wire) c.loop-taken._taken c.args.limit
-    c.loop-taken.invariant.so_far.paced.keeps.turns c.loop-taken.invariant.wire_later c.loop-taken-test.true c.in-LinkFault.ensures.turn.0).1)) c.in-LinkFault.ensures.turn.1 c.save_last-in-LinkFault.ensures.ends c.save_last-in-LinkFault.ensures.ready c.save_last-in-LinkFault.ensures.marks
+    c.loop-taken.invariant.so_far.paced.keeps.turns c.loop-taken.invariant.wire_later c.loop-taken-test.true c.in-LinkFault.ensures.turn.0).1))
+    c.in-LinkFault.ensures.turn.1 c.save_last-in-LinkFault.ensures.ends c.save_last-in-LinkFault.ensures.ready c.save_last-in-LinkFault.ensures.marks
 
 pub returns-clause-marks : goal.returns-clause-marks
 returns-clause-marks g c =
-    ends_marked c.args.every g.M.Persistent.body_of g.M.Persistent.steps g.M.Persistent.noted g.D.Disk.contents g.D.Disk.may_leave g.D.Disk.moment g.D.Disk.left_since g.D.Disk.marked
-    c.save_last-2.result run.Budget (g.M.Persistent.serves c.args.served.now) (g.M.Persistent.serves c.loop-taken.served) (g.M.Persistent.serves c.loop-taken.served)
+    ends_marked c.args.every g.M.Persistent.body_of g.M.Persistent.steps g.M.Persistent.noted g.D.Disk.contents g.D.Disk.may_leave g.D.Disk.moment
+    g.D.Disk.left_since g.D.Disk.marked
+    c.save_last-2.result run.Budget (g.M.Persistent.serves c.args.served.now) (g.M.Persistent.serves c.loop-taken.served)
+    (g.M.Persistent.serves c.loop-taken.served)
     (g.W.Wire.state c.args.wire.now) (g.W.Wire.state c.loop-taken.wire).history (g.W.Wire.state c.loop-taken.wire) c.loop-taken._taken c.loop-taken.left
     c.args.disk.now c.loop-taken.disk c.save_last-2.new.disk c.args.store.now c.loop-taken.store c.save_last-2.new.store c.loop-taken.saved
     c.loop-taken.invariant.so_far (inl refl) (λ x stands. stands) c.save_last-2.ensures.ends c.save_last-2.ensures.ready c.save_last-2.ensures.marks
@@ -237,12 +290,18 @@ returns-clause-marks g c =
 pub loop-taken-preserved : goal.loop-taken-preserved
 loop-taken-preserved g c = elim c.match-turn.branch [
   | in-Tick w ↦ rw (w.store-is, w.disk-is, w.saved-is, w.left-is) record {
-    so_far = keeps_passed c.args.every g.M.Persistent.body_of g.M.Persistent.steps g.M.Persistent.noted g.D.Disk.contents g.D.Disk.may_leave g.D.Disk.moment g.D.Disk.left_since
-        (Also c.args.every g.M.Persistent.body_of g.M.Persistent.steps g.M.Persistent.noted g.D.Disk.contents g.D.Disk.may_leave g.D.Disk.moment g.D.Disk.left_since g.D.Disk.marked (g.W.Wire.state c.args.wire.now).history c.args.disk.now c.loop-taken.disk c.args.store.now) (Also c.args.every g.M.Persistent.body_of g.M.Persistent.steps g.M.Persistent.noted g.D.Disk.contents g.D.Disk.may_leave g.D.Disk.moment g.D.Disk.left_since g.D.Disk.marked (g.W.Wire.state c.args.wire.now).history c.args.disk.now c.loop-taken.disk c.args.store.now)
-        (also_passes c.args.every g.M.Persistent.body_of g.M.Persistent.steps g.M.Persistent.noted g.D.Disk.contents g.D.Disk.may_leave g.D.Disk.moment g.D.Disk.left_since g.D.Disk.marked (g.W.Wire.state c.args.wire.now).history
+    so_far = keeps_passed c.args.every g.M.Persistent.body_of g.M.Persistent.steps g.M.Persistent.noted g.D.Disk.contents g.D.Disk.may_leave g.D.Disk.moment
+        g.D.Disk.left_since
+        (Also c.args.every g.M.Persistent.body_of g.M.Persistent.steps g.M.Persistent.noted g.D.Disk.contents g.D.Disk.may_leave g.D.Disk.moment
+        g.D.Disk.left_since g.D.Disk.marked (g.W.Wire.state c.args.wire.now).history c.args.disk.now c.loop-taken.disk c.args.store.now)
+        (Also c.args.every g.M.Persistent.body_of g.M.Persistent.steps g.M.Persistent.noted g.D.Disk.contents g.D.Disk.may_leave g.D.Disk.moment
+        g.D.Disk.left_since g.D.Disk.marked (g.W.Wire.state c.args.wire.now).history c.args.disk.now c.loop-taken.disk c.args.store.now)
+        (also_passes c.args.every g.M.Persistent.body_of g.M.Persistent.steps g.M.Persistent.noted g.D.Disk.contents g.D.Disk.may_leave g.D.Disk.moment
+        g.D.Disk.left_since g.D.Disk.marked (g.W.Wire.state c.args.wire.now).history
         c.args.disk.now c.loop-taken.disk c.args.store.now)
         (g.M.Persistent.serves c.args.served.now) (g.M.Persistent.serves c.loop-taken.served) (g.M.Persistent.serves c.turn.new.self)
-        (g.W.Wire.state c.args.wire.now).history (g.W.Wire.state c.loop-taken.wire).history (g.W.Wire.state c.turn.new.wire).history c.loop-taken._taken c.loop-taken.left
+        (g.W.Wire.state c.args.wire.now).history (g.W.Wire.state c.loop-taken.wire).history (g.W.Wire.state c.turn.new.wire).history c.loop-taken._taken
+        c.loop-taken.left
         c.args.disk.now c.loop-taken.disk c.args.store.now c.loop-taken.store c.loop-taken.saved w.if-left-gt0.true
         c.loop-taken.invariant.so_far w.in-Tick.ensures.turn;
     ready = c.loop-taken.invariant.ready;
@@ -255,22 +314,37 @@ loop-taken-preserved g c = elim c.match-turn.branch [
     wanted = le_trans c.loop-taken.invariant.wanted c.turn.ensures.wanted;
   }
   | in-Tick-2+in-Same w ↦ rw (w.store-is, w.disk-is, w.saved-is, w.left-is) record {
-    so_far = keeps_along c.args.every g.M.Persistent.body_of g.M.Persistent.steps g.M.Persistent.noted g.D.Disk.contents g.D.Disk.may_leave g.D.Disk.moment g.D.Disk.left_since g.D.Disk.marked
-        (Also c.args.every g.M.Persistent.body_of g.M.Persistent.steps g.M.Persistent.noted g.D.Disk.contents g.D.Disk.may_leave g.D.Disk.moment g.D.Disk.left_since g.D.Disk.marked (g.W.Wire.state c.args.wire.now).history c.args.disk.now w.mark_behind.new.disk c.args.store.now)
-        (g.M.Persistent.serves c.args.served.now) (g.M.Persistent.serves c.turn.new.self) (g.W.Wire.state c.args.wire.now).history (g.W.Wire.state c.turn.new.wire).history (c.loop-taken._taken + 1)
-        (c.args.every - 1) c.args.disk.now w.save_body.new.disk w.mark_behind.new.disk c.args.store.now w.save_body.new.store c.loop-taken.saved g.met.D.Disk.counts_now
-        (keeps_same c.args.every g.M.Persistent.body_of g.M.Persistent.steps g.M.Persistent.noted g.D.Disk.contents g.D.Disk.may_leave g.D.Disk.moment g.D.Disk.left_since
-        (Also c.args.every g.M.Persistent.body_of g.M.Persistent.steps g.M.Persistent.noted g.D.Disk.contents g.D.Disk.may_leave g.D.Disk.moment g.D.Disk.left_since g.D.Disk.marked (g.W.Wire.state c.args.wire.now).history c.args.disk.now c.loop-taken.disk c.args.store.now) (Also c.args.every g.M.Persistent.body_of g.M.Persistent.steps g.M.Persistent.noted g.D.Disk.contents g.D.Disk.may_leave g.D.Disk.moment g.D.Disk.left_since g.D.Disk.marked (g.W.Wire.state c.args.wire.now).history c.args.disk.now w.mark_behind.new.disk c.args.store.now)
+    so_far = keeps_along c.args.every g.M.Persistent.body_of g.M.Persistent.steps g.M.Persistent.noted g.D.Disk.contents g.D.Disk.may_leave g.D.Disk.moment
+        g.D.Disk.left_since g.D.Disk.marked
+        (Also c.args.every g.M.Persistent.body_of g.M.Persistent.steps g.M.Persistent.noted g.D.Disk.contents g.D.Disk.may_leave g.D.Disk.moment
+        g.D.Disk.left_since g.D.Disk.marked (g.W.Wire.state c.args.wire.now).history c.args.disk.now w.mark_behind.new.disk c.args.store.now)
+        (g.M.Persistent.serves c.args.served.now) (g.M.Persistent.serves c.turn.new.self) (g.W.Wire.state c.args.wire.now).history
+        (g.W.Wire.state c.turn.new.wire).history (c.loop-taken._taken + 1)
+        (c.args.every - 1) c.args.disk.now w.save_body.new.disk w.mark_behind.new.disk c.args.store.now w.save_body.new.store c.loop-taken.saved
+        g.met.D.Disk.counts_now
+        (keeps_same c.args.every g.M.Persistent.body_of g.M.Persistent.steps g.M.Persistent.noted g.D.Disk.contents g.D.Disk.may_leave g.D.Disk.moment
+        g.D.Disk.left_since
+        (Also c.args.every g.M.Persistent.body_of g.M.Persistent.steps g.M.Persistent.noted g.D.Disk.contents g.D.Disk.may_leave g.D.Disk.moment
+        g.D.Disk.left_since g.D.Disk.marked (g.W.Wire.state c.args.wire.now).history c.args.disk.now c.loop-taken.disk c.args.store.now)
+        (Also c.args.every g.M.Persistent.body_of g.M.Persistent.steps g.M.Persistent.noted g.D.Disk.contents g.D.Disk.may_leave g.D.Disk.moment
+        g.D.Disk.left_since g.D.Disk.marked (g.W.Wire.state c.args.wire.now).history c.args.disk.now w.mark_behind.new.disk c.args.store.now)
         (g.M.Persistent.serves c.args.served.now) (g.M.Persistent.serves c.loop-taken.served) (g.M.Persistent.serves c.turn.new.self)
-        (g.W.Wire.state c.args.wire.now).history (g.W.Wire.state c.loop-taken.wire).history (g.W.Wire.state c.turn.new.wire).history c.loop-taken._taken c.loop-taken.left
+        (g.W.Wire.state c.args.wire.now).history (g.W.Wire.state c.loop-taken.wire).history (g.W.Wire.state c.turn.new.wire).history c.loop-taken._taken
+        c.loop-taken.left
         c.args.disk.now c.loop-taken.disk w.save_body.new.disk c.args.store.now c.loop-taken.store w.save_body.new.store
         c.loop-taken.saved (omega (arith, w.if-left-gt0.false)) c.loop-taken.invariant.so_far w.in-Tick-2.ensures.turn w.in-Same.ensures.saved
-        (also_same c.args.every g.M.Persistent.body_of g.M.Persistent.steps g.M.Persistent.noted g.D.Disk.contents g.D.Disk.may_leave g.D.Disk.moment g.D.Disk.left_since g.D.Disk.marked (Also c.args.every g.M.Persistent.body_of g.M.Persistent.steps g.M.Persistent.noted g.D.Disk.contents g.D.Disk.may_leave g.D.Disk.moment g.D.Disk.left_since g.D.Disk.marked (g.W.Wire.state c.args.wire.now).history c.args.disk.now c.loop-taken.disk c.args.store.now)
+        (also_same c.args.every g.M.Persistent.body_of g.M.Persistent.steps g.M.Persistent.noted g.D.Disk.contents g.D.Disk.may_leave g.D.Disk.moment
+        g.D.Disk.left_since g.D.Disk.marked (Also c.args.every g.M.Persistent.body_of g.M.Persistent.steps g.M.Persistent.noted g.D.Disk.contents
+        g.D.Disk.may_leave g.D.Disk.moment g.D.Disk.left_since g.D.Disk.marked (g.W.Wire.state c.args.wire.now).history c.args.disk.now c.loop-taken.disk
+        c.args.store.now)
         (g.M.Persistent.serves c.args.served.now) (g.M.Persistent.serves c.loop-taken.served) (g.M.Persistent.serves c.turn.new.self)
-        (g.W.Wire.state c.args.wire.now).history (g.W.Wire.state c.loop-taken.wire).history (g.W.Wire.state c.turn.new.wire).history c.loop-taken._taken c.loop-taken.left
-        c.args.disk.now c.loop-taken.disk w.save_body.new.disk w.mark_behind.new.disk c.args.store.now c.loop-taken.store w.save_body.new.store c.loop-taken.saved c.loop-taken.invariant.so_far w.in-Same.ensures.saved w.in-Same.ensures.ready
+        (g.W.Wire.state c.args.wire.now).history (g.W.Wire.state c.loop-taken.wire).history (g.W.Wire.state c.turn.new.wire).history c.loop-taken._taken
+        c.loop-taken.left
+        c.args.disk.now c.loop-taken.disk w.save_body.new.disk w.mark_behind.new.disk c.args.store.now c.loop-taken.store w.save_body.new.store
+        c.loop-taken.saved c.loop-taken.invariant.so_far w.in-Same.ensures.saved w.in-Same.ensures.ready
         (λ marks told. w.mark_behind.ensures.marks marks (w.in-Same.ensures.marks marks told)))) w.mark_behind.ensures.passes;
-    ready = ready_quiet g.D.Disk.contents g.D.Disk.may_leave g.D.Disk.moment g.D.Disk.left_since g.met.D.Disk.counts_now w.save_body.new.disk w.mark_behind.new.disk
+    ready = ready_quiet g.D.Disk.contents g.D.Disk.may_leave g.D.Disk.moment g.D.Disk.left_since g.met.D.Disk.counts_now w.save_body.new.disk
+        w.mark_behind.new.disk
         w.save_body.new.store w.in-Same.ensures.ready w.mark_behind.ensures.passes;
     few = omega (arith, c.loop-taken.invariant.few);
     untold = λ e. w.mark_behind.ensures.passes.same ∙ w.in-Same.ensures.untold (c.loop-taken.invariant.untold e);
@@ -281,22 +355,37 @@ loop-taken-preserved g c = elim c.match-turn.branch [
     wanted = le_trans c.loop-taken.invariant.wanted c.turn.ensures.wanted;
   }
   | in-Tick-2+in-Saved w ↦ rw (w.store-is, w.disk-is, w.saved-is, w.left-is) record {
-    so_far = keeps_along c.args.every g.M.Persistent.body_of g.M.Persistent.steps g.M.Persistent.noted g.D.Disk.contents g.D.Disk.may_leave g.D.Disk.moment g.D.Disk.left_since g.D.Disk.marked
-        (Also c.args.every g.M.Persistent.body_of g.M.Persistent.steps g.M.Persistent.noted g.D.Disk.contents g.D.Disk.may_leave g.D.Disk.moment g.D.Disk.left_since g.D.Disk.marked (g.W.Wire.state c.args.wire.now).history c.args.disk.now w.mark_behind-in-Saved.new.disk c.args.store.now)
-        (g.M.Persistent.serves c.args.served.now) (g.M.Persistent.serves c.turn.new.self) (g.W.Wire.state c.args.wire.now).history (g.W.Wire.state c.turn.new.wire).history (c.loop-taken._taken + 1)
-        (c.args.every - 1) c.args.disk.now w.save_body.new.disk w.mark_behind-in-Saved.new.disk c.args.store.now w.save_body.new.store (c.loop-taken.saved + 1) g.met.D.Disk.counts_now
-        (keeps_saved c.args.every g.M.Persistent.body_of g.M.Persistent.steps g.M.Persistent.noted g.D.Disk.contents g.D.Disk.may_leave g.D.Disk.moment g.D.Disk.left_since
-        (Also c.args.every g.M.Persistent.body_of g.M.Persistent.steps g.M.Persistent.noted g.D.Disk.contents g.D.Disk.may_leave g.D.Disk.moment g.D.Disk.left_since g.D.Disk.marked (g.W.Wire.state c.args.wire.now).history c.args.disk.now c.loop-taken.disk c.args.store.now) (Also c.args.every g.M.Persistent.body_of g.M.Persistent.steps g.M.Persistent.noted g.D.Disk.contents g.D.Disk.may_leave g.D.Disk.moment g.D.Disk.left_since g.D.Disk.marked (g.W.Wire.state c.args.wire.now).history c.args.disk.now w.mark_behind-in-Saved.new.disk c.args.store.now)
+    so_far = keeps_along c.args.every g.M.Persistent.body_of g.M.Persistent.steps g.M.Persistent.noted g.D.Disk.contents g.D.Disk.may_leave g.D.Disk.moment
+        g.D.Disk.left_since g.D.Disk.marked
+        (Also c.args.every g.M.Persistent.body_of g.M.Persistent.steps g.M.Persistent.noted g.D.Disk.contents g.D.Disk.may_leave g.D.Disk.moment
+        g.D.Disk.left_since g.D.Disk.marked (g.W.Wire.state c.args.wire.now).history c.args.disk.now w.mark_behind-in-Saved.new.disk c.args.store.now)
+        (g.M.Persistent.serves c.args.served.now) (g.M.Persistent.serves c.turn.new.self) (g.W.Wire.state c.args.wire.now).history
+        (g.W.Wire.state c.turn.new.wire).history (c.loop-taken._taken + 1)
+        (c.args.every - 1) c.args.disk.now w.save_body.new.disk w.mark_behind-in-Saved.new.disk c.args.store.now w.save_body.new.store
+        (c.loop-taken.saved + 1) g.met.D.Disk.counts_now
+        (keeps_saved c.args.every g.M.Persistent.body_of g.M.Persistent.steps g.M.Persistent.noted g.D.Disk.contents g.D.Disk.may_leave g.D.Disk.moment
+        g.D.Disk.left_since
+        (Also c.args.every g.M.Persistent.body_of g.M.Persistent.steps g.M.Persistent.noted g.D.Disk.contents g.D.Disk.may_leave g.D.Disk.moment
+        g.D.Disk.left_since g.D.Disk.marked (g.W.Wire.state c.args.wire.now).history c.args.disk.now c.loop-taken.disk c.args.store.now)
+        (Also c.args.every g.M.Persistent.body_of g.M.Persistent.steps g.M.Persistent.noted g.D.Disk.contents g.D.Disk.may_leave g.D.Disk.moment
+        g.D.Disk.left_since g.D.Disk.marked (g.W.Wire.state c.args.wire.now).history c.args.disk.now w.mark_behind-in-Saved.new.disk c.args.store.now)
         (g.M.Persistent.serves c.args.served.now) (g.M.Persistent.serves c.loop-taken.served) (g.M.Persistent.serves c.turn.new.self)
-        (g.W.Wire.state c.args.wire.now).history (g.W.Wire.state c.loop-taken.wire).history (g.W.Wire.state c.turn.new.wire).history c.loop-taken._taken c.loop-taken.left
+        (g.W.Wire.state c.args.wire.now).history (g.W.Wire.state c.loop-taken.wire).history (g.W.Wire.state c.turn.new.wire).history c.loop-taken._taken
+        c.loop-taken.left
         c.args.disk.now c.loop-taken.disk w.save_body.new.disk c.args.store.now c.loop-taken.store w.save_body.new.store
         c.loop-taken.saved (omega (arith, w.if-left-gt0.false)) c.loop-taken.invariant.so_far w.in-Tick-2.ensures.turn w.in-Saved.ensures.saved
-        (also_saved c.args.every g.M.Persistent.body_of g.M.Persistent.steps g.M.Persistent.noted g.D.Disk.contents g.D.Disk.may_leave g.D.Disk.moment g.D.Disk.left_since g.D.Disk.marked (Also c.args.every g.M.Persistent.body_of g.M.Persistent.steps g.M.Persistent.noted g.D.Disk.contents g.D.Disk.may_leave g.D.Disk.moment g.D.Disk.left_since g.D.Disk.marked (g.W.Wire.state c.args.wire.now).history c.args.disk.now c.loop-taken.disk c.args.store.now)
+        (also_saved c.args.every g.M.Persistent.body_of g.M.Persistent.steps g.M.Persistent.noted g.D.Disk.contents g.D.Disk.may_leave g.D.Disk.moment
+        g.D.Disk.left_since g.D.Disk.marked (Also c.args.every g.M.Persistent.body_of g.M.Persistent.steps g.M.Persistent.noted g.D.Disk.contents
+        g.D.Disk.may_leave g.D.Disk.moment g.D.Disk.left_since g.D.Disk.marked (g.W.Wire.state c.args.wire.now).history c.args.disk.now c.loop-taken.disk
+        c.args.store.now)
         (g.M.Persistent.serves c.args.served.now) (g.M.Persistent.serves c.loop-taken.served) (g.M.Persistent.serves c.turn.new.self)
-        (g.W.Wire.state c.args.wire.now).history (g.W.Wire.state c.loop-taken.wire).history (g.W.Wire.state c.turn.new.wire).history c.loop-taken._taken c.loop-taken.left
-        c.args.disk.now c.loop-taken.disk w.save_body.new.disk w.mark_behind-in-Saved.new.disk c.args.store.now c.loop-taken.store w.save_body.new.store c.loop-taken.saved c.loop-taken.invariant.so_far w.in-Saved.ensures.saved w.in-Saved.ensures.ready
+        (g.W.Wire.state c.args.wire.now).history (g.W.Wire.state c.loop-taken.wire).history (g.W.Wire.state c.turn.new.wire).history c.loop-taken._taken
+        c.loop-taken.left
+        c.args.disk.now c.loop-taken.disk w.save_body.new.disk w.mark_behind-in-Saved.new.disk c.args.store.now c.loop-taken.store w.save_body.new.store
+        c.loop-taken.saved c.loop-taken.invariant.so_far w.in-Saved.ensures.saved w.in-Saved.ensures.ready
         (λ marks told. w.mark_behind-in-Saved.ensures.marks marks (w.in-Saved.ensures.marks marks told)))) w.mark_behind-in-Saved.ensures.passes;
-    ready = ready_quiet g.D.Disk.contents g.D.Disk.may_leave g.D.Disk.moment g.D.Disk.left_since g.met.D.Disk.counts_now w.save_body.new.disk w.mark_behind-in-Saved.new.disk
+    ready = ready_quiet g.D.Disk.contents g.D.Disk.may_leave g.D.Disk.moment g.D.Disk.left_since g.met.D.Disk.counts_now w.save_body.new.disk
+        w.mark_behind-in-Saved.new.disk
         w.save_body.new.store w.in-Saved.ensures.ready w.mark_behind-in-Saved.ensures.passes;
     few = omega (arith, c.loop-taken.invariant.few);
     untold = λ e. w.mark_behind-in-Saved.ensures.passes.same ∙ w.in-Saved.ensures.untold (c.loop-taken.invariant.untold e);
@@ -307,12 +396,18 @@ loop-taken-preserved g c = elim c.match-turn.branch [
     wanted = le_trans c.loop-taken.invariant.wanted c.turn.ensures.wanted;
   }
   | in-Other w ↦ rw (w.store-is, w.disk-is, w.saved-is, w.left-is) record {
-    so_far = keeps_other c.args.every g.M.Persistent.body_of g.M.Persistent.steps g.M.Persistent.noted g.D.Disk.contents g.D.Disk.may_leave g.D.Disk.moment g.D.Disk.left_since
-        (Also c.args.every g.M.Persistent.body_of g.M.Persistent.steps g.M.Persistent.noted g.D.Disk.contents g.D.Disk.may_leave g.D.Disk.moment g.D.Disk.left_since g.D.Disk.marked (g.W.Wire.state c.args.wire.now).history c.args.disk.now c.loop-taken.disk c.args.store.now) (Also c.args.every g.M.Persistent.body_of g.M.Persistent.steps g.M.Persistent.noted g.D.Disk.contents g.D.Disk.may_leave g.D.Disk.moment g.D.Disk.left_since g.D.Disk.marked (g.W.Wire.state c.args.wire.now).history c.args.disk.now c.loop-taken.disk c.args.store.now)
-        (also_passes c.args.every g.M.Persistent.body_of g.M.Persistent.steps g.M.Persistent.noted g.D.Disk.contents g.D.Disk.may_leave g.D.Disk.moment g.D.Disk.left_since g.D.Disk.marked (g.W.Wire.state c.args.wire.now).history
+    so_far = keeps_other c.args.every g.M.Persistent.body_of g.M.Persistent.steps g.M.Persistent.noted g.D.Disk.contents g.D.Disk.may_leave g.D.Disk.moment
+        g.D.Disk.left_since
+        (Also c.args.every g.M.Persistent.body_of g.M.Persistent.steps g.M.Persistent.noted g.D.Disk.contents g.D.Disk.may_leave g.D.Disk.moment
+        g.D.Disk.left_since g.D.Disk.marked (g.W.Wire.state c.args.wire.now).history c.args.disk.now c.loop-taken.disk c.args.store.now)
+        (Also c.args.every g.M.Persistent.body_of g.M.Persistent.steps g.M.Persistent.noted g.D.Disk.contents g.D.Disk.may_leave g.D.Disk.moment
+        g.D.Disk.left_since g.D.Disk.marked (g.W.Wire.state c.args.wire.now).history c.args.disk.now c.loop-taken.disk c.args.store.now)
+        (also_passes c.args.every g.M.Persistent.body_of g.M.Persistent.steps g.M.Persistent.noted g.D.Disk.contents g.D.Disk.may_leave g.D.Disk.moment
+        g.D.Disk.left_since g.D.Disk.marked (g.W.Wire.state c.args.wire.now).history
         c.args.disk.now c.loop-taken.disk c.args.store.now)
         (g.M.Persistent.serves c.args.served.now) (g.M.Persistent.serves c.loop-taken.served) (g.M.Persistent.serves c.turn.new.self)
-        (g.W.Wire.state c.args.wire.now).history (g.W.Wire.state c.loop-taken.wire).history (g.W.Wire.state c.turn.new.wire).history c.loop-taken._taken c.loop-taken.left
+        (g.W.Wire.state c.args.wire.now).history (g.W.Wire.state c.loop-taken.wire).history (g.W.Wire.state c.turn.new.wire).history c.loop-taken._taken
+        c.loop-taken.left
         c.args.disk.now c.loop-taken.disk c.args.store.now c.loop-taken.store c.loop-taken.saved c.loop-taken.invariant.so_far w.in-Other.ensures.turn;
     ready = c.loop-taken.invariant.ready;
     few = omega (arith, c.loop-taken.invariant.few);

@@ -21,12 +21,20 @@ pub loop-taken-init : goal.loop-taken-init
 loop-taken-init g c =
     let serves = g.M.Persistent.serves c.args.served.now in
     let history = (g.W.Wire.state c.args.wire.now).history in
-    let P : SaveCounts → Type 0 = λ counts. ServesOnSoFar (AlsoMarks c.args.every g.M.Persistent.body_of g.M.Persistent.steps g.M.Persistent.noted g.D.Disk.contents g.D.Disk.may_leave g.D.Disk.moment g.D.Disk.left_since g.D.Disk.marked (g.W.Wire.state c.args.wire.now).history c.args.disk.now c.args.disk.now c.args.store.now counts) c.args.every g.M.Persistent.body_of g.M.Persistent.steps g.M.Persistent.noted g.D.Disk.contents g.D.Disk.may_leave g.D.Disk.moment g.D.Disk.left_since
+    let P : SaveCounts → Type 0 = λ counts. ServesOnSoFar (AlsoMarks c.args.every g.M.Persistent.body_of g.M.Persistent.steps g.M.Persistent.noted
+    g.D.Disk.contents g.D.Disk.may_leave g.D.Disk.moment g.D.Disk.left_since g.D.Disk.marked (g.W.Wire.state c.args.wire.now).history c.args.disk.now
+    c.args.disk.now c.args.store.now counts) c.args.every g.M.Persistent.body_of g.M.Persistent.steps g.M.Persistent.noted g.D.Disk.contents
+    g.D.Disk.may_leave g.D.Disk.moment g.D.Disk.left_since
     serves serves history history 0 (c.args.every - 1) c.args.disk.now c.args.disk.now c.args.store.now c.args.store.now counts in
     record {
-      so_far = subst P (sym c.nothing-counts.ensures) (on_first c.args.every g.M.Persistent.body_of g.M.Persistent.steps g.M.Persistent.noted g.D.Disk.contents g.D.Disk.may_leave g.D.Disk.moment g.D.Disk.left_since
-          (AlsoMarks c.args.every g.M.Persistent.body_of g.M.Persistent.steps g.M.Persistent.noted g.D.Disk.contents g.D.Disk.may_leave g.D.Disk.moment g.D.Disk.left_since g.D.Disk.marked (g.W.Wire.state c.args.wire.now).history c.args.disk.now c.args.disk.now c.args.store.now none_counted) serves history c.args.disk.now c.args.store.now
-          (marks_first c.args.every g.M.Persistent.body_of g.M.Persistent.steps g.M.Persistent.noted g.D.Disk.contents g.D.Disk.may_leave g.D.Disk.moment g.D.Disk.left_since g.D.Disk.marked history c.args.disk.now c.args.store.now none_counted) g.met.D.Disk.only_now c.requires.ready c.requires.open);
+      so_far = subst P (sym c.nothing-counts.ensures) (on_first c.args.every g.M.Persistent.body_of g.M.Persistent.steps g.M.Persistent.noted
+          g.D.Disk.contents g.D.Disk.may_leave g.D.Disk.moment g.D.Disk.left_since
+          (AlsoMarks c.args.every g.M.Persistent.body_of g.M.Persistent.steps g.M.Persistent.noted g.D.Disk.contents g.D.Disk.may_leave g.D.Disk.moment
+          g.D.Disk.left_since g.D.Disk.marked (g.W.Wire.state c.args.wire.now).history c.args.disk.now c.args.disk.now c.args.store.now none_counted)
+          serves history c.args.disk.now c.args.store.now
+          (marks_first c.args.every g.M.Persistent.body_of g.M.Persistent.steps g.M.Persistent.noted g.D.Disk.contents g.D.Disk.may_leave g.D.Disk.moment
+          g.D.Disk.left_since g.D.Disk.marked history c.args.disk.now c.args.store.now none_counted) g.met.D.Disk.only_now c.requires.ready
+          c.requires.open);
       ready = c.requires.ready;
       few = subst (λ counts. AreFew counts 0) (sym c.nothing-counts.ensures) few_first;
       failed = λ more. none_rose _ c.nothing-counts.result c.nothing-counts.ensures more;
@@ -40,9 +48,11 @@ loop-taken-init g c =
 
 pub look-requires-clause-some : goal.look-requires-clause-some
 look-requires-clause-some g c =
-    some_at_tick c.args.every g.M.Persistent.body_of g.M.Persistent.steps g.M.Persistent.noted g.D.Disk.contents g.D.Disk.may_leave g.D.Disk.moment g.D.Disk.left_since
+    some_at_tick c.args.every g.M.Persistent.body_of g.M.Persistent.steps g.M.Persistent.noted g.D.Disk.contents g.D.Disk.may_leave g.D.Disk.moment
+    g.D.Disk.left_since
     (g.M.Persistent.serves c.args.served.now) (g.M.Persistent.serves c.loop-taken.served) (g.M.Persistent.serves c.turn.new.self)
-    (g.W.Wire.state c.args.wire.now).history (g.W.Wire.state c.loop-taken.wire).history (g.W.Wire.state c.turn.new.wire).history c.loop-taken._taken _ c.loop-taken.invariant.so_far.turns c.in-Tick-2.ensures.turn c.requires.some
+    (g.W.Wire.state c.args.wire.now).history (g.W.Wire.state c.loop-taken.wire).history (g.W.Wire.state c.turn.new.wire).history c.loop-taken._taken _
+    c.loop-taken.invariant.so_far.turns c.in-Tick-2.ensures.turn c.requires.some
 
 pub after-counts-requires : goal.after-counts-requires
 after-counts-requires g c =
@@ -52,18 +62,27 @@ after-counts-requires g c =
 
 pub look_last-requires-clause-some : goal.look_last-requires-clause-some
 look_last-requires-clause-some g c =
-    some_at_last c.args.every g.M.Persistent.body_of g.M.Persistent.steps g.M.Persistent.noted g.D.Disk.contents g.D.Disk.may_leave g.D.Disk.moment g.D.Disk.left_since
-    (g.M.Persistent.serves c.args.served.now) (g.M.Persistent.serves c.loop-taken.served) (g.M.Persistent.serves c.turn.new.self) (g.W.Wire.state c.args.wire.now).history (g.W.Wire.state c.loop-taken.wire).history c.loop-taken._taken c.loop-taken.invariant.so_far.turns c.in-End.ensures.turn.1 c.requires.some
+    some_at_last c.args.every g.M.Persistent.body_of g.M.Persistent.steps g.M.Persistent.noted g.D.Disk.contents g.D.Disk.may_leave g.D.Disk.moment
+    g.D.Disk.left_since
+    (g.M.Persistent.serves c.args.served.now) (g.M.Persistent.serves c.loop-taken.served) (g.M.Persistent.serves c.turn.new.self)
+    (g.W.Wire.state c.args.wire.now).history (g.W.Wire.state c.loop-taken.wire).history c.loop-taken._taken c.loop-taken.invariant.so_far.turns
+    c.in-End.ensures.turn.1 c.requires.some
 
 pub look_last-requires-in-LinkFault-clause-some : goal.look_last-requires-in-LinkFault-clause-some
 look_last-requires-in-LinkFault-clause-some g c =
-    some_at_last c.args.every g.M.Persistent.body_of g.M.Persistent.steps g.M.Persistent.noted g.D.Disk.contents g.D.Disk.may_leave g.D.Disk.moment g.D.Disk.left_since
-    (g.M.Persistent.serves c.args.served.now) (g.M.Persistent.serves c.loop-taken.served) (g.M.Persistent.serves c.turn.new.self) (g.W.Wire.state c.args.wire.now).history (g.W.Wire.state c.loop-taken.wire).history c.loop-taken._taken c.loop-taken.invariant.so_far.turns c.in-LinkFault.ensures.turn.1 c.requires.some
+    some_at_last c.args.every g.M.Persistent.body_of g.M.Persistent.steps g.M.Persistent.noted g.D.Disk.contents g.D.Disk.may_leave g.D.Disk.moment
+    g.D.Disk.left_since
+    (g.M.Persistent.serves c.args.served.now) (g.M.Persistent.serves c.loop-taken.served) (g.M.Persistent.serves c.turn.new.self)
+    (g.W.Wire.state c.args.wire.now).history (g.W.Wire.state c.loop-taken.wire).history c.loop-taken._taken c.loop-taken.invariant.so_far.turns
+    c.in-LinkFault.ensures.turn.1 c.requires.some
 
 pub look_last-requires-2-clause-some : goal.look_last-requires-2-clause-some
 look_last-requires-2-clause-some g c =
-    some_at_last c.args.every g.M.Persistent.body_of g.M.Persistent.steps g.M.Persistent.noted g.D.Disk.contents g.D.Disk.may_leave g.D.Disk.moment g.D.Disk.left_since
-    (g.M.Persistent.serves c.args.served.now) (g.M.Persistent.serves c.loop-taken.served) (g.M.Persistent.serves c.loop-taken.served) (g.W.Wire.state c.args.wire.now).history (g.W.Wire.state c.loop-taken.wire).history c.loop-taken._taken c.loop-taken.invariant.so_far.turns (λ x stands. stands) c.requires.some
+    some_at_last c.args.every g.M.Persistent.body_of g.M.Persistent.steps g.M.Persistent.noted g.D.Disk.contents g.D.Disk.may_leave g.D.Disk.moment
+    g.D.Disk.left_since
+    (g.M.Persistent.serves c.args.served.now) (g.M.Persistent.serves c.loop-taken.served) (g.M.Persistent.serves c.loop-taken.served)
+    (g.W.Wire.state c.args.wire.now).history (g.W.Wire.state c.loop-taken.wire).history c.loop-taken._taken c.loop-taken.invariant.so_far.turns
+    (λ x stands. stands) c.requires.some
 
 pub look_last-requires-clause-few : goal.look_last-requires-clause-few
 look_last-requires-clause-few g c =
@@ -84,40 +103,59 @@ look_last-requires-2-clause-few g c =
 
 pub returns-in-End-clause-keeps : goal.returns-in-End-clause-keeps
 returns-in-End-clause-keeps g c =
-    ends_done c.args.every g.M.Persistent.body_of g.M.Persistent.steps g.M.Persistent.noted g.D.Disk.contents g.D.Disk.may_leave g.D.Disk.moment g.D.Disk.left_since
-    (AlsoMarks c.args.every g.M.Persistent.body_of g.M.Persistent.steps g.M.Persistent.noted g.D.Disk.contents g.D.Disk.may_leave g.D.Disk.moment g.D.Disk.left_since g.D.Disk.marked (g.W.Wire.state c.args.wire.now).history c.args.disk.now c.loop-taken.disk c.args.store.now c.loop-taken.counts) c.look_last.result
-    (g.M.Persistent.serves c.args.served.now) (g.M.Persistent.serves c.loop-taken.served) (g.M.Persistent.serves c.turn.new.self) (g.W.Wire.state c.args.wire.now) (g.W.Wire.state c.loop-taken.wire).history (g.W.Wire.state c.turn.new.wire)
+    ends_done c.args.every g.M.Persistent.body_of g.M.Persistent.steps g.M.Persistent.noted g.D.Disk.contents g.D.Disk.may_leave g.D.Disk.moment
+    g.D.Disk.left_since
+    (AlsoMarks c.args.every g.M.Persistent.body_of g.M.Persistent.steps g.M.Persistent.noted g.D.Disk.contents g.D.Disk.may_leave g.D.Disk.moment
+    g.D.Disk.left_since g.D.Disk.marked (g.W.Wire.state c.args.wire.now).history c.args.disk.now c.loop-taken.disk c.args.store.now c.loop-taken.counts)
+    c.look_last.result
+    (g.M.Persistent.serves c.args.served.now) (g.M.Persistent.serves c.loop-taken.served) (g.M.Persistent.serves c.turn.new.self)
+    (g.W.Wire.state c.args.wire.now) (g.W.Wire.state c.loop-taken.wire).history (g.W.Wire.state c.turn.new.wire)
     c.loop-taken._taken c.loop-taken.left c.args.limit c.args.disk.now c.loop-taken.disk c.look_last.new.disk
-    c.args.store.now c.loop-taken.store c.look_last.new.store c.loop-taken.counts g.met.D.Disk.leaves_contents g.met.D.Disk.counts_now c.loop-taken.invariant.so_far
+    c.args.store.now c.loop-taken.store c.look_last.new.store c.loop-taken.counts g.met.D.Disk.leaves_contents g.met.D.Disk.counts_now
+    c.loop-taken.invariant.so_far
     c.loop-taken-test.true c.in-End.ensures.turn.0 c.in-End.ensures.turn.1 c.look_last.ensures.ends c.look_last.ensures.ready
 
 pub returns-in-LinkFault-clause-keeps : goal.returns-in-LinkFault-clause-keeps
 returns-in-LinkFault-clause-keeps g c =
     let stops = stops_later (g.W.Wire.state c.args.wire.now) (g.W.Wire.state c.loop-taken.wire) (g.W.Wire.state c.turn.new.wire)
-    (stops_kept _ _ (g.M.Persistent.serves c.args.served.now) (g.M.Persistent.serves c.loop-taken.served) (g.W.Wire.state c.args.wire.now).history (g.W.Wire.state c.loop-taken.wire).history c.loop-taken._taken c.loop-taken.invariant.so_far.turns)
+    (stops_kept _ _ (g.M.Persistent.serves c.args.served.now) (g.M.Persistent.serves c.loop-taken.served) (g.W.Wire.state c.args.wire.now).history
+    (g.W.Wire.state c.loop-taken.wire).history c.loop-taken._taken c.loop-taken.invariant.so_far.turns)
     c.loop-taken.invariant.wire_later c.in-LinkFault.ensures.turn.0 in
-    ends_fault c.args.every g.M.Persistent.body_of g.M.Persistent.steps g.M.Persistent.noted g.D.Disk.contents g.D.Disk.may_leave g.D.Disk.moment g.D.Disk.left_since
-    (AlsoMarks c.args.every g.M.Persistent.body_of g.M.Persistent.steps g.M.Persistent.noted g.D.Disk.contents g.D.Disk.may_leave g.D.Disk.moment g.D.Disk.left_since g.D.Disk.marked (g.W.Wire.state c.args.wire.now).history c.args.disk.now c.loop-taken.disk c.args.store.now c.loop-taken.counts) c.look_last-in-LinkFault.result
-    (g.M.Persistent.serves c.args.served.now) (g.M.Persistent.serves c.loop-taken.served) (g.M.Persistent.serves c.turn.new.self) (g.W.Wire.state c.args.wire.now) (g.W.Wire.state c.loop-taken.wire).history (g.W.Wire.state c.turn.new.wire)
+    ends_fault c.args.every g.M.Persistent.body_of g.M.Persistent.steps g.M.Persistent.noted g.D.Disk.contents g.D.Disk.may_leave g.D.Disk.moment
+    g.D.Disk.left_since
+    (AlsoMarks c.args.every g.M.Persistent.body_of g.M.Persistent.steps g.M.Persistent.noted g.D.Disk.contents g.D.Disk.may_leave g.D.Disk.moment
+    g.D.Disk.left_since g.D.Disk.marked (g.W.Wire.state c.args.wire.now).history c.args.disk.now c.loop-taken.disk c.args.store.now c.loop-taken.counts)
+    c.look_last-in-LinkFault.result
+    (g.M.Persistent.serves c.args.served.now) (g.M.Persistent.serves c.loop-taken.served) (g.M.Persistent.serves c.turn.new.self)
+    (g.W.Wire.state c.args.wire.now) (g.W.Wire.state c.loop-taken.wire).history (g.W.Wire.state c.turn.new.wire)
     c.loop-taken._taken c.loop-taken.left c.args.limit c.args.disk.now c.loop-taken.disk c.look_last-in-LinkFault.new.disk
-    c.args.store.now c.loop-taken.store c.look_last-in-LinkFault.new.store c.loop-taken.counts g.met.D.Disk.leaves_contents g.met.D.Disk.counts_now c.loop-taken.invariant.so_far
+    c.args.store.now c.loop-taken.store c.look_last-in-LinkFault.new.store c.loop-taken.counts g.met.D.Disk.leaves_contents g.met.D.Disk.counts_now
+    c.loop-taken.invariant.so_far
     c.loop-taken-test.true stops c.in-LinkFault.ensures.turn.1 c.look_last-in-LinkFault.ensures.ends c.look_last-in-LinkFault.ensures.ready
 
 pub returns-in-Memory-clause-keeps : goal.returns-in-Memory-clause-keeps
 returns-in-Memory-clause-keeps g c =
-    ends_memory c.args.every g.M.Persistent.body_of g.M.Persistent.steps g.M.Persistent.noted g.D.Disk.contents g.D.Disk.may_leave g.D.Disk.moment g.D.Disk.left_since
-    (AlsoMarks c.args.every g.M.Persistent.body_of g.M.Persistent.steps g.M.Persistent.noted g.D.Disk.contents g.D.Disk.may_leave g.D.Disk.moment g.D.Disk.left_since g.D.Disk.marked (g.W.Wire.state c.args.wire.now).history c.args.disk.now c.loop-taken.disk c.args.store.now c.loop-taken.counts)
-    (g.M.Persistent.serves c.args.served.now) (g.M.Persistent.serves c.loop-taken.served) (g.M.Persistent.serves c.turn.new.self) (g.W.Wire.state c.args.wire.now) (g.W.Wire.state c.loop-taken.wire).history (g.W.Wire.state c.turn.new.wire)
+    ends_memory c.args.every g.M.Persistent.body_of g.M.Persistent.steps g.M.Persistent.noted g.D.Disk.contents g.D.Disk.may_leave g.D.Disk.moment
+    g.D.Disk.left_since
+    (AlsoMarks c.args.every g.M.Persistent.body_of g.M.Persistent.steps g.M.Persistent.noted g.D.Disk.contents g.D.Disk.may_leave g.D.Disk.moment
+    g.D.Disk.left_since g.D.Disk.marked (g.W.Wire.state c.args.wire.now).history c.args.disk.now c.loop-taken.disk c.args.store.now c.loop-taken.counts)
+    (g.M.Persistent.serves c.args.served.now) (g.M.Persistent.serves c.loop-taken.served) (g.M.Persistent.serves c.turn.new.self)
+    (g.W.Wire.state c.args.wire.now) (g.W.Wire.state c.loop-taken.wire).history (g.W.Wire.state c.turn.new.wire)
     c.loop-taken._taken c.loop-taken.left c.args.limit c.args.disk.now c.loop-taken.disk
-    c.args.store.now c.loop-taken.store c.loop-taken.counts c.loop-taken.invariant.so_far c.loop-taken-test.true c.in-Memory.ensures.turn c.loop-taken.invariant.ready
+    c.args.store.now c.loop-taken.store c.loop-taken.counts c.loop-taken.invariant.so_far c.loop-taken-test.true c.in-Memory.ensures.turn
+    c.loop-taken.invariant.ready
 
 pub returns-clause-keeps : goal.returns-clause-keeps
 returns-clause-keeps g c =
-    ends_budget c.args.every g.M.Persistent.body_of g.M.Persistent.steps g.M.Persistent.noted g.D.Disk.contents g.D.Disk.may_leave g.D.Disk.moment g.D.Disk.left_since
-    (AlsoMarks c.args.every g.M.Persistent.body_of g.M.Persistent.steps g.M.Persistent.noted g.D.Disk.contents g.D.Disk.may_leave g.D.Disk.moment g.D.Disk.left_since g.D.Disk.marked (g.W.Wire.state c.args.wire.now).history c.args.disk.now c.loop-taken.disk c.args.store.now c.loop-taken.counts) c.look_last-2.result
+    ends_budget c.args.every g.M.Persistent.body_of g.M.Persistent.steps g.M.Persistent.noted g.D.Disk.contents g.D.Disk.may_leave g.D.Disk.moment
+    g.D.Disk.left_since
+    (AlsoMarks c.args.every g.M.Persistent.body_of g.M.Persistent.steps g.M.Persistent.noted g.D.Disk.contents g.D.Disk.may_leave g.D.Disk.moment
+    g.D.Disk.left_since g.D.Disk.marked (g.W.Wire.state c.args.wire.now).history c.args.disk.now c.loop-taken.disk c.args.store.now c.loop-taken.counts)
+    c.look_last-2.result
     (g.M.Persistent.serves c.args.served.now) (g.M.Persistent.serves c.loop-taken.served) (g.W.Wire.state c.args.wire.now) (g.W.Wire.state c.loop-taken.wire)
     c.loop-taken._taken c.loop-taken.left c.args.limit c.args.disk.now c.loop-taken.disk c.look_last-2.new.disk
-    c.args.store.now c.loop-taken.store c.look_last-2.new.store c.loop-taken.counts g.met.D.Disk.leaves_contents g.met.D.Disk.counts_now c.loop-taken.invariant.so_far
+    c.args.store.now c.loop-taken.store c.look_last-2.new.store c.loop-taken.counts g.met.D.Disk.leaves_contents g.met.D.Disk.counts_now
+    c.loop-taken.invariant.so_far
     (omega (arith, c.loop-taken-test.false, c.loop-taken.auto._taken-end)) c.look_last-2.ensures.ends c.look_last-2.ensures.ready
 
 pub returns-in-End-clause-failed : goal.returns-in-End-clause-failed
@@ -134,7 +172,8 @@ returns-in-End-clause-memory g c = λ is. absurd (never_memory c.look_last.resul
 pub returns-in-LinkFault-clause-failed : goal.returns-in-LinkFault-clause-failed
 returns-in-LinkFault-clause-failed g c = λ more.
     rose_so_far (g.D.Disk.fault_count c.args.disk.now) (g.D.Disk.fault_count c.loop-taken.disk) (g.D.Disk.fault_count c.look_last-in-LinkFault.new.disk)
-    c.loop-taken.counts.failed c.loop-taken.invariant.later c.look_last-in-LinkFault.ensures.later c.loop-taken.invariant.failed (c.look_last-in-LinkFault.ensures.failed more)
+    c.loop-taken.counts.failed c.loop-taken.invariant.later c.look_last-in-LinkFault.ensures.later c.loop-taken.invariant.failed
+    (c.look_last-in-LinkFault.ensures.failed more)
 
 pub returns-in-LinkFault-clause-last : goal.returns-in-LinkFault-clause-last
 returns-in-LinkFault-clause-last g c = last_there c.look_last-in-LinkFault.result _ _ _ (λ is. cc) c.look_last-in-LinkFault.ensures.ends
@@ -155,7 +194,8 @@ returns-clause-memory g c = λ is. absurd (never_memory c.look_last-2.result _ _
 
 pub returns-in-Memory-clause-memory : goal.returns-in-Memory-clause-memory
 returns-in-Memory-clause-memory g c = λ is.
-    wanting_later _ (g.W.Wire.state c.args.wire.now) (g.W.Wire.state c.loop-taken.wire) (g.W.Wire.state c.turn.new.wire) c.loop-taken.invariant.wanted (c.in-Memory.ensures.memory refl)
+    wanting_later _ (g.W.Wire.state c.args.wire.now) (g.W.Wire.state c.loop-taken.wire) (g.W.Wire.state c.turn.new.wire) c.loop-taken.invariant.wanted
+    (c.in-Memory.ensures.memory refl)
 
 pub returns-in-End-clause-named : goal.returns-in-End-clause-named
 returns-in-End-clause-named g c = only_join _ _ _ c.args.name.now c.loop-taken.invariant.named c.look_last.ensures.named
@@ -168,7 +208,9 @@ returns-clause-named g c = only_join _ _ _ c.args.name.now c.loop-taken.invarian
 
 pub returns-in-End-clause-marks : goal.returns-in-End-clause-marks
 returns-in-End-clause-marks g c =
-    ends_on_marked c.args.every g.M.Persistent.body_of g.M.Persistent.steps g.M.Persistent.noted g.D.Disk.contents g.D.Disk.may_leave g.D.Disk.moment g.D.Disk.left_since g.D.Disk.marked c.look_last.result end.Done refl (g.M.Persistent.serves c.args.served.now) (g.M.Persistent.serves c.loop-taken.served) (g.M.Persistent.serves c.turn.new.self)
+    ends_on_marked c.args.every g.M.Persistent.body_of g.M.Persistent.steps g.M.Persistent.noted g.D.Disk.contents g.D.Disk.may_leave g.D.Disk.moment
+    g.D.Disk.left_since g.D.Disk.marked c.look_last.result end.Done refl (g.M.Persistent.serves c.args.served.now)
+    (g.M.Persistent.serves c.loop-taken.served) (g.M.Persistent.serves c.turn.new.self)
     (g.W.Wire.state c.args.wire.now) (g.W.Wire.state c.loop-taken.wire).history (g.W.Wire.state c.turn.new.wire) c.loop-taken._taken c.loop-taken.left
     c.args.disk.now c.loop-taken.disk c.look_last.new.disk c.args.store.now c.loop-taken.store c.look_last.new.store c.loop-taken.counts
     g.met.D.Disk.leaves_contents g.met.D.Disk.counts_now c.loop-taken.invariant.so_far (inr (inl c.in-End.ensures.turn.0)) c.in-End.ensures.turn.1
@@ -176,17 +218,24 @@ returns-in-End-clause-marks g c =
 
 pub returns-in-LinkFault-clause-marks : goal.returns-in-LinkFault-clause-marks
 returns-in-LinkFault-clause-marks g c =
-    ends_on_marked c.args.every g.M.Persistent.body_of g.M.Persistent.steps g.M.Persistent.noted g.D.Disk.contents g.D.Disk.may_leave g.D.Disk.moment g.D.Disk.left_since g.D.Disk.marked c.look_last-in-LinkFault.result end.LinkFault refl (g.M.Persistent.serves c.args.served.now) (g.M.Persistent.serves c.loop-taken.served) (g.M.Persistent.serves c.turn.new.self)
+    ends_on_marked c.args.every g.M.Persistent.body_of g.M.Persistent.steps g.M.Persistent.noted g.D.Disk.contents g.D.Disk.may_leave g.D.Disk.moment
+    g.D.Disk.left_since g.D.Disk.marked c.look_last-in-LinkFault.result end.LinkFault refl (g.M.Persistent.serves c.args.served.now)
+    (g.M.Persistent.serves c.loop-taken.served) (g.M.Persistent.serves c.turn.new.self)
     (g.W.Wire.state c.args.wire.now) (g.W.Wire.state c.loop-taken.wire).history (g.W.Wire.state c.turn.new.wire) c.loop-taken._taken c.loop-taken.left
-    c.args.disk.now c.loop-taken.disk c.look_last-in-LinkFault.new.disk c.args.store.now c.loop-taken.store c.look_last-in-LinkFault.new.store c.loop-taken.counts
-    g.met.D.Disk.leaves_contents g.met.D.Disk.counts_now c.loop-taken.invariant.so_far (inr (inr (stops_later (g.W.Wire.state c.args.wire.now) (g.W.Wire.state c.loop-taken.wire) (g.W.Wire.state c.turn.new.wire)
-    (stops_kept _ _ (g.M.Persistent.serves c.args.served.now) (g.M.Persistent.serves c.loop-taken.served) (g.W.Wire.state c.args.wire.now).history (g.W.Wire.state c.loop-taken.wire).history c.loop-taken._taken c.loop-taken.invariant.so_far.turns)
+    c.args.disk.now c.loop-taken.disk c.look_last-in-LinkFault.new.disk c.args.store.now c.loop-taken.store c.look_last-in-LinkFault.new.store
+    c.loop-taken.counts
+    g.met.D.Disk.leaves_contents g.met.D.Disk.counts_now c.loop-taken.invariant.so_far
+    (inr (inr (stops_later (g.W.Wire.state c.args.wire.now) (g.W.Wire.state c.loop-taken.wire) (g.W.Wire.state c.turn.new.wire)
+    (stops_kept _ _ (g.M.Persistent.serves c.args.served.now) (g.M.Persistent.serves c.loop-taken.served) (g.W.Wire.state c.args.wire.now).history
+    (g.W.Wire.state c.loop-taken.wire).history c.loop-taken._taken c.loop-taken.invariant.so_far.turns)
     c.loop-taken.invariant.wire_later c.in-LinkFault.ensures.turn.0))) c.in-LinkFault.ensures.turn.1
     c.look_last-in-LinkFault.ensures.ends c.look_last-in-LinkFault.ensures.ready c.look_last-in-LinkFault.ensures.marks
 
 pub returns-clause-marks : goal.returns-clause-marks
 returns-clause-marks g c =
-    ends_on_marked c.args.every g.M.Persistent.body_of g.M.Persistent.steps g.M.Persistent.noted g.D.Disk.contents g.D.Disk.may_leave g.D.Disk.moment g.D.Disk.left_since g.D.Disk.marked c.look_last-2.result end.Budget refl (g.M.Persistent.serves c.args.served.now) (g.M.Persistent.serves c.loop-taken.served) (g.M.Persistent.serves c.loop-taken.served)
+    ends_on_marked c.args.every g.M.Persistent.body_of g.M.Persistent.steps g.M.Persistent.noted g.D.Disk.contents g.D.Disk.may_leave g.D.Disk.moment
+    g.D.Disk.left_since g.D.Disk.marked c.look_last-2.result end.Budget refl (g.M.Persistent.serves c.args.served.now)
+    (g.M.Persistent.serves c.loop-taken.served) (g.M.Persistent.serves c.loop-taken.served)
     (g.W.Wire.state c.args.wire.now) (g.W.Wire.state c.loop-taken.wire).history (g.W.Wire.state c.loop-taken.wire) c.loop-taken._taken c.loop-taken.left
     c.args.disk.now c.loop-taken.disk c.look_last-2.new.disk c.args.store.now c.loop-taken.store c.look_last-2.new.store c.loop-taken.counts
     g.met.D.Disk.leaves_contents g.met.D.Disk.counts_now c.loop-taken.invariant.so_far (inl refl) (λ x stands. stands)
@@ -194,18 +243,29 @@ returns-clause-marks g c =
 
 pub returns-in-Memory-clause-marks : goal.returns-in-Memory-clause-marks
 returns-in-Memory-clause-marks g c =
-    memory_marked c.args.every g.M.Persistent.body_of g.M.Persistent.steps g.M.Persistent.noted g.D.Disk.contents g.D.Disk.may_leave g.D.Disk.moment g.D.Disk.left_since g.D.Disk.marked (g.M.Persistent.serves c.args.served.now) (g.M.Persistent.serves c.loop-taken.served)
+    memory_marked c.args.every g.M.Persistent.body_of g.M.Persistent.steps g.M.Persistent.noted g.D.Disk.contents g.D.Disk.may_leave g.D.Disk.moment
+    g.D.Disk.left_since g.D.Disk.marked (g.M.Persistent.serves c.args.served.now) (g.M.Persistent.serves c.loop-taken.served)
     (g.W.Wire.state c.args.wire.now) (g.W.Wire.state c.loop-taken.wire).history (g.W.Wire.state c.turn.new.wire) c.loop-taken._taken c.loop-taken.left
     c.args.disk.now c.loop-taken.disk c.args.store.now c.loop-taken.store c.loop-taken.counts c.in-Memory.ensures.turn.breaks.moves
-    c.loop-taken.invariant.so_far (let count = c.in-Memory.ensures.turn.breaks.events in let most = c.in-Memory.ensures.turn.within in omega (arith, count, most))
+    c.loop-taken.invariant.so_far (let count = c.in-Memory.ensures.turn.breaks.events in let most = c.in-Memory.ensures.turn.within in omega
+    (arith, count, most))
     c.in-Memory.ensures.turn.breaks.logged
 
 pub loop-taken-preserved : goal.loop-taken-preserved
 loop-taken-preserved g c = elim c.match-turn.branch [
   | in-Tick w ↦ rw (w.store-is, w.disk-is, w.counts-is, w.left-is) record {
-    so_far = on_passed c.args.every g.M.Persistent.body_of g.M.Persistent.steps g.M.Persistent.noted g.D.Disk.contents g.D.Disk.may_leave g.D.Disk.moment g.D.Disk.left_since
-        (AlsoMarks c.args.every g.M.Persistent.body_of g.M.Persistent.steps g.M.Persistent.noted g.D.Disk.contents g.D.Disk.may_leave g.D.Disk.moment g.D.Disk.left_since g.D.Disk.marked (g.W.Wire.state c.args.wire.now).history c.args.disk.now c.loop-taken.disk c.args.store.now c.loop-taken.counts) (AlsoMarks c.args.every g.M.Persistent.body_of g.M.Persistent.steps g.M.Persistent.noted g.D.Disk.contents g.D.Disk.may_leave g.D.Disk.moment g.D.Disk.left_since g.D.Disk.marked (g.W.Wire.state c.args.wire.now).history c.args.disk.now c.loop-taken.disk c.args.store.now c.loop-taken.counts) (g.M.Persistent.serves c.args.served.now) (g.M.Persistent.serves c.loop-taken.served) (g.M.Persistent.serves c.turn.new.self) (g.W.Wire.state c.args.wire.now).history (g.W.Wire.state c.loop-taken.wire).history (g.W.Wire.state c.turn.new.wire).history c.loop-taken._taken c.loop-taken.left c.args.disk.now c.loop-taken.disk c.args.store.now c.loop-taken.store c.loop-taken.counts w.if-left-gt0.true
-        (marks_passed c.args.every g.M.Persistent.body_of g.M.Persistent.steps g.M.Persistent.noted g.D.Disk.contents g.D.Disk.may_leave g.D.Disk.moment g.D.Disk.left_since g.D.Disk.marked (g.W.Wire.state c.args.wire.now).history (g.W.Wire.state c.turn.new.wire).history c.loop-taken.left c.args.disk.now c.loop-taken.disk
+    so_far = on_passed c.args.every g.M.Persistent.body_of g.M.Persistent.steps g.M.Persistent.noted g.D.Disk.contents g.D.Disk.may_leave g.D.Disk.moment
+        g.D.Disk.left_since
+        (AlsoMarks c.args.every g.M.Persistent.body_of g.M.Persistent.steps g.M.Persistent.noted g.D.Disk.contents g.D.Disk.may_leave g.D.Disk.moment
+        g.D.Disk.left_since g.D.Disk.marked (g.W.Wire.state c.args.wire.now).history c.args.disk.now c.loop-taken.disk c.args.store.now
+        c.loop-taken.counts) (AlsoMarks c.args.every g.M.Persistent.body_of g.M.Persistent.steps g.M.Persistent.noted g.D.Disk.contents g.D.Disk.may_leave
+        g.D.Disk.moment g.D.Disk.left_since g.D.Disk.marked (g.W.Wire.state c.args.wire.now).history c.args.disk.now c.loop-taken.disk c.args.store.now
+        c.loop-taken.counts) (g.M.Persistent.serves c.args.served.now) (g.M.Persistent.serves c.loop-taken.served) (g.M.Persistent.serves c.turn.new.self)
+        (g.W.Wire.state c.args.wire.now).history (g.W.Wire.state c.loop-taken.wire).history (g.W.Wire.state c.turn.new.wire).history c.loop-taken._taken
+        c.loop-taken.left c.args.disk.now c.loop-taken.disk c.args.store.now c.loop-taken.store c.loop-taken.counts w.if-left-gt0.true
+        (marks_passed c.args.every g.M.Persistent.body_of g.M.Persistent.steps g.M.Persistent.noted g.D.Disk.contents g.D.Disk.may_leave g.D.Disk.moment
+        g.D.Disk.left_since g.D.Disk.marked (g.W.Wire.state c.args.wire.now).history (g.W.Wire.state c.turn.new.wire).history c.loop-taken.left
+        c.args.disk.now c.loop-taken.disk
         c.args.store.now c.loop-taken.store c.loop-taken.counts w.if-left-gt0.true) c.loop-taken.invariant.so_far w.in-Tick.ensures.turn;
     ready = c.loop-taken.invariant.ready;
     few = few_within c.loop-taken.counts c.loop-taken._taken _ (omega arith) c.loop-taken.invariant.few;
@@ -218,24 +278,48 @@ loop-taken-preserved g c = elim c.match-turn.branch [
     wanted = le_trans c.loop-taken.invariant.wanted c.turn.ensures.wanted;
   }
   | in-Tick-2 w ↦ rw (w.store-is, w.disk-is, w.counts-is, w.left-is) record {
-    so_far = subst (λ counts. ServesOnSoFar (AlsoMarks c.args.every g.M.Persistent.body_of g.M.Persistent.steps g.M.Persistent.noted g.D.Disk.contents g.D.Disk.may_leave g.D.Disk.moment g.D.Disk.left_since g.D.Disk.marked (g.W.Wire.state c.args.wire.now).history c.args.disk.now w.mark_behind.new.disk c.args.store.now counts) c.args.every g.M.Persistent.body_of g.M.Persistent.steps g.M.Persistent.noted g.D.Disk.contents g.D.Disk.may_leave g.D.Disk.moment g.D.Disk.left_since (g.M.Persistent.serves c.args.served.now) (g.M.Persistent.serves c.turn.new.self) (g.W.Wire.state c.args.wire.now).history (g.W.Wire.state c.turn.new.wire).history (c.loop-taken._taken + 1) (c.args.every - 1) c.args.disk.now w.mark_behind.new.disk c.args.store.now w.look.new.store counts) (sym w.after-counts.ensures) (on_along c.args.every g.M.Persistent.body_of g.M.Persistent.steps g.M.Persistent.noted g.D.Disk.contents g.D.Disk.may_leave g.D.Disk.moment g.D.Disk.left_since g.D.Disk.marked
-        (AlsoMarks c.args.every g.M.Persistent.body_of g.M.Persistent.steps g.M.Persistent.noted g.D.Disk.contents g.D.Disk.may_leave g.D.Disk.moment g.D.Disk.left_since g.D.Disk.marked (g.W.Wire.state c.args.wire.now).history c.args.disk.now w.mark_behind.new.disk c.args.store.now (counted w.look.result c.loop-taken.counts))
-        (g.M.Persistent.serves c.args.served.now) (g.M.Persistent.serves c.turn.new.self) (g.W.Wire.state c.args.wire.now).history (g.W.Wire.state c.turn.new.wire).history (c.loop-taken._taken + 1)
+    so_far = subst (λ counts. ServesOnSoFar (AlsoMarks c.args.every g.M.Persistent.body_of g.M.Persistent.steps g.M.Persistent.noted g.D.Disk.contents
+        g.D.Disk.may_leave g.D.Disk.moment g.D.Disk.left_since g.D.Disk.marked (g.W.Wire.state c.args.wire.now).history c.args.disk.now w.mark_behind.new.disk
+        c.args.store.now counts) c.args.every g.M.Persistent.body_of g.M.Persistent.steps g.M.Persistent.noted g.D.Disk.contents g.D.Disk.may_leave
+        g.D.Disk.moment g.D.Disk.left_since (g.M.Persistent.serves c.args.served.now) (g.M.Persistent.serves c.turn.new.self)
+        (g.W.Wire.state c.args.wire.now).history (g.W.Wire.state c.turn.new.wire).history (c.loop-taken._taken + 1) (c.args.every - 1) c.args.disk.now
+        w.mark_behind.new.disk c.args.store.now w.look.new.store counts) (sym w.after-counts.ensures)
+        (on_along c.args.every g.M.Persistent.body_of g.M.Persistent.steps g.M.Persistent.noted g.D.Disk.contents g.D.Disk.may_leave g.D.Disk.moment
+        g.D.Disk.left_since g.D.Disk.marked
+        (AlsoMarks c.args.every g.M.Persistent.body_of g.M.Persistent.steps g.M.Persistent.noted g.D.Disk.contents g.D.Disk.may_leave g.D.Disk.moment
+        g.D.Disk.left_since g.D.Disk.marked (g.W.Wire.state c.args.wire.now).history c.args.disk.now w.mark_behind.new.disk c.args.store.now
+        (counted w.look.result c.loop-taken.counts))
+        (g.M.Persistent.serves c.args.served.now) (g.M.Persistent.serves c.turn.new.self) (g.W.Wire.state c.args.wire.now).history
+        (g.W.Wire.state c.turn.new.wire).history (c.loop-taken._taken + 1)
         (c.args.every - 1) c.args.disk.now w.look.new.disk w.mark_behind.new.disk c.args.store.now w.look.new.store (counted w.look.result c.loop-taken.counts)
         g.met.D.Disk.counts_now
-        (on_looked c.args.every g.M.Persistent.body_of g.M.Persistent.steps g.M.Persistent.noted g.D.Disk.contents g.D.Disk.may_leave g.D.Disk.moment g.D.Disk.left_since
-        (AlsoMarks c.args.every g.M.Persistent.body_of g.M.Persistent.steps g.M.Persistent.noted g.D.Disk.contents g.D.Disk.may_leave g.D.Disk.moment g.D.Disk.left_since g.D.Disk.marked (g.W.Wire.state c.args.wire.now).history c.args.disk.now c.loop-taken.disk c.args.store.now c.loop-taken.counts) (AlsoMarks c.args.every g.M.Persistent.body_of g.M.Persistent.steps g.M.Persistent.noted g.D.Disk.contents g.D.Disk.may_leave g.D.Disk.moment g.D.Disk.left_since g.D.Disk.marked (g.W.Wire.state c.args.wire.now).history c.args.disk.now w.mark_behind.new.disk c.args.store.now (counted w.look.result c.loop-taken.counts)) w.look.result (g.M.Persistent.serves c.args.served.now) (g.M.Persistent.serves c.loop-taken.served) (g.M.Persistent.serves c.turn.new.self) (g.W.Wire.state c.args.wire.now).history (g.W.Wire.state c.loop-taken.wire).history (g.W.Wire.state c.turn.new.wire).history c.loop-taken._taken c.loop-taken.left c.args.disk.now c.loop-taken.disk w.look.new.disk c.args.store.now c.loop-taken.store w.look.new.store c.loop-taken.counts (omega (arith, w.if-left-gt0.false)) g.met.D.Disk.leaves_contents g.met.D.Disk.counts_now
-        (marks_looked c.args.every g.M.Persistent.body_of g.M.Persistent.steps g.M.Persistent.noted g.D.Disk.contents g.D.Disk.may_leave g.D.Disk.moment g.D.Disk.left_since g.D.Disk.marked w.look.result (g.W.Wire.state c.args.wire.now).history (g.W.Wire.state c.turn.new.wire).history c.loop-taken.left c.args.disk.now
-        c.loop-taken.disk w.look.new.disk w.mark_behind.new.disk c.args.store.now w.look.new.store c.loop-taken.counts (omega (arith, w.if-left-gt0.false)) w.look.ensures.ready
+        (on_looked c.args.every g.M.Persistent.body_of g.M.Persistent.steps g.M.Persistent.noted g.D.Disk.contents g.D.Disk.may_leave g.D.Disk.moment
+        g.D.Disk.left_since
+        (AlsoMarks c.args.every g.M.Persistent.body_of g.M.Persistent.steps g.M.Persistent.noted g.D.Disk.contents g.D.Disk.may_leave g.D.Disk.moment
+        g.D.Disk.left_since g.D.Disk.marked (g.W.Wire.state c.args.wire.now).history c.args.disk.now c.loop-taken.disk c.args.store.now
+        c.loop-taken.counts) (AlsoMarks c.args.every g.M.Persistent.body_of g.M.Persistent.steps g.M.Persistent.noted g.D.Disk.contents g.D.Disk.may_leave
+        g.D.Disk.moment g.D.Disk.left_since g.D.Disk.marked (g.W.Wire.state c.args.wire.now).history c.args.disk.now w.mark_behind.new.disk
+        c.args.store.now (counted w.look.result c.loop-taken.counts)) w.look.result (g.M.Persistent.serves c.args.served.now)
+        (g.M.Persistent.serves c.loop-taken.served) (g.M.Persistent.serves c.turn.new.self) (g.W.Wire.state c.args.wire.now).history
+        (g.W.Wire.state c.loop-taken.wire).history (g.W.Wire.state c.turn.new.wire).history c.loop-taken._taken c.loop-taken.left c.args.disk.now
+        c.loop-taken.disk w.look.new.disk c.args.store.now c.loop-taken.store w.look.new.store c.loop-taken.counts (omega (arith, w.if-left-gt0.false))
+        g.met.D.Disk.leaves_contents g.met.D.Disk.counts_now
+        (marks_looked c.args.every g.M.Persistent.body_of g.M.Persistent.steps g.M.Persistent.noted g.D.Disk.contents g.D.Disk.may_leave g.D.Disk.moment
+        g.D.Disk.left_since g.D.Disk.marked w.look.result (g.W.Wire.state c.args.wire.now).history (g.W.Wire.state c.turn.new.wire).history
+        c.loop-taken.left c.args.disk.now
+        c.loop-taken.disk w.look.new.disk w.mark_behind.new.disk c.args.store.now w.look.new.store c.loop-taken.counts (omega (arith, w.if-left-gt0.false))
+        w.look.ensures.ready
         (λ marks told. w.mark_behind.ensures.marks marks (w.look.ensures.marks marks told)))
         c.loop-taken.invariant.so_far w.in-Tick-2.ensures.turn w.look.ensures.looked) w.mark_behind.ensures.passes);
     ready = ready_quiet g.D.Disk.contents g.D.Disk.may_leave g.D.Disk.moment g.D.Disk.left_since g.met.D.Disk.counts_now w.look.new.disk w.mark_behind.new.disk
         w.look.new.store w.look.ensures.ready w.mark_behind.ensures.passes;
-    few = subst (λ counts. AreFew counts (c.loop-taken._taken + 1)) (sym w.after-counts.ensures) (few_more w.look.result c.loop-taken.counts c.loop-taken._taken c.loop-taken.invariant.few);
+    few = subst (λ counts. AreFew counts (c.loop-taken._taken + 1)) (sym w.after-counts.ensures)
+        (few_more w.look.result c.loop-taken.counts c.loop-taken._taken c.loop-taken.invariant.few);
     failed = λ more.
         let rose = rose_so_far (g.D.Disk.fault_count c.args.disk.now) (g.D.Disk.fault_count c.loop-taken.disk) (g.D.Disk.fault_count w.look.new.disk)
         c.loop-taken.counts.failed c.loop-taken.invariant.later w.look.ensures.later c.loop-taken.invariant.failed
-        (failed_rose w.look.result c.loop-taken.counts _ w.look.ensures.failed (subst (λ (counts : SaveCounts). 0 < counts.failed) w.after-counts.ensures more)) in
+        (failed_rose w.look.result c.loop-taken.counts _ w.look.ensures.failed
+        (subst (λ (counts : SaveCounts). 0 < counts.failed) w.after-counts.ensures more)) in
         let later = w.mark_behind.ensures.later in
         omega (arith, rose, later);
     untold = λ e. w.mark_behind.ensures.passes.same ∙ w.look.ensures.untold (c.loop-taken.invariant.untold e);
@@ -248,9 +332,18 @@ loop-taken-preserved g c = elim c.match-turn.branch [
     wanted = le_trans c.loop-taken.invariant.wanted c.turn.ensures.wanted;
   }
   | in-Other w ↦ rw (w.store-is, w.disk-is, w.counts-is, w.left-is) record {
-    so_far = on_other c.args.every g.M.Persistent.body_of g.M.Persistent.steps g.M.Persistent.noted g.D.Disk.contents g.D.Disk.may_leave g.D.Disk.moment g.D.Disk.left_since
-        (AlsoMarks c.args.every g.M.Persistent.body_of g.M.Persistent.steps g.M.Persistent.noted g.D.Disk.contents g.D.Disk.may_leave g.D.Disk.moment g.D.Disk.left_since g.D.Disk.marked (g.W.Wire.state c.args.wire.now).history c.args.disk.now c.loop-taken.disk c.args.store.now c.loop-taken.counts) (AlsoMarks c.args.every g.M.Persistent.body_of g.M.Persistent.steps g.M.Persistent.noted g.D.Disk.contents g.D.Disk.may_leave g.D.Disk.moment g.D.Disk.left_since g.D.Disk.marked (g.W.Wire.state c.args.wire.now).history c.args.disk.now c.loop-taken.disk c.args.store.now c.loop-taken.counts) (g.M.Persistent.serves c.args.served.now) (g.M.Persistent.serves c.loop-taken.served) (g.M.Persistent.serves c.turn.new.self) (g.W.Wire.state c.args.wire.now).history (g.W.Wire.state c.loop-taken.wire).history (g.W.Wire.state c.turn.new.wire).history c.loop-taken._taken c.loop-taken.left c.args.disk.now c.loop-taken.disk c.args.store.now c.loop-taken.store c.loop-taken.counts
-        (marks_other c.args.every g.M.Persistent.body_of g.M.Persistent.steps g.M.Persistent.noted g.D.Disk.contents g.D.Disk.may_leave g.D.Disk.moment g.D.Disk.left_since g.D.Disk.marked (g.W.Wire.state c.args.wire.now).history (g.W.Wire.state c.turn.new.wire).history c.loop-taken.left c.args.disk.now c.loop-taken.disk
+    so_far = on_other c.args.every g.M.Persistent.body_of g.M.Persistent.steps g.M.Persistent.noted g.D.Disk.contents g.D.Disk.may_leave g.D.Disk.moment
+        g.D.Disk.left_since
+        (AlsoMarks c.args.every g.M.Persistent.body_of g.M.Persistent.steps g.M.Persistent.noted g.D.Disk.contents g.D.Disk.may_leave g.D.Disk.moment
+        g.D.Disk.left_since g.D.Disk.marked (g.W.Wire.state c.args.wire.now).history c.args.disk.now c.loop-taken.disk c.args.store.now
+        c.loop-taken.counts) (AlsoMarks c.args.every g.M.Persistent.body_of g.M.Persistent.steps g.M.Persistent.noted g.D.Disk.contents g.D.Disk.may_leave
+        g.D.Disk.moment g.D.Disk.left_since g.D.Disk.marked (g.W.Wire.state c.args.wire.now).history c.args.disk.now c.loop-taken.disk c.args.store.now
+        c.loop-taken.counts) (g.M.Persistent.serves c.args.served.now) (g.M.Persistent.serves c.loop-taken.served) (g.M.Persistent.serves c.turn.new.self)
+        (g.W.Wire.state c.args.wire.now).history (g.W.Wire.state c.loop-taken.wire).history (g.W.Wire.state c.turn.new.wire).history c.loop-taken._taken
+        c.loop-taken.left c.args.disk.now c.loop-taken.disk c.args.store.now c.loop-taken.store c.loop-taken.counts
+        (marks_other c.args.every g.M.Persistent.body_of g.M.Persistent.steps g.M.Persistent.noted g.D.Disk.contents g.D.Disk.may_leave g.D.Disk.moment
+        g.D.Disk.left_since g.D.Disk.marked (g.W.Wire.state c.args.wire.now).history (g.W.Wire.state c.turn.new.wire).history c.loop-taken.left
+        c.args.disk.now c.loop-taken.disk
         c.args.store.now c.loop-taken.store c.loop-taken.counts) c.loop-taken.invariant.so_far w.in-Other.ensures.turn;
     ready = c.loop-taken.invariant.ready;
     few = few_within c.loop-taken.counts c.loop-taken._taken _ (omega arith) c.loop-taken.invariant.few;

@@ -11,9 +11,11 @@ use Rattle.keep_loop.proofs.keeping_on.keep_looks.Given as goal
 abbrev pub invariant-loop-taken : goal.invariant-loop-taken
 invariant-loop-taken g l = record {
   so_far : ServesOnSoFar (MarksOf l.every g.M.Persistent.body_of g.M.Persistent.steps g.D.Disk.marked (g.W.Wire.state l.initial.wire).history
-      (HoldsWhole l.counts (g.D.Disk.contents l.initial.disk) l.initial.store.standing) l.initial.disk l.disk) l.every g.M.Persistent.body_of g.M.Persistent.steps g.M.Persistent.noted
+      (HoldsWhole l.counts (g.D.Disk.contents l.initial.disk) l.initial.store.standing) l.initial.disk l.disk) l.every g.M.Persistent.body_of
+      g.M.Persistent.steps g.M.Persistent.noted
       g.D.Disk.contents g.D.Disk.may_leave g.D.Disk.moment g.D.Disk.left_since
-      (g.M.Persistent.serves l.initial.served) (g.M.Persistent.serves l.served) (g.W.Wire.state l.initial.wire).history (g.W.Wire.state l.wire).history l._taken l.left
+      (g.M.Persistent.serves l.initial.served) (g.M.Persistent.serves l.served) (g.W.Wire.state l.initial.wire).history (g.W.Wire.state l.wire).history
+      l._taken l.left
       l.initial.disk l.disk l.initial.store l.store l.counts;
   ready : IsReady g.D.Disk.contents g.D.Disk.may_leave l.disk l.store;
   few : AreFew l.counts l._taken;

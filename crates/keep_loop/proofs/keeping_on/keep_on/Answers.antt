@@ -18,7 +18,8 @@ pub returns-clause-marks : goal.returns-clause-marks
 returns-clause-marks g c = λ x over marks told.
     marked_end c.args.every g.M.Persistent.body_of g.M.Persistent.steps x.running.state
     (HoldsWhole c.keep_looks-kept.result.counts (g.D.Disk.contents c.args.disk.now) c.args.store.now.standing) g.D.Disk.marked c.keep_looks-kept.new.disk
-    c.mark_end.new.disk marks (comes_to_end c.keep_looks-kept.result.ended) (g.D.Disk.contents c.keep_looks-kept.new.disk) (g.W.Wire.state c.args.wire.now).history (g.W.Wire.state c.keep_looks-kept.new.wire).history
+    c.mark_end.new.disk marks (comes_to_end c.keep_looks-kept.result.ended) (g.D.Disk.contents c.keep_looks-kept.new.disk)
+    (g.W.Wire.state c.args.wire.now).history (g.W.Wire.state c.keep_looks-kept.new.wire).history
     (rw c.comes_to_end.ensures at c.mark_end.ensures.marks) (c.keep_looks-kept.ensures.marks x over marks told)
 
 pub returns-clause-untold : goal.returns-clause-untold

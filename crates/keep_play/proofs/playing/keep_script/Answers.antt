@@ -1,7 +1,8 @@
 -- The turns so far begin the script's play, so the saves so far begin those of the play.
 use Rattle.std.proofs.Common.{inr}
 use Rattle.persist_store.specs.Store.{body_of}
-use Rattle.keep_play.proofs.ScriptLemmas.{is_wire_of, some_over, done_whole, done_left, stop_left, stop_over, over_unused, script_marked, never_fails, never_spent, left_none}
+use Rattle.keep_play.proofs.ScriptLemmas.{is_wire_of, some_over, done_whole, done_left, stop_left, stop_over, over_unused, script_marked, never_fails}
+use Rattle.keep_play.proofs.ScriptLemmas.{never_spent, left_none}
 use Rattle.keep_play.proofs.playing.keep_script.Goals as goal
 
 pub keep_turns-ended-requires-clause-some : goal.keep_turns-ended-requires-clause-some
@@ -40,7 +41,8 @@ returns-in-Done-clause-ends g c = λ x stands unused.
     c.in-Done.ensures.keeps x stands unused
     (λ play marks told. script_marked g.M.Persistent.body_of g.M.Persistent.steps x.running.state c.args.script c.new-wire.result
     c.keep_turns-ended.new.wire c.into_log-log.result (g.D.Disk.contents c.args.disk.now) c.args.store.now.standing
-    (g.D.Disk.marked c.keep_turns-ended.new.disk) marks wire play (c.in-Done.ensures.marks x (over_unused (g.M.Persistent.serves c.args.served.now) _ x stands unused) marks told))
+    (g.D.Disk.marked c.keep_turns-ended.new.disk) marks wire play (c.in-Done.ensures.marks x
+    (over_unused (g.M.Persistent.serves c.args.served.now) _ x stands unused) marks told))
 
 pub returns-in-Done-clause-left : goal.returns-in-Done-clause-left
 returns-in-Done-clause-left g c = λ x stands unused.
@@ -61,7 +63,8 @@ returns-in-StoreFault-clause-left g c = λ x stands unused.
     stop_left g.M.Persistent.body_of g.M.Persistent.steps g.M.Persistent.noted g.D.Disk.contents g.D.Disk.may_leave g.D.Disk.moment
     g.D.Disk.left_since (g.M.Persistent.serves c.args.served.now) c.args.script c.new-wire.result c.keep_turns-ended.new.wire c.into_log-log.result
     (body_of c.args.store.now) c.in-Some.limit c.args.store.now.standing c.args.disk.now c.keep_turns-ended.new.disk
-    c.in-StoreFault.ensures.keeps.saves wire c.in-Some.ensures.one_more (inr c.in-StoreFault.ensures.keeps.took) c.in-StoreFault.ensures.keeps.left x stands unused
+    c.in-StoreFault.ensures.keeps.saves wire c.in-Some.ensures.one_more (inr c.in-StoreFault.ensures.keeps.took) c.in-StoreFault.ensures.keeps.left x stands
+    unused
 
 pub returns-in-StoreLimit-clause-left : goal.returns-in-StoreLimit-clause-left
 returns-in-StoreLimit-clause-left g c = λ x stands unused.
@@ -71,7 +74,8 @@ returns-in-StoreLimit-clause-left g c = λ x stands unused.
     stop_left g.M.Persistent.body_of g.M.Persistent.steps g.M.Persistent.noted g.D.Disk.contents g.D.Disk.may_leave g.D.Disk.moment
     g.D.Disk.left_since (g.M.Persistent.serves c.args.served.now) c.args.script c.new-wire.result c.keep_turns-ended.new.wire c.into_log-log.result
     (body_of c.args.store.now) c.in-Some.limit c.args.store.now.standing c.args.disk.now c.keep_turns-ended.new.disk
-    c.in-StoreLimit.ensures.keeps.saves wire c.in-Some.ensures.one_more (inr c.in-StoreLimit.ensures.keeps.took) c.in-StoreLimit.ensures.keeps.left x stands unused
+    c.in-StoreLimit.ensures.keeps.saves wire c.in-Some.ensures.one_more (inr c.in-StoreLimit.ensures.keeps.took) c.in-StoreLimit.ensures.keeps.left x stands
+    unused
 
 pub returns-in-StoreLimit-clause-ends : goal.returns-in-StoreLimit-clause-ends
 returns-in-StoreLimit-clause-ends g c = λ x stands unused.

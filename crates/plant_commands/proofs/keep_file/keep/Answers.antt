@@ -30,7 +30,8 @@ returns-in-Err-clause-reads g c =
 pub returns-in-Ok-Err-clause-ends : goal.returns-in-Ok-Err-clause-ends
 returns-in-Ok-Err-clause-ends g c =
     let waves = g.G.Sources.waves c.args.signals in
-    let disk = disk_used g.D.Disk.contents g.D.Disk.may_leave g.D.Disk.moment g.D.Disk.left_since g.D.Disk.marked g.D.Disk.fault_count c.args.disk.now c.args.disk.now in
+    let disk = disk_used g.D.Disk.contents g.D.Disk.may_leave g.D.Disk.moment g.D.Disk.left_since g.D.Disk.marked g.D.Disk.fault_count c.args.disk.now
+    c.args.disk.now in
     ends_as_decided Keeps (λ x. EndsKeeping x c.print_outcome.result (g.S.Sink.state c.args.out.now) (g.S.Sink.state c.print_outcome.new.out) disk) (Unit {0})
     (g.F.Files.state c.args.files.now).held (verdict_of_both (length waves) (over_store waves) c.args.description.now c.args.script.now)
     (Rose (g.F.Files.state c.args.files.now).faults (g.F.Files.state c.read_both.new.files).faults) c.in-Ok-Err.told c.print_outcome.result
@@ -47,7 +48,8 @@ pub returns-in-Ok-Ok-clause-ends : goal.returns-in-Ok-Ok-clause-ends
 returns-in-Ok-Ok-clause-ends g c =
     let waves = g.G.Sources.waves c.args.signals in
     let both = c.in-Ok-Ok.both in
-    let disk = disk_used g.D.Disk.contents g.D.Disk.may_leave g.D.Disk.moment g.D.Disk.left_since g.D.Disk.marked g.D.Disk.fault_count c.args.disk.now c.keep_both.new.disk in
+    let disk = disk_used g.D.Disk.contents g.D.Disk.may_leave g.D.Disk.moment g.D.Disk.left_since g.D.Disk.marked g.D.Disk.fault_count c.args.disk.now
+    c.keep_both.new.disk in
     ends_run Keeps (λ x. EndsKeeping x c.keep_both.result (g.S.Sink.state c.args.out.now) (g.S.Sink.state c.keep_both.new.out) disk) (Unit {0})
     (g.F.Files.state c.args.files.now).held (verdict_of_both (length waves) (over_store waves) c.args.description.now c.args.script.now)
     (keeping (description_of both.description) waves both.script)

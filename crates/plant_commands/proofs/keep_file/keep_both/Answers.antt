@@ -8,7 +8,8 @@ pub returns-clause-ends : goal.returns-clause-ends
 returns-clause-ends g c =
     kept_printed (description_of c.args.both.description) (g.G.Sources.waves c.args.signals) c.args.both.script c.keep_play-played.result c.print_kept.result
     (g.S.Sink.state c.args.out.now) (g.S.Sink.state c.print_kept.new.out)
-    (disk_used g.D.Disk.contents g.D.Disk.may_leave g.D.Disk.moment g.D.Disk.left_since g.D.Disk.marked g.D.Disk.fault_count c.args.disk.now c.keep_play-played.new.disk)
+    (disk_used g.D.Disk.contents g.D.Disk.may_leave g.D.Disk.moment g.D.Disk.left_since g.D.Disk.marked g.D.Disk.fault_count c.args.disk.now
+    c.keep_play-played.new.disk)
     c.keep_play-played.ensures.plays c.print_kept.ensures.prints
 
 pub returns-clause-opens : goal.returns-clause-opens

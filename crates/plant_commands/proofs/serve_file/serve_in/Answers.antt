@@ -87,7 +87,8 @@ returns-clause-ends g c =
     (started_with listen c.as_str.result.now name c.as_str-in-Ok.result.now read.bytes c.as_slice.result.now c.as_str.ensures c.as_str-in-Ok.ensures
     c.as_slice.ensures)
     (c.start_machine.ensures.ends (at_start_in profile d waves)
-    (core_anew c.in-Ok.core profile d waves (stands_at_start c.in-Ok.core profile d waves c.in-Ok.ensures.serves c.in-Ok.ensures.counted c.in-Ok.ensures.notes)))))
+    (core_anew c.in-Ok.core profile d waves (stands_at_start c.in-Ok.core profile d waves c.in-Ok.ensures.serves c.in-Ok.ensures.counted
+    c.in-Ok.ensures.notes)))))
 
 pub returns-in-Err-build_in-clause-reads : goal.returns-in-Err-build_in-clause-reads
 returns-in-Err-build_in-clause-reads g c = reads_one c.end_without_memory-in-Err-build_in.result _ _ c.args.description.now c.in-Ok-Ok.ensures.reads

@@ -14,7 +14,8 @@ returns-clause-ok g c = λ form s adds stands.
     cc (c.get32-group.ensures, c.get32-offset.ensures, c.get32-len.ensures, c.get32-mode.ensures, c.get32-delay.ensures, c.get32-cycle.ensures) in
     let ends = addition-ends r (g.P.PartService.given s r) c.in_ok-answer.answer c.args.at c.args.out.now _ (c.in_ok-answer.ensures.gives s stands)
     c.tell_handle.ensures.fits c.tell_handle.ensures.written form adds in
-    subst (λ x. Runs g.P.PartService.stands_for g.P.PartService.given g.P.PartService.left form x s c.add.new.self c.args.at c.args.out.now c.tell_handle.new.out) same
+    subst (λ x. Runs g.P.PartService.stands_for g.P.PartService.given g.P.PartService.left form x s c.add.new.self c.args.at c.args.out.now
+    c.tell_handle.new.out) same
     (record {
       state = c.in_ok-answer.ensures.leaves s stands;
       bytes = ends.bytes;

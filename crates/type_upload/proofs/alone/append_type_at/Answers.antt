@@ -12,6 +12,7 @@ returns-clause-ok c =
     let t = named_type_of c.index-as_slice-place.result in
     let got : slice_get types c.args.place ≡ Some t =
     rw c.as_slice.ensures at
-    (read_at named_type_of c.as_slice.result.now c.args.place c.index-as_slice-place.result (rw c.as_slice.ensures c.requires.there) c.index-as_slice-place.is) in
+    (read_at named_type_of c.as_slice.result.now c.args.place c.index-as_slice-place.result (rw c.as_slice.ensures c.requires.there)
+    c.index-as_slice-place.is) in
     let stands = stands_at types c.args.place t c.requires.types got in
     rw stands.tree c.in_ok-append_type.ensures.ok

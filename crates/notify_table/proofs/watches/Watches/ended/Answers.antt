@@ -19,7 +19,8 @@ told-requires c =
     ∙ handles_sorted (is_ended c.args.m.now c.args.ports.now) ws c.self.inside.granted c.sort_unstable.new.self.items c.self.invariant
     (rw (← c.in_ok-handles.ensures) c.sort_unstable.ensures.permutation)
     (IsNonDecreasingBy-from_sort (λ x. x) c.sort_unstable.new.self.items c.sort_unstable.ensures.sorted) in
-    let live = All-filter (is_ended c.args.m.now c.args.ports.now) (λ (w : Watch Watched). watch_of_handle w.handle (table_from ws c.self.inside.granted) ≡ Some w) listed
+    let live = All-filter (is_ended c.args.m.now c.args.ports.now) (λ (w : Watch Watched). watch_of_handle w.handle (table_from ws c.self.inside.granted)
+    ≡ Some w) listed
     (live_listed ws c.self.inside.granted c.self.invariant) in
     subst (All (IsLive c.args.self.now)) (sym order)
     (rw (← c.self.view_is) (all_live (table_from ws c.self.inside.granted) (filter (is_ended c.args.m.now c.args.ports.now) listed) live))
@@ -35,9 +36,11 @@ returns c =
     ∙ handles_sorted (is_ended c.args.m.now c.args.ports.now) ws c.self.inside.granted c.sort_unstable.new.self.items c.self.invariant
     (rw (← c.in_ok-handles.ensures) c.sort_unstable.ensures.permutation)
     (IsNonDecreasingBy-from_sort (λ x. x) c.sort_unstable.new.self.items c.sort_unstable.ensures.sorted) in
-    let live = All-filter (is_ended c.args.m.now c.args.ports.now) (λ (w : Watch Watched). watch_of_handle w.handle (table_from ws c.self.inside.granted) ≡ Some w) listed
+    let live = All-filter (is_ended c.args.m.now c.args.ports.now) (λ (w : Watch Watched). watch_of_handle w.handle (table_from ws c.self.inside.granted)
+    ≡ Some w) listed
     (live_listed ws c.self.inside.granted c.self.invariant) in
-    let told : map (end_of_handle c.args.self.now) c.deref.result.now ≡ map end_of (ended_watches (watched_after c.args.m.now c.args.ports.now) c.args.self.now.watches) =
+    let told : map (end_of_handle c.args.self.now) c.deref.result.now ≡ map end_of
+    (ended_watches (watched_after c.args.m.now c.args.ports.now) c.args.self.now.watches) =
     ap (map (end_of_handle c.args.self.now)) order
     ∙ rw (← c.self.view_is) (told_list (table_from ws c.self.inside.granted) (filter (is_ended c.args.m.now c.args.ports.now) listed) live) in
     subst (λ (l : List EndedWatch). IfOk c.told.result (λ ended. map ended_meant ended ≡ l)) told c.told.ensures
