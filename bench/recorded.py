@@ -1,7 +1,8 @@
 #!/usr/bin/env python3
-"""`ads record` for real: over SQLite files, with a server on the other end of a socket, killed in its middle, and over stores that are none.
+"""`ads record` for real: over SQLite files, with a server on the other end of a socket, killed in its middle, and over stores that are none; with --history N
+also tools/history.py, killed N times over one file.
 
-    python3 bench/recorded.py PROGRAM [--times 100] [--puts 2000] [--seed 1]
+    python3 bench/recorded.py PROGRAM [--times 100] [--history N] [--puts 2000] [--seed 1]
 
 PROGRAM is crates/ads/out/ads. A line a scene, `ok` or what differed; status 1 where one did. What is read back is read by Python's sqlite3, not by the program. The last lines say
 what a put cost: processor time of the program, and how many a second the disk of the working folder and memory (/dev/shm) gave; of samples that come one at a time, each with a sync,
@@ -27,7 +28,9 @@ from connecting import DATA, Server, read_write  # noqa: E402,F401
 ROOT = pathlib.Path(__file__).resolve().parent.parent
 sys.path.insert(0, str(ROOT / "tools"))
 from lib.frames import ADD, DELETE, NOTE, REQUEST, Frame  # noqa: E402
+from tries import of_history  # noqa: E402
 from tries.fake_server import Fake, data, reply, symbol  # noqa: E402
+from tries.running import Wrong  # noqa: E402
 
 PLANT = ROOT / "examples/plant.toml"
 ME = ["--me", "192.168.0.9.1.1"]
@@ -239,6 +242,11 @@ def killed(program, folder, r, times):
     return f"ok, {cut} of {times} killed, {stood} rows in the end"
 
 
+def history_killed(folder, times):
+    _, samples, gaps = of_history.killed(str(folder), times + 1)
+    return f"ok, {times} times; {samples} samples, each once, and {gaps} gaps"
+
+
 def cost(program, folder, puts):
     for what, place in (("/dev/shm", pathlib.Path("/dev/shm")), ("the disk", folder)):
         with tempfile.TemporaryDirectory(dir=place) as there:
@@ -260,17 +268,20 @@ def main():
     given = argparse.ArgumentParser()
     given.add_argument("program")
     given.add_argument("--times", type=int, default=100)
+    given.add_argument("--history", type=int, default=0)
     given.add_argument("--puts", type=int, default=2000)
     given.add_argument("--seed", type=int, default=1)
     given = given.parse_args()
     program, r, bad = os.path.abspath(given.program), random.Random(given.seed), False
     scenes = [("twice", twice), ("over a socket", over_a_socket), ("a burst", burst), ("no stores", no_stores), ("a full disk", full),
               ("killed", lambda *some: killed(*some, given.times)), ("killed in bursts", lambda *some: killed_in_bursts(*some, given.times))]
+    if given.history:
+        scenes.append(("history killed", lambda _, folder, chance: history_killed(folder, given.history)))
     for name, scene in scenes:
         with tempfile.TemporaryDirectory() as folder:
             try:
                 print(f"{name}: {scene(program, pathlib.Path(folder), r) or 'ok'}", flush=True)
-            except (Differs, subprocess.TimeoutExpired, sqlite3.Error) as why:
+            except (Differs, Wrong, subprocess.TimeoutExpired, sqlite3.Error) as why:
                 print(f"{name}: {why}", flush=True)
                 bad = True
     with tempfile.TemporaryDirectory(dir=".") as folder:
