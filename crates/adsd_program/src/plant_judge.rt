@@ -1,7 +1,7 @@
 //! The judge of descriptions: the reader by which the server reads them.
 
 use crate::before_copy::copy_before;
-use crate::kept_body::first_body;
+use crate::kept_body::{first_body, standing_body};
 use ads_base::{ListOf, NetId, NoMemory, Octets};
 use cli_words::Text;
 use daemon_entries::unfit_names;
@@ -10,15 +10,13 @@ use std::alloc::Global;
 use symbol_file::read;
 use type_layout::{Description, RouteDesc};
 
-/// Judges by the reader, for so many signals, and by what stood in the store at the start.
+/// Judges by the reader, for so many signals, and by what stands in the store.
 #[derive(Drop)]
 pub struct PlantJudge {
     pub rt: HostRuntime,
     pub signals: u32,
     /// The store's file.
     pub store: Option<Text>,
-    /// The body that stood in it.
-    pub body: Octets,
     /// Machines without a route may connect too.
     pub lets_others_in: bool,
 }
@@ -35,10 +33,10 @@ impl Judge for PlantJudge {
         self.lets_others_in
     }
 
-    fn unfit(&self, alloc: Global, bytes: &[u8]) -> ListOf<Octets> {
-        match unfit_in(alloc, self.body.as_slice(), bytes, self.signals) {
-            Ok(names) => names,
-            Err(NoMemory) => ListOf::new(alloc),
+    fn unfit(&self, alloc: Global, bytes: &[u8]) -> Option<ListOf<Octets>> {
+        match &self.store {
+            Some(store) => unfit_in(&self.rt, store.as_str(), bytes, self.signals),
+            None => Some(ListOf::new(alloc)),
         }
     }
 
@@ -66,18 +64,30 @@ fn listed(alloc: Global, routes: &[RouteDesc]) -> Result<ListOf<NetId>, NoMemory
     Ok(nets)
 }
 
-// The entries of a body that fit nothing of a description.
-fn unfit_in(
+// The entries of a store that fit nothing of a description; None where that is not known.
+fn unfit_in(rt: &HostRuntime, store: &str, text: &[u8], signals: u32) -> Option<ListOf<Octets>> {
+    match standing_body(rt, store) {
+        Ok(Some(body)) => match unfit_of(rt.alloc(), body.as_slice(), text, signals) {
+            Ok(names) => names,
+            Err(NoMemory) => None,
+        },
+        Ok(None) | Err(NoMemory) => None,
+    }
+}
+
+// The entries of a body that fit nothing of a description; None where the text is none that is accepted, as where there was no
+// memory to keep it.
+fn unfit_of(
     alloc: Global,
     body: &[u8],
     text: &[u8],
     signals: u32,
-) -> Result<ListOf<Octets>, NoMemory> {
+) -> Result<Option<ListOf<Octets>>, NoMemory> {
     if body.is_empty() {
-        return Ok(ListOf::new(alloc));
+        return Ok(Some(ListOf::new(alloc)));
     }
     match first_body(alloc, text, signals)? {
-        Some(served) => unfit_names(alloc, body, served.as_slice()),
-        None => Ok(ListOf::new(alloc)),
+        Some(served) => Ok(Some(unfit_names(alloc, body, served.as_slice())?)),
+        None => Ok(None),
     }
 }

@@ -10,7 +10,7 @@ use crate::plant_judge::PlantJudge;
 use crate::read_before::ReadBefore;
 use crate::real_names::RealNames;
 use crate::real_outlet::RealOutlet;
-use ads_base::{ListOf, NetId, NoMemory, Octets};
+use ads_base::{ListOf, NetId, NoMemory};
 use ads_edge::{AllowedNet, RealFiles, RealWire, given_doors};
 use ads_outside::Sink;
 use cli_words::Text;
@@ -185,7 +185,7 @@ fn watched_of(
     board: &Noticeboard,
 ) -> Result<RealWatched, NoMemory> {
     let mut stop = SignalStop::new(rt.alloc(), *rt, copy_of_name(rt, &setup.stop_file)?)?;
-    let mut log = log_of(rt, setup, body, board)?;
+    let mut log = log_of(rt, setup, board)?;
     if !stop.is_terminate_blocked() {
         log.warn("stop: SIGTERM is not blocked, it ends the process at once");
     }
@@ -271,18 +271,12 @@ fn serve_signals<T: Threads + Sync, S: Sink>(
     ))
 }
 
-// The log, with the body that stands in the store.
-fn log_of(
-    rt: &HostRuntime,
-    setup: &Setup,
-    body: &[u8],
-    board: &Noticeboard,
-) -> Result<RealLog, NoMemory> {
+// The log, with what judges descriptions for it.
+fn log_of(rt: &HostRuntime, setup: &Setup, board: &Noticeboard) -> Result<RealLog, NoMemory> {
     let judge = PlantJudge {
         rt: *rt,
         signals: setup.signals.len() as u32,
         store: copy_of_name(rt, &setup.store)?,
-        body: Octets::copy_of(rt.alloc(), body)?,
         lets_others_in: setup.others.is_some(),
     };
     let file = StatusFile::new(rt.alloc(), *rt, &setup.status)?;

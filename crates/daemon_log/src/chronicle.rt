@@ -133,8 +133,24 @@ impl<N: Drop, J: Judge + Drop, L: LogOutlet + Drop, B: Beacon + Drop, F: Beacon 
             return;
         }
         self.name_unfit(names);
+        self.copy_store();
+    }
+
+    // The store is copied, which is told.
+    fn copy_store(&mut self) {
         if let Some(text) = plant_lines::copy_text(self.judge.copy_store()) {
             self.put(Level::Warning, text);
+        }
+    }
+
+    // What in the store fits nothing of the plant that is served from here on. Where that is not known, it is copied as well.
+    fn look_at_store(&mut self) {
+        match self.judge.unfit(self.alloc, self.plant.text()) {
+            Some(names) => self.unfit(names.as_slice()),
+            None => {
+                self.put(Level::Warning, plant_lines::UNKNOWN);
+                self.copy_store();
+            }
         }
     }
 
@@ -204,8 +220,7 @@ impl<N: Drop, J: Judge + Drop, L: LogOutlet + Drop, B: Beacon + Drop, F: Beacon 
                 self.counts.reloads = self.counts.reloads.saturating_add(1);
                 self.put_made(Level::Info, text);
                 self.plant.accept(self.alloc);
-                let names = self.judge.unfit(self.alloc, self.plant.text());
-                self.unfit(names.as_slice());
+                self.look_at_store();
             }
             Reloaded::Syntax | Reloaded::Breaks(_, _) => {
                 self.counts.refusals = self.counts.refusals.saturating_add(1);

@@ -26,9 +26,10 @@ pub trait Judge {
         false
     }
 
-    /// The names of the entries in the store that fit no persistent symbol of it, so that the next save leaves them out.
-    fn unfit(&self, alloc: Global, _bytes: &[u8]) -> ListOf<Octets> {
-        ListOf::new(alloc)
+    /// The names of the entries in the store that fit no persistent symbol of it, so that the next save leaves them out; None
+    /// where that is not known, since memory was wanting or the disk failed.
+    fn unfit(&self, alloc: Global, _bytes: &[u8]) -> Option<ListOf<Octets>> {
+        Some(ListOf::new(alloc))
     }
 
     /// Copies the store's file beside it, once, since the next save leaves out entries.

@@ -54,6 +54,10 @@ pub(crate) fn more_unfit_line(alloc: Global, entries: u64) -> Result<String, All
     format!(in alloc; "store: {entries} more entries fit no persistent symbol")
 }
 
+/// What is told where the entries of the store can't be held beside a new description.
+pub(crate) const UNKNOWN: &str =
+    "store: out of memory or the disk failed, so which entries fit the description is not known";
+
 /// What came of a copy of the store's file, where there is something to tell.
 pub(crate) fn copy_text(copy: StoreCopy) -> Option<&'static str> {
     match copy {
