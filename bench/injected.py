@@ -409,14 +409,15 @@ class Record:
         return it, it.communicate(timeout=60)[0].decode()
 
     def rows_in(self, folder):
-        """The rows of the file, which is whole; none where it is not there or has no table."""
+        """The rows of the file, which is whole; none where it is not there, has no table, or was not yet made: its first byte is written last."""
         if not (folder / "it.db").exists():
             return []
         with tempfile.TemporaryDirectory() as to:
             try:
                 return recorded.whole(copied(folder, self.FILES, os.path.join(to, "copy")))
-            except sqlite3.OperationalError as fault:
-                see("no such table" in str(fault), f"the file is not whole: {fault}")
+            except sqlite3.DatabaseError as fault:
+                is_begun = not self.stood and killed.read(folder / "it.db")[:15] == b"\0QLite format 3"
+                see("no such table" in str(fault) or is_begun, f"the file is not whole: {fault}")
                 return []
 
     def go(self, spot):
