@@ -154,6 +154,50 @@ def a_value_that_fits_nothing(program):
 
 
 @tried
+def a_value_that_came_later(program):
+    """A symbol that is persistent by one new description and gone by the next: what was saved of it is in the copy."""
+    with contextlib.ExitStack() as stack:
+        folder = stack.enter_context(tempfile.TemporaryDirectory())
+        kept, other = pathlib.Path(folder, "kept"), ('name = "Main.title"', 'name = "Main.label"')
+        it = in_folder(stack, program, folder, ["--store", "kept", "--save-each", "1"], change=("persistent = true", "persistent = false"))
+        plant = pathlib.Path(folder, "plant.toml")
+        text = plant.read_text().replace("persistent = false", "persistent = true")
+        plant.write_text(text)
+        with it.link() as link:
+            until(lambda: save(link), lambda: b"Main.title" in kept_bytes(kept), "the new symbol is not saved")
+        before = kept_bytes(kept)
+        plant.write_text(text.replace(*other))
+        with it.link() as link:
+            until(lambda: save(link), lambda: b"Main.label" in kept_bytes(kept), "the renamed symbol is not saved")
+        _, err, status, _ = it.stopped(signal.SIGTERM)
+        expect(status == 0 and "no persistent symbol fits the entry Main.title" in err, f"the log says {err!r}")
+        expect(b"Main.title" in before and b"Main.title" in pathlib.Path(folder, "kept.before").read_bytes(), "the copy has not what stood there")
+        return "told and copied"
+
+
+def kept_bytes(path):
+    return path.read_bytes() if path.exists() else b""
+
+
+NUMBERS = iter(range(1, 1 << 30))
+
+
+def save(link):
+    """Writes another value, so that the next look saves."""
+    number = next(NUMBERS)
+    write_title(link, number, title_of(number))
+
+
+def until(does, holds, what, seconds=20):
+    """Does something again and again until it holds."""
+    end = time.monotonic() + seconds
+    while not holds():
+        expect(time.monotonic() < end, what)
+        does()
+        time.sleep(0.3)
+
+
+@tried
 def several_addresses(program):
     """IPv4 and IPv6 at once, and [::] that takes both."""
     seen = []

@@ -152,6 +152,7 @@ def tried(program, times):
         page.until(page.is_well, "the server")
         page_http.of_requests(page)
         page_http.of_many(page)
+        Kinds.streams_that_are_left(page, rig, times)    # what so many streams take of memory at once, the process keeps
         time.sleep(7)    # those that say nothing are let go after five seconds
         look(page, rig, "a first round")
         before, wrong = held.counts(page.process.pid), 0

@@ -1,4 +1,5 @@
 """page.py as a process, and what is asked of it."""
+import contextlib
 import http.client
 import json
 import os
@@ -97,6 +98,9 @@ class Stream:
         return self
 
     def __exit__(self, *_):
+        # (what reads it keeps it open)
+        with contextlib.suppress(OSError):
+            self.socket.shutdown(socket.SHUT_RDWR)
         self.socket.close()
 
     def read(self):
