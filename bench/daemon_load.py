@@ -15,11 +15,11 @@ four bytes for each of the connections that ask (`--asking`), all of them persis
   publishes the block's number to a broker in this process (tools/tries/fake_broker.py). Without Debian's python3-paho-mqtt there is no mqtt.py, as the last
   lines say.
 
-Behind the load all is stopped, adsd last. Then each sample of the history must be one that was written, at one moment number and bytes of one write, the
-ticks one behind the other; page and broker must have the last number; adsd must end with 0, have told no fault in its log and its status file, and have
-answered each request; its store must have the last values of all symbols; and a new start must serve the last block. The memory (VmRSS) of adsd, page,
-history and mqtt is told each minute; where one grows by more than 16 MiB in the second half of an hour it is a fault. The longest gaps and the ticks that
-were passed over are told. Status 1 where anything differs.
+Behind the load all is stopped, adsd last. Then each sample of the history must be one that was written, at one moment number and bytes of one write, the ticks
+one behind the other; page and broker must have the last number; adsd must end with 0, have told no fault in its log and its status file, and have answered
+each request; its store must have the last values of all symbols; and a new start must serve the last block. The memory (VmRSS) of adsd, page, history and mqtt
+is told each minute; where one grows by more than 16 MiB in the second half of an hour, the history by more than the 64 MiB of its file that SQLite keeps in
+memory, it is a fault. The longest gaps and the ticks that were passed over are told. Status 1 where anything differs.
 """
 import argparse
 import contextlib
@@ -54,6 +54,7 @@ from tries.running import Wrong  # noqa: E402
 
 TOOLS = os.path.join(HERE, "..", "tools")
 WATCHING, NOTES, BLOCK, SIZE, MOST_GROWN = 8, 512, serve.RAMP + 64, 64, 16384
+MOST_OF_HISTORY = 65536    # SQLite keeps so many KiB of the file in memory
 STRICT, WIDE = "rswhrhsWrhrwshrSWhrs", "rswhrhsWrhrwshrSWhrsHHT"
 FAULTS = re.compile(r"store fault|not saved|lines lost|refused|shut \d|lost \d|no route|not allowed|no ADS|fits")
 
@@ -339,7 +340,8 @@ def tell_memory(held, seconds):
     for name in held[0]:
         first, middle, last = (held[at][name] for at in (0, len(held) // 2, -1))
         print(f"{name}: {first:,} KiB at first, {last:,} in the end, grown by {last - first:,}, of these {last - middle:,} in the second half")
-        expect(seconds < 1800 or last - middle <= MOST_GROWN, f"{name} grows")
+        most = MOST_OF_HISTORY if name == "history" else MOST_GROWN
+        expect(seconds < 1800 or last - middle <= most, f"{name} grows")
 
 
 def tried(stack, given):
