@@ -127,7 +127,9 @@ class Table:
             it["word"] = enum_name(symbol.shape, it["value"])
         if symbol.node.more:
             it["left_out"] = symbol.node.more
-        return {**it, "text": value_text(symbol.type_id, symbol.data), "changed": date(changed) if changed else None}
+        # (of an array some servers tell the type of an element)
+        said = "16#" + symbol.data.hex() if symbol.shape.ends else value_text(symbol.type_id, symbol.data)
+        return {**it, "text": said, "changed": date(changed) if changed else None}
 
 
 def date(moment):
