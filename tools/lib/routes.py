@@ -4,7 +4,9 @@ import hmac
 import html
 import json
 import os
+import queue
 import secrets
+import threading
 import time
 
 from lib.leaves import for_script, values_of
@@ -23,11 +25,32 @@ def json_answer(said, status=200):
     return Answer(status, JSON, json.dumps(said, separators=(",", ":"), allow_nan=False).encode() + b"\n")
 
 
+class Teller(threading.Thread):
+    """Lines of standard output, written by a thread of their own: who reads them may be slow, gone or asleep, and nothing waits for that."""
+
+    def __init__(self):
+        super().__init__(daemon=True)
+        self.lines = queue.Queue(1000)
+        self.start()
+
+    def run(self):
+        while True:
+            try:
+                os.write(1, self.lines.get().encode(errors="replace"))
+            except OSError:
+                pass
+
+
+TELLERS = []
+
+
 def say(line):
-    """A line of standard output; who reads it may be gone."""
+    """A line of standard output; it is lost where a thousand wait."""
+    if not TELLERS:
+        TELLERS.append(Teller())
     try:
-        print(line, flush=True)
-    except OSError:
+        TELLERS[0].lines.put_nowait(line + "\n")
+    except queue.Full:
         pass
 
 

@@ -32,7 +32,10 @@ class Streams:
 
     def send(self, given):
         for writer, most in list(self.open.items()):
-            if writer.transport.get_write_buffer_size() > most:
+            if writer.transport.is_closing():
+                # (asyncio warns of each write to a browser that is gone)
+                self.open.pop(writer)
+            elif writer.transport.get_write_buffer_size() > most:
                 self.dropped += 1
                 self.open.pop(writer)
                 writer.transport.abort()

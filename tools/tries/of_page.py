@@ -3,13 +3,15 @@ import concurrent.futures
 import os
 import socket
 import struct
+import subprocess
+import sys
 import time
 
 from lib.program import run as run_program
 from tries import page_form, page_http, page_servers
 from tries.counting import Counting
 from tries.paged import PLANT, Page, Rig, Stream, leaves_of
-from tries.running import EXAMPLES, ME, Served, refused, see
+from tries.running import EXAMPLES, ME, TOOLS, Served, refused, see
 
 SHOWN = {"Main.count": 42, "Main.mode": 0, "Main.speed": 0.1, "Main.flow": "NaN", "Main.long": 9223372036854775807, "Main.bits": 0, "Main.wait": 1500,
          "Main.title": "Kühl'$\r", "Main.limit": 1000, "In.door": False, "Flags.on": True, "Main.grid": [0, 0, 0, 0, 0, 0],
@@ -99,6 +101,13 @@ def one_connection(program):
     return counts[0][0], counts[1][0]
 
 
+def nobody_reads():
+    """Lines of standard output that nobody reads hold nothing up."""
+    words = "import os; from lib.routes import say; [say('x' * 100) for _ in range(5000)]; os._exit(7)"
+    with subprocess.Popen([sys.executable, "-c", words], cwd=TOOLS, stdout=subprocess.PIPE) as it:
+        see(it.wait(30) == 7, "lines that nobody reads hold the page up")
+
+
 def one_page(program, size):
     with Served(program, PLANT) as server, Page(PLANT, server.to, *(word for name in page_form.WRITTEN for word in ("--write", name))) as page:
         page.until(page.is_well, "the server")
@@ -122,6 +131,7 @@ def tried(program, size):
     with concurrent.futures.ThreadPoolExecutor(3) as pool:
         parts = [pool.submit(call, *given) for call, *given in calls]
         (equal, typed, guarded, hostile), _, _, _, lies, *_ = [part.result() for part in parts]
+    nobody_reads()
     one, ten = one_connection(program)
     return (f"{equal} values as `ads get` prints them, {typed} typed, {guarded} writes of others kept out, {hostile} hostile requests, "
             f"{lies} servers that lie; gone and back three times; four descriptions; {one} requests in 3 s for one browser, {ten} for ten")
