@@ -1,5 +1,6 @@
 """Tries of `adsd` with a store, several addresses, an allow list, the wide profile and signals: bench/daemon.py makes them with the others."""
 import contextlib
+import itertools
 import os
 import pathlib
 import random
@@ -13,6 +14,7 @@ import sys
 import tempfile
 import time
 
+import killed
 from daemon import COUNTS, Daemon, expect, frame, free_port, reading, reply, tried
 
 TITLE = 72                        # the place of Main.title in examples/plant.toml, a STRING(7) that is persistent
@@ -164,22 +166,18 @@ def a_value_that_came_later(program):
         text = plant.read_text().replace("persistent = false", "persistent = true")
         plant.write_text(text)
         with it.link() as link:
-            until(lambda: save(link), lambda: b"Main.title" in kept_bytes(kept), "the new symbol is not saved")
-        before = kept_bytes(kept)
+            until(lambda: save(link), lambda: b"Main.title" in killed.read(kept), "the new symbol is not saved")
+        before = killed.read(kept)
         plant.write_text(text.replace(*other))
         with it.link() as link:
-            until(lambda: save(link), lambda: b"Main.label" in kept_bytes(kept), "the renamed symbol is not saved")
+            until(lambda: save(link), lambda: b"Main.label" in killed.read(kept), "the renamed symbol is not saved")
         _, err, status, _ = it.stopped(signal.SIGTERM)
         expect(status == 0 and "no persistent symbol fits the entry Main.title" in err, f"the log says {err!r}")
         expect(b"Main.title" in before and b"Main.title" in pathlib.Path(folder, "kept.before").read_bytes(), "the copy has not what stood there")
         return "told and copied"
 
 
-def kept_bytes(path):
-    return path.read_bytes() if path.exists() else b""
-
-
-NUMBERS = iter(range(1, 1 << 30))
+NUMBERS = itertools.count(1)
 
 
 def save(link):

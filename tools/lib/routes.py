@@ -1,5 +1,6 @@
 """What a page of live values answers: its files, the values, the stream of changes, the state for other programs, and the form."""
 import asyncio
+import functools
 import hmac
 import html
 import json
@@ -41,15 +42,15 @@ class Teller(threading.Thread):
                 pass
 
 
-TELLERS = []
+@functools.cache
+def teller():
+    return Teller()
 
 
 def say(line):
     """A line of standard output; it is lost where a thousand wait."""
-    if not TELLERS:
-        TELLERS.append(Teller())
     try:
-        TELLERS[0].lines.put_nowait(line + "\n")
+        teller().lines.put_nowait(line + "\n")
     except queue.Full:
         pass
 
