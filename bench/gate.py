@@ -18,16 +18,21 @@ rt ci ended with. The status is that of rt.
 
 How it is measured: ten times a second the processes that rt started are read from /proc. The last tenth of a second of each is missed; the line `all that rt
 started` misses nothing, and holds rt's own work, the links and the runs of programs and tests too.
+
+A virtual processor may be half of a real one while a neighbour uses the other half, and then counts twice the minutes for the same work. So each half minute a loop
+of a million additions is timed, and its quickest and middle times are told: where the middle is twice the quickest, the minutes are twice what they need be.
 """
 import os
 import re
 import resource
+import statistics
 import subprocess
 import sys
 import threading
 import time
 
 PAUSE = 0.1
+BETWEEN_LOOPS = 30.0
 BUDGET = 5.0
 TICKS = os.sysconf("SC_CLK_TCK")
 KINDS = ("library", "tests", "third", "bodies")
@@ -126,17 +131,33 @@ def pass_on(stream, lines):
         lines.append(line.rstrip("\n"))
 
 
+def timed_loop():
+    """The processor seconds that a million additions take just now."""
+    begun, total = time.thread_time(), 0
+    for number in range(1_000_000):
+        total += number
+    return time.thread_time() - begun
+
+
+def loops_told(loops):
+    return f"a loop of a million additions took {min(loops):.2f} s at the quickest, {statistics.median(loops):.2f} s in the middle"
+
+
 def watched(words):
-    """Runs the command, passes on what it says, and returns its status, its lines and what was seen."""
+    """Runs the command, passes on what it says, and returns its status, its lines, what was seen and how long the loops took."""
     rt = subprocess.Popen(words, stdout=subprocess.PIPE, stderr=subprocess.STDOUT, text=True, errors="replace")
     lines, watch = [], Watch(rt.pid)
     reader = threading.Thread(target=pass_on, args=(rt.stdout, lines))
     reader.start()
+    loops, due = [], 0.0
     while rt.poll() is None:
         watch.look()
+        if time.monotonic() >= due:
+            loops.append(timed_loop())
+            due = time.monotonic() + BETWEEN_LOOPS
         time.sleep(PAUSE)
     reader.join()
-    return rt.returncode, lines, watch
+    return rt.returncode, lines, watch, loops or [timed_loop()]
 
 
 def lines_of_code(crate):
@@ -202,18 +223,19 @@ def write_of(path):
     sums = re.search(r"^\| all, in minutes .*$", text, re.M)
     spent = re.search(r"^all that rt started: ([\d.]+) processor minutes, in ([\d.]+) minutes", text, re.M)
     ended = re.search(r"^rt ci ended with: (.*) \(status", text, re.M)
-    if not (lines and heads and sums and spent and ended):
+    loops = re.search(r"^the host: (.*)$", text, re.M)
+    if not (lines and heads and sums and spent and ended and loops):
         print(f"{path}: not what bench/gate.py prints", file=sys.stderr)
         return 2
     seconds = [int(line.split("|")[7]) for line in lines]
     shown = [line for line, it in zip(lines, seconds) if it >= SHOWN]
     others = f"| {len(lines) - len(shown)} others | | | | | | {sum(it for it in seconds if it < SHOWN)} | |"
-    write([heads[0], *shown, others, sums[0], "", sentence(float(spent[1]), float(spent[2]), ended[1])])
+    write([heads[0], *shown, others, sums[0], "", sentence(float(spent[1]), float(spent[2]), ended[1], loops[1])])
     return 0
 
 
-def sentence(minutes, clock, last):
-    return f"One run from nothing, {kit()}: {minutes:.0f} minutes of a processor, {clock:.0f} of the clock; {last}."
+def sentence(minutes, clock, last, loops):
+    return f"One run from nothing, {kit()}: {minutes:.0f} minutes of a processor, {clock:.0f} of the clock; {last}. The host: {loops}."
 
 
 def main():
@@ -224,7 +246,7 @@ def main():
         print(__doc__, file=sys.stderr)
         return 2
     begun = time.time()
-    status, lines, watch = watched(["rt", "ci", *[it for it in words if it == "--anew"]])
+    status, lines, watch, loops = watched(["rt", "ci", *[it for it in words if it == "--anew"]])
     rows = watch.rows()
     _, code, whole = line_of_sums(rows)
     print("", *table(rows, 0), "", sep="\n")
@@ -234,8 +256,9 @@ def main():
     last = next((it for it in reversed(lines) if it), "")
     print(f"all that rt started: {minutes:.1f} processor minutes, in {clock:.1f} minutes of the clock")
     print(f"rt ci ended with: {last} (status {status})")
+    print(f"the host: {loops_told(loops)}")
     if "--write" in words:
-        write([*table(rows, SHOWN), "", sentence(minutes, clock, last)])
+        write([*table(rows, SHOWN), "", sentence(minutes, clock, last, loops_told(loops))])
     return status
 
 
