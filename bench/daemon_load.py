@@ -18,8 +18,9 @@ four bytes for each of the connections that ask (`--asking`), all of them persis
 Behind the load all is stopped, adsd last. Then each sample of the history must be one that was written, at one moment number and bytes of one write, the ticks
 one behind the other; page and broker must have the last number; adsd must end with 0, have told no fault in its log and its status file, and have answered
 each request; its store must have the last values of all symbols; and a new start must serve the last block. The memory (VmRSS) of adsd, page, history and mqtt
-is told each minute; where one grows by more than 16 MiB in the second half of an hour, the history by more than the 64 MiB of its file that SQLite keeps in
-memory, it is a fault. The longest gaps and the ticks that were passed over are told. Status 1 where anything differs.
+is told each minute; where one grows by more than 16 MiB in the second half of an hour, it is a fault: the history by more than the 64 MiB of its file that
+SQLite keeps in memory, the page by more than the two million points of its plots take. The longest gaps and the ticks that were passed over are told. Status 1
+where anything differs.
 """
 import argparse
 import contextlib
@@ -53,8 +54,8 @@ from tries.paged import Page  # noqa: E402
 from tries.running import Wrong  # noqa: E402
 
 TOOLS = os.path.join(HERE, "..", "tools")
-WATCHING, NOTES, BLOCK, SIZE, MOST_GROWN = 8, 512, serve.RAMP + 64, 64, 16384
-MOST_OF_HISTORY = 65536    # SQLite keeps so many KiB of the file in memory
+WATCHING, NOTES, BLOCK, SIZE = 8, 512, serve.RAMP + 64, 64
+MOST_GROWN = {"adsd": 16384, "page": 36864, "history": 65536, "mqtt": 16384}    # KiB: the plots of page.py are filled slowly, and SQLite keeps much of its file
 STRICT, WIDE = "rswhrhsWrhrwshrSWhrs", "rswhrhsWrhrwshrSWhrsHHT"
 FAULTS = re.compile(r"store fault|not saved|lines lost|refused|shut \d|lost \d|no route|not allowed|no ADS|fits")
 
@@ -340,7 +341,7 @@ def tell_memory(held, seconds):
     for name in held[0]:
         first, middle, last = (held[at][name] for at in (0, len(held) // 2, -1))
         print(f"{name}: {first:,} KiB at first, {last:,} in the end, grown by {last - first:,}, of these {last - middle:,} in the second half")
-        most = MOST_OF_HISTORY if name == "history" else MOST_GROWN
+        most = MOST_GROWN[name]
         expect(seconds < 1800 or last - middle <= most, f"{name} grows")
 
 
