@@ -16,11 +16,10 @@ four bytes for each of the connections that ask (`--asking`), all of them persis
   lines say.
 
 Behind the load all is stopped, adsd last. Then each sample of the history must be one that was written, at one moment number and bytes of one write, the ticks
-one behind the other, with a gap only where an answer took more than five seconds (no processor was free); page and broker must have the last number; adsd must
-end with 0, have told no fault in its log and its status file, and have answered each request; its store must have the last values of all symbols; and a new
-start must serve the last block. The memory (VmRSS) of adsd, page, history and mqtt is told each minute; where one grows by more than 16 MiB in the second half
-of an hour, it is a fault: the history by more than the 64 MiB of its file that SQLite keeps in memory, the page by more than the two million points of its
-plots take. The longest gaps and the ticks that were passed over are told. Status 1 where anything differs.
+one behind the other; page and broker must have the last number; adsd must end with 0, have told no fault in its log and its status file, and have answered
+each request; its store must have the last values of all symbols; and a new start must serve the last block. The memory (VmRSS) of adsd, page, history and mqtt
+is told each minute; where one grows by more than 16 MiB in the second half of an hour, the history by more than the 64 MiB of its file that SQLite keeps in
+memory, it is a fault. The longest gaps and the ticks that were passed over are told. Status 1 where anything differs.
 """
 import argparse
 import contextlib
@@ -54,9 +53,8 @@ from tries.paged import Page  # noqa: E402
 from tries.running import Wrong  # noqa: E402
 
 TOOLS = os.path.join(HERE, "..", "tools")
-WATCHING, NOTES, BLOCK, SIZE = 8, 512, serve.RAMP + 64, 64
-PATIENCE = 5    # seconds: history.py takes a server that is silent for longer for gone, and tells a gap
-MOST_GROWN = {"adsd": 16384, "page": 36864, "history": 65536, "mqtt": 16384}    # KiB: the plots of page.py are filled slowly, and SQLite keeps much of its file
+WATCHING, NOTES, BLOCK, SIZE, MOST_GROWN = 8, 512, serve.RAMP + 64, 64, 16384
+MOST_OF_HISTORY = 65536    # SQLite keeps so many KiB of the file in memory
 STRICT, WIDE = "rswhrhsWrhrwshrSWhrs", "rswhrhsWrhrwshrSWhrsHHT"
 FAULTS = re.compile(r"store fault|not saved|lines lost|refused|shut \d|lost \d|no route|not allowed|no ADS|fits")
 
@@ -263,8 +261,8 @@ def history_is_sound(writer, printed):
     expect(values[-1] == writer.number, f"{values[-1]} was recorded last, and {writer.number} was written last")
     for ns, number, _ in numbers:
         expect(ns not in datas or datas[ns] == block_of(number)[4:], f"at {ns} stand the number {number} and the bytes of another write")
-    expect(not gaps or writer.longest > PATIENCE, f"{gaps} gaps in the history, though the server was never gone")
-    return f"history: {rows:,} samples, {len(ticks):,} ticks one behind another, {len(numbers):,} numbers of {writer.number:,} writes, {gaps} gaps"
+    expect(not gaps, f"{gaps} gaps in the history, though the server was never gone")
+    return f"history: {rows:,} samples, {len(ticks):,} ticks one behind another, {len(numbers):,} numbers of {writer.number:,} writes"
 
 
 def store_has(load, area, block):
@@ -342,7 +340,7 @@ def tell_memory(held, seconds):
     for name in held[0]:
         first, middle, last = (held[at][name] for at in (0, len(held) // 2, -1))
         print(f"{name}: {first:,} KiB at first, {last:,} in the end, grown by {last - first:,}, of these {last - middle:,} in the second half")
-        most = MOST_GROWN[name]
+        most = MOST_OF_HISTORY if name == "history" else MOST_GROWN
         expect(seconds < 1800 or last - middle <= most, f"{name} grows")
 
 
