@@ -4,7 +4,7 @@ use Rattle.std.proofs.lemmas.Bool.{eq-eqb, ne_eqb}
 use Rattle.std.proofs.lemmas.List.{append-nil, map-append}
 use Rattle.std.specs.Prelude.{Option, Some, None, option_map, option_and_then, ◌==◌, if◌then◌else◌}
 use Rattle.spec_formats.specs.SymbolEntry.{SymbolEntry, entry_of}
-use Rattle.spec_client.specs.Entries.{entries_in, is_taken, first_of, one_entry_in}
+use Rattle.spec_client.specs.Entries.{entries_in, is_taken, first_of, one_entry_in, with_value_id}
 use Rattle.spec_client.specs.Printed.{entry_line}
 use Rattle.spec_client.specs.Stages as stages
 use Rattle.client_replies.specs.Stages.{output_kept}
@@ -43,14 +43,14 @@ pub outputs_behind-none : (n : ℕ) (before : List stages.Output) (bytes : List 
 outputs_behind-none n before bytes is = rw (entries-suc n bytes, is) refl
 
 only_first : (o : Option (SymbolEntry × List ℕ)) →
-    option_and_then (λ first. if length first.1 == 0 then Some first.0 else None) o
+    option_map with_value_id (option_and_then (λ first. if length first.1 == 0 then Some first.0 else None) o)
     ≡ option_and_then first_of (option_and_then (λ first. option_map (λ es. first.0 ∷ es) (if length first.1 == 0 then Some [] else None)) o)
 only_first None = refl
-only_first (Some first) = elim (length first.1 == 0) as (λ b. (if b then Some first.0 else None)
+only_first (Some first) = elim (length first.1 == 0) as (λ b. option_map with_value_id (if b then Some first.0 else None)
     ≡ option_and_then first_of (option_map (λ es. first.0 ∷ es) (if b then Some [] else None))) [ true ↦ refl | false ↦ refl ]
 
 -- the one entry of an answer
-pub only_is_one : (bytes : List ℕ) → only_entry_in bytes ≡ one_entry_in bytes
+pub only_is_one : (bytes : List ℕ) → option_map with_value_id (only_entry_in bytes) ≡ one_entry_in bytes
 unfolding only_entry_in entries_in
 only_is_one bytes = only_first (taken_entry_in bytes) ∙ ap (option_and_then first_of) (sym (entries-suc 0 bytes))
 

@@ -10,7 +10,7 @@ use Rattle.spec_formats.specs.Request.{Request}
 use Rattle.spec_formats.specs.ValueText.{value_text}
 use Rattle.spec_client.specs.Heard.{Heard, Answered, Sampled, Ended, Stray, TimedOut, NotYet, Broken}
 use Rattle.spec_client.specs.Calls.{MAX_SIZE, value_request, write_request, upload_request, type_upload_request}
-use Rattle.spec_client.specs.Entries.{one_entry_in, entries_in, first_of, is_taken, types_in}
+use Rattle.spec_client.specs.Entries.{one_entry_in, entries_in, first_of, is_taken, types_in, with_value_id}
 use Rattle.spec_client.specs.Leaves.{leaves_of, leaf_line}
 use Rattle.spec_client.specs.Printed.{line, entry_line, sample_line, ended_line}
 use Rattle.spec_client.specs.Stages.{ToSend, ToPrint, Purpose, ToGet, ToSet, ToWatch, ToShow, Stage}
@@ -63,7 +63,7 @@ taken_small : (o : Option (List SymbolEntry)) (first : SymbolEntry × List ℕ) 
     → option_and_then first_of (if b then option_map (λ es. first.0 ∷ es) o else None) ≡ Some e → e.size ≤ MAX_SIZE
 taken_small None first e true t is = absurd cc
 taken_small (Some es) first e true t is =
-    let same : first.0 ≡ e = cc in
+    let same : with_value_id first.0 ≡ e = cc in
     let small = leb-true first.0.size MAX_SIZE t in
     let sizes : first.0.size ≡ e.size = ap (λ (x : SymbolEntry). x.size) same in
     omega arith

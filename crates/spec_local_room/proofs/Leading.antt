@@ -23,7 +23,7 @@ use Rattle.spec_client.specs.Calls.{Call, Info, State, Control, Get, Set, Symbol
 use Rattle.spec_client.specs.Calls.{handle_request, write_request, release_request, upload_info_request, upload_request, type_info_request}
 use Rattle.spec_client.specs.Calls.{type_upload_request, addition_request}
 use Rattle.spec_client.specs.Conversation.{LoopEnd, CallEnded, end_of_stage}
-use Rattle.spec_client.specs.Entries.{is_taken, entries_in, types_in, first_of, one_entry_in}
+use Rattle.spec_client.specs.Entries.{is_taken, entries_in, types_in, first_of, one_entry_in, with_value_id}
 use Rattle.spec_client.specs.Heard.{Heard, heard_of_sample, Sampled, Ended}
 use Rattle.spec_client.specs.LeafTypes.{is_sound_text}
 use Rattle.spec_client.specs.Printed.{sample_line}
@@ -259,7 +259,7 @@ value_size id size text value e = go (is_value id size text (made_value id size 
     go false is e = absurd cc
 
 one_taken : (b : Bool) (e f : SymbolEntry) (o : Option (List SymbolEntry)) → option_and_then first_of (if b then option_map (λ es. e ∷ es) o else None) ≡ Some f
-    → (b ≡ true) × (e ≡ f)
+    → (b ≡ true) × (with_value_id e ≡ f)
 one_taken true e f None is = absurd cc
 one_taken true e f (Some es) is = (refl, cc)
 one_taken false e f o is = absurd cc
