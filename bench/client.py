@@ -278,7 +278,8 @@ def entry_of(name):
     found = entries_in((yield from asked(0xF009, ENTRY, name)), 1)
     if found is None:
         raise bad_peer()
-    return found[0]
+    # (an array is one value of bytes, whatever type id is told of it)
+    return found[0] | {"kind": 65} if found[0]["type"][:7].upper() == b"ARRAY [" else found[0]
 
 
 def whole(given, size):

@@ -352,11 +352,19 @@ TEXTS = (
 )
 
 
+def put(said, text, data):
+    return linked(said, ["set", "X.y", text], in_turn([given(9, 1, data), given(9, 2, u32(0xFFFFFFFF)), answer(3, 3, u32(0)), answer(3, 4, u32(0))]))
+
+
 def values():
     for number, size, texts in TEXTS:
         for text in texts:
-            yield linked(f"The text {text!r} for a value of type id {number} and {size} byte{'s' if size != 1 else ''}.".replace("\n", " "), ["set", "X.y", text],
-                         in_turn([given(9, 1, entry(b"X.y", size=size, number=number)), given(9, 2, u32(0xFFFFFFFF)), answer(3, 3, u32(0)), answer(3, 4, u32(0))]))
+            yield put(f"The text {text!r} for a value of type id {number} and {size} byte{'s' if size != 1 else ''}.".replace("\n", " "), text, entry(b"X.y", size=size, number=number))
+    for kind in (b"ARRAY [0..1] OF STRING(2)", b"Array [0..1] of String(2)", b"ARRAYS"):
+        yield got(f"A value of the type {kind.decode()}, of which the id of a text is told.", entry(b"X.y", kind, size=6, number=30), b"ab\0cd\0", ("get", "X.y"))
+    yield got("An array of one INT, of which the id of INT is told.", entry(b"X.y", b"ARRAY [0..0] OF INT", size=2, number=2), b"\1\0", ("get", "X.y"))
+    for text in ("'ab'", "16#616200636400"):
+        yield put(f"The text {text!r} for an array of texts, of which the id of a text is told.", text, entry(b"X.y", b"ARRAY [0..1] OF STRING(2)", size=6, number=30))
     for some in (0, 3, 5, 8):
         yield linked(f"A handle of {some} bytes.", COMMANDS["set"], in_turn([STEPS["set"][0], given(9, 2, bytes(some)), answer(3, 3, u32(0)), answer(3, 4, u32(0))]))
     for k, what in ((2, "write"), (3, "release")):
