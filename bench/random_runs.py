@@ -7,7 +7,8 @@ must be those of the model of a client (bench/client.py), and so must the rows t
     python3 bench/random_runs.py [--program ADS] [--wide CASES_WIDE] [--adsd ADSD] [--seconds N] [--seed N] [--keep FOLDER]
 
 Each program that is named has its runs, in turn until the seconds are over: `ads` those above; `cases_wide` whole scripts on the wide server; `adsd` random clients over
-loopback in both profiles, with NetIds that no route names and packets to a local router (bench/wide_runs.py for both). Without one it is crates/ads/out/ads.
+loopback in both profiles, with NetIds that no route names and packets to a local router (bench/wide_runs.py for both), and the same over a store, with new
+descriptions and further starts (bench/daemon_runs.py). Without one it is crates/ads/out/ads.
 
     python3 bench/random_runs.py --program ADS --wide CASES_WIDE --adsd ADSD --seconds 3600      an hour of all of them in one piece
 
@@ -544,14 +545,19 @@ def received(conn, count):
     return given
 
 
-def talked(events, machine, port):
-    """Plays events over sockets against the model of a server or a relay; what differs, or None. A whole frame is sent before anything is waited for."""
+def talked(events, machine, port, described=None):
+    """Plays events over sockets against the model of a server or a relay; what differs, or None. A whole frame is sent before anything is waited for. `described`
+    puts a description there and is given the model's line of it."""
     conns = {}
     try:
         for event in events:
-            lines, conn = [], conns.get(event[1])
+            lines, conn = [], None if event[0] == "reload" else conns.get(event[1])
             model.turn(machine, event, lines)
-            if event[0] == "open":
+            if event[0] == "reload":
+                said = described(event[2], lines.pop(0))
+                if said:
+                    return said
+            elif event[0] == "open":
                 conns[event[1]] = socket.create_connection(("127.0.0.1", port), timeout=20)
             elif conn is None:
                 continue
@@ -563,7 +569,7 @@ def talked(events, machine, port):
             if said:
                 return said
     except OSError as fault:
-        return f"{event[0]} {event[1]}: {fault}"
+        return f"{event[0]} {event[1] if event[0] != 'reload' else ''}: {fault}"
     finally:
         for conn in conns.values():
             conn.close()
@@ -882,7 +888,8 @@ def kinds_of_ads(program, folder):
 
 def kinds_of(given, folder):
     """The kinds of runs of all programs that are named, and what these do not have, in words."""
-    import wide_runs  # noqa: PLC0415 (it uses this file)
+    import daemon_runs  # noqa: PLC0415 (they use this file)
+    import wide_runs  # noqa: PLC0415
 
     kinds, left_out = [], []
     if given.program or not (given.wide or given.adsd):
@@ -896,12 +903,13 @@ def kinds_of(given, folder):
         daemon = os.path.abspath(given.adsd)
         own = wide_runs.has_of(daemon, folder)
         kinds.append(("daemons", lambda seed, place: wide_runs.one_daemon(daemon, seed, place, own), 2))
+        kinds.append(("keeping", lambda seed, place: daemon_runs.one_daemon(daemon, seed, place, own), 1))
         left_out += [f"{it} of adsd" for it in own.left_out()]
     return kinds, left_out
 
 
 WORDS_OF = {"replays": "scripts", "relays": "scripts of a relay", "kept": "scripts over a store", "served": "plants served", "relayed": "relays", "peers": "client commands", "damaged": "damaged inputs",
-            "wide": "scripts on the wide server", "daemons": "plants of the daemon"}
+            "wide": "scripts on the wide server", "daemons": "plants of the daemon", "keeping": "plants of the daemon over a store, with new descriptions"}
 
 
 def main():
