@@ -17,9 +17,9 @@ import time
 import random_runs
 import store
 import wide_runs
+from daemon import BLOCKED
 
 TOLD = re.compile(r" reload (accepted: version \d+|refused: rule \d+|refused: it is no TOML)")
-BLOCKED = {signal.SIGTERM, signal.SIGINT}
 SUMMARY = re.compile(r"connections (\d+) requests (\d+) replies (\d+) samples (\d+) reloads (\d+) (\d+)\nsaved \d+\n")
 
 
@@ -100,6 +100,8 @@ def one_daemon(program, seed, folder, has):
         standing, wanted = store.standing_of(kept.read_bytes()), store.body_of(machine)
         if standing is None or standing[2] != wanted:
             return f"behind life {life}, {profile}: the store stands for {standing and standing[2].hex()}, and not for {wanted.hex()}"
-        body, now = standing[2], [d, *(event[1] for event in events if event[0] == "reload" and isinstance(event[1], dict))][-1]
-        d = wide_runs.without_signals(random_runs.changed(r, now)) if r.random() < 0.6 else now
+        accepted = [event[1] for event in events if event[0] == "reload" and isinstance(event[1], dict)]
+        body, d = standing[2], accepted[-1] if accepted else d
+        if r.random() < 0.6:
+            d = wide_runs.without_signals(random_runs.changed(r, d))
     return None
