@@ -274,6 +274,50 @@ def log_lines(program):
         return f"{len(err.splitlines())} lines"
 
 
+# What can stand at the name of a description that is served, so that no reading of it succeeds.
+UNREADABLE = {
+    "nothing": lambda path: None,
+    "a folder": lambda path: path.mkdir(),
+    "17 MiB": lambda path: path.write_bytes(bytes(17 << 20)),
+    "a link to itself": lambda path: path.symlink_to(path.name),
+}
+
+
+@tried
+def description_that_cannot_be_read(program):
+    """While the daemon runs its description is gone, or no reading of it succeeds: told once, and once when it is over; what is served stays."""
+    cannot, can = "<4>description: cannot be read (", "<5>description: can be read again"
+    with contextlib.ExitStack() as stack:
+        folder = stack.enter_context(tempfile.TemporaryDirectory())
+        plant, aside, log = (pathlib.Path(folder, name) for name in ("plant.toml", "aside", "log"))
+        it = Daemon(stack, program, ["--log", "journal", "--status", "status.prom"], stderr=stack.enter_context(log.open("wb")), folder=folder)
+        for count, (name, put) in enumerate(UNREADABLE.items(), 1):
+            plant.rename(aside)
+            put(plant)
+            waits_for(log, cannot, count)
+            time.sleep(3)
+            it.asks()
+            if os.path.lexists(plant):
+                plant.rename(pathlib.Path(folder, name))
+            aside.rename(plant)
+            waits_for(log, can, count)
+        out, _, status, _ = it.stopped(signal.SIGTERM)
+        in_order(out, status)
+        told = [log.read_text().count(line) for line in (cannot, can)]
+        expect(told == 2 * [len(UNREADABLE)] and "reload" not in log.read_text(), f"the log says {log.read_text()!r}")
+        faults = re.search(r"^adsd_description_read_faults_total (\d+)$", pathlib.Path(folder, "status.prom").read_text(), re.M)
+        expect(faults and int(faults[1]) >= 3 * len(UNREADABLE), f"the status file counts {faults and faults[1]}")
+        return f"{', '.join(UNREADABLE)}: each told once, with {faults[1]} readings that failed"
+
+
+def waits_for(log, line, count):
+    """Until this line stands so many times in the log."""
+    until = time.monotonic() + 20
+    while (seen := log.read_text().count(line)) < count:
+        expect(time.monotonic() < until, f"{line!r} is told {seen} times in place of {count}")
+        time.sleep(0.05)
+
+
 @tried
 def machines_without_a_route(program):
     """`other_routes`: who has no route reads; a write of it is refused with 0x704, or done; the log says what it means."""

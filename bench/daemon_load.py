@@ -56,7 +56,7 @@ TOOLS = os.path.join(HERE, "..", "tools")
 WATCHING, NOTES, BLOCK, SIZE, MOST_GROWN = 8, 512, serve.RAMP + 64, 64, 16384
 MOST_OF_HISTORY = 65536    # SQLite keeps so many KiB of the file in memory
 STRICT, WIDE = "rswhrhsWrhrwshrSWhrs", "rswhrhsWrhrwshrSWhrsHHT"
-FAULTS = re.compile(r"store fault|not saved|lines lost|refused|shut \d|lost \d|no route|not allowed|no ADS|fits")
+FAULTS = re.compile(r"store fault|not saved|lines lost|cannot be read|refused|shut \d|lost \d|no route|not allowed|no ADS|fits")
 
 
 def description(asking, version):

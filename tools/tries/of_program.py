@@ -6,6 +6,7 @@ import shutil
 import socket
 import subprocess
 import tempfile
+import threading
 
 from tries.running import EXAMPLES, ME, NET, PLANT, Served, free_port, see
 
@@ -87,10 +88,16 @@ def ends(program, folder):
     return len(asked) + 1
 
 
-def daemon_ends(program, folder):
-    """The number that the daemon ends with is that of docs/DAEMON.md. Of a program that was named alone it is not tried."""
+def daemon_of(program):
+    """The daemon that was built beside the program; None where the program was named alone."""
     daemon = os.path.join(os.path.dirname(program), "..", "..", "adsd", "out", "adsd")
-    if not os.path.exists(daemon):
+    return daemon if os.path.exists(daemon) else None
+
+
+def daemon_ends(program, folder):
+    """The number that the daemon ends with is that of docs/DAEMON.md."""
+    daemon = daemon_of(program)
+    if not daemon:
         return 0
     put(folder, "stored.toml", "description = \"plant.toml\"\nstore = \"nowhere/store\"\n")
     put(folder, "wrong.toml", "description = \"plant.toml\"\nlisten = 7\n")
@@ -100,6 +107,27 @@ def daemon_ends(program, folder):
         it = subprocess.run([daemon, *words], cwd=folder, stdin=subprocess.DEVNULL, stdout=subprocess.PIPE, stderr=subprocess.PIPE, timeout=60)
         see(it.returncode == wanted, f"adsd {' '.join(words)}: status {it.returncode} in place of {wanted}: {it.stdout[-200:]!r} {it.stderr[-200:]!r}")
     return len(asked)
+
+
+def daemon_tells(program, folder):
+    """The log says that the description can't be read any more, and that it can be read again; the daemon serves on."""
+    daemon, plant, aside = daemon_of(program), os.path.join(folder, "told.toml"), os.path.join(folder, "aside.toml")
+    if not daemon:
+        return
+    shutil.copy(PLANT, plant)
+    words = [daemon, "told.toml", "--listen", f"127.0.0.1:{free_port()}", "--log", "journal", "--stop-file", "stop"]
+    with subprocess.Popen(words, cwd=folder, stdin=subprocess.DEVNULL, stdout=subprocess.PIPE, stderr=subprocess.PIPE, text=True) as it:
+        late = threading.Timer(60, it.kill)
+        late.start()
+        see(it.stdout.readline() == "listening\n", "adsd does not listen")
+        for one, other, wanted in ((plant, aside, "<4>description: cannot be read"), (aside, plant, "<5>description: can be read again")):
+            os.rename(one, other)
+            line = next((line for line in it.stderr if "description: " in line), "nothing")
+            see(line.startswith(wanted), f"adsd says {line!r} in place of {wanted!r}")
+        put(folder, "stop", "")
+        it.communicate()
+        late.cancel()
+    see(it.returncode == 0, f"adsd ended with {it.returncode}")
 
 
 # A body of one entry has 21 bytes beside its value and its form, where the name has one byte, and the form has 26: "array [1..1048529] of byte". It has
@@ -217,10 +245,11 @@ def tried(program, _size):
         records(program, folder)
         count = ends(program, folder)
         count += daemon_ends(program, folder)
+        daemon_tells(program, folder)
         long_ones(program, folder)
         shares_types(program, folder)
         gives_room_back(program, folder)
         reads_much_at_once(program, folder)
     serves(program)
-    return (f"a store and a recording go on at a second start; {count} endings by their numbers; long pieces and bodies; room; "
-            "a server and a client as processes")
+    return (f"a store and a recording go on at a second start; {count} endings by their numbers; a description that can't be read; "
+            "long pieces and bodies; room; a server and a client as processes")

@@ -8,6 +8,7 @@ use crate::line::{Level, put_line};
 use crate::noticeboard::Noticeboard;
 use crate::plant::Plant;
 use crate::posted::{Reloaded, SaveTold};
+use crate::reading_health::ReadingHealth;
 use crate::ring::Ring;
 use crate::spoken::Spoken;
 use crate::status_text::{Beside, text_of};
@@ -55,6 +56,7 @@ pub struct Chronicle<
     told_refused: u64,
     ready: bool,
     health: StoreHealth,
+    readings: ReadingHealth,
     plant: Plant,
     guests: Guests,
     counts: Counts,
@@ -93,6 +95,7 @@ impl<N: Drop, J: Judge + Drop, L: LogOutlet + Drop, B: Beacon + Drop, F: Beacon 
             told_refused: 0,
             ready: false,
             health: StoreHealth::Well,
+            readings: ReadingHealth::Well,
             plant: Plant::new(alloc),
             guests: Guests::new(alloc),
             counts: Counts::new(now),
@@ -368,7 +371,26 @@ impl<N: Drop, J: Judge + Drop, L: LogOutlet + Drop, B: Beacon + Drop, F: Beacon 
     {
         if self.counts.ticks % SECOND_TICKS == 0 {
             self.tell_refused(wire);
-            self.counts.failed_readings = self.names.failed_readings(wire);
+            let failed = self.names.failed_readings(wire);
+            self.tell_readings(failed);
+        }
+    }
+
+    // It is told where readings of the description begin to fail, and where they go well again.
+    fn tell_readings(&mut self, failed: u64) {
+        let before = self.readings;
+        self.readings = before.after_look(failed != self.counts.failed_readings);
+        self.counts.failed_readings = failed;
+        match (before, self.readings) {
+            (ReadingHealth::Well, ReadingHealth::Failed) => self.put(
+                Level::Warning,
+                plant_lines::UNREADABLE,
+            ),
+            (ReadingHealth::Quiet, ReadingHealth::Well) => self.put(
+                Level::Notice,
+                plant_lines::READABLE,
+            ),
+            _ => {}
         }
     }
 

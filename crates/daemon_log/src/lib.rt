@@ -12,6 +12,7 @@ mod no_outlet;
 mod noticeboard;
 mod plant;
 mod posted;
+mod reading_health;
 mod ring;
 mod rules;
 mod spoken;

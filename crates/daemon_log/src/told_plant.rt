@@ -27,6 +27,13 @@ pub(crate) fn reload_line(alloc: Global, reload: Reloaded) -> Result<String, All
     }
 }
 
+/// What is told where the description's file can't be read any more.
+pub(crate) const UNREADABLE: &str =
+    "description: cannot be read (gone, no right to it, over 16777216 bytes, or out of memory); the one before stays";
+
+/// What is told where it can be read again.
+pub(crate) const READABLE: &str = "description: can be read again";
+
 /// The store was opened.
 pub(crate) fn store_line(
     alloc: Global,
