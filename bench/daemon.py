@@ -279,7 +279,7 @@ UNREADABLE = {
     "nothing": lambda path: None,
     "a folder": lambda path: path.mkdir(),
     "17 MiB": lambda path: path.write_bytes(bytes(17 << 20)),
-    "a link to itself": lambda path: path.symlink_to(path.name),
+    "a link to itself": lambda path: path.symlink_to("plant.toml"),
 }
 
 
@@ -289,11 +289,13 @@ def description_that_cannot_be_read(program):
     cannot, can = "<4>description: cannot be read (", "<5>description: can be read again"
     with contextlib.ExitStack() as stack:
         folder = stack.enter_context(tempfile.TemporaryDirectory())
-        plant, aside, log = (pathlib.Path(folder, name) for name in ("plant.toml", "aside", "log"))
+        plant, aside, other, log = (pathlib.Path(folder, name) for name in ("plant.toml", "aside", "other", "log"))
         it = Daemon(stack, program, ["--log", "journal", "--status", "status.prom"], stderr=stack.enter_context(log.open("wb")), folder=folder)
         for count, (name, put) in enumerate(UNREADABLE.items(), 1):
+            put(other)
             plant.rename(aside)
-            put(plant)
+            if os.path.lexists(other):
+                other.rename(plant)
             waits_for(log, cannot, count)
             time.sleep(3)
             it.asks()
