@@ -261,7 +261,8 @@ def history_is_sound(writer, printed):
     expect(values[-1] == writer.number, f"{values[-1]} was recorded last, and {writer.number} was written last")
     for ns, number, _ in numbers:
         expect(ns not in datas or datas[ns] == block_of(number)[4:], f"at {ns} stand the number {number} and the bytes of another write")
-    expect(not gaps, f"{gaps} gaps in the history, though the server was never gone")
+    whys = sorted({why for _, own in history.values() for *_, why in own})
+    expect(not gaps, f"{gaps} gaps in the history, though the server was never gone: {'; '.join(whys)}")
     return f"history: {rows:,} samples, {len(ticks):,} ticks one behind another, {len(numbers):,} numbers of {writer.number:,} writes"
 
 
