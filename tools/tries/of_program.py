@@ -110,7 +110,7 @@ def daemon_ends(program, folder):
 
 
 def daemon_tells(program, folder):
-    """The log says that the description can't be read any more, and that it can be read again; the daemon serves on."""
+    """The daemon's log says that the description can't be read any more, and that it can be read again; then it ends in order."""
     daemon, plant, aside = daemon_of(program), os.path.join(folder, "told.toml"), os.path.join(folder, "aside.toml")
     if not daemon:
         return
