@@ -312,12 +312,18 @@ def description_that_cannot_be_read(program):
         return f"{', '.join(UNREADABLE)}: each told once, with {faults[1]} readings that failed"
 
 
+def until(holds, what, does=lambda: None, seconds=20):
+    """Waits until it holds, and does something again and again meanwhile."""
+    end = time.monotonic() + seconds
+    while not holds():
+        expect(time.monotonic() < end, what)
+        does()
+        time.sleep(0.3)
+
+
 def waits_for(log, line, count):
-    """Until this line stands so many times in the log."""
-    until = time.monotonic() + 20
-    while (seen := log.read_text().count(line)) < count:
-        expect(time.monotonic() < until, f"{line!r} is told {seen} times in place of {count}")
-        time.sleep(0.05)
+    """Waits until this line stands so many times in the log."""
+    until(lambda: log.read_text().count(line) >= count, f"{line!r} is not told {count} times")
 
 
 @tried

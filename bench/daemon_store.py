@@ -15,7 +15,7 @@ import tempfile
 import time
 
 import killed
-from daemon import COUNTS, Daemon, expect, frame, free_port, reading, reply, tried
+from daemon import COUNTS, Daemon, expect, frame, free_port, reading, reply, tried, until
 
 TITLE = 72                        # the place of Main.title in examples/plant.toml, a STRING(7) that is persistent
 KEPT = re.compile(r"connections \d+ requests \d+ replies \d+ samples \d+ reloads \d+ \d+\nsaved (\d+)\n")
@@ -166,11 +166,11 @@ def a_value_that_came_later(program):
         text = plant.read_text().replace("persistent = false", "persistent = true")
         plant.write_text(text)
         with it.link() as link:
-            until(lambda: save(link), lambda: b"Main.title" in killed.read(kept), "the new symbol is not saved")
+            until(lambda: b"Main.title" in killed.read(kept), "the new symbol is not saved", lambda: save(link))
         before = killed.read(kept)
         plant.write_text(text.replace(*other))
         with it.link() as link:
-            until(lambda: save(link), lambda: b"Main.label" in killed.read(kept), "the renamed symbol is not saved")
+            until(lambda: b"Main.label" in killed.read(kept), "the renamed symbol is not saved", lambda: save(link))
         _, err, status, _ = it.stopped(signal.SIGTERM)
         expect(status == 0 and "no persistent symbol fits the entry Main.title" in err, f"the log says {err!r}")
         expect(b"Main.title" in before and b"Main.title" in pathlib.Path(folder, "kept.before").read_bytes(), "the copy has not what stood there")
@@ -184,15 +184,6 @@ def save(link):
     """Writes another value, so that the next look saves."""
     number = next(NUMBERS)
     write_title(link, number, title_of(number))
-
-
-def until(does, holds, what, seconds=20):
-    """Does something again and again until it holds."""
-    end = time.monotonic() + seconds
-    while not holds():
-        expect(time.monotonic() < end, what)
-        does()
-        time.sleep(0.3)
 
 
 @tried
