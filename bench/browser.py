@@ -31,11 +31,12 @@ class Driver:
     """The program chromedriver; each `browser()` is a window of its own."""
 
     def __init__(self):
+        program = found(DRIVERS)
         with socket.socket() as it:
             it.bind(("127.0.0.1", 0))
             self.port = it.getsockname()[1]
         self.folder, self.sessions = tempfile.mkdtemp(prefix="page-browser-"), []
-        self.process = subprocess.Popen([found(DRIVERS), f"--port={self.port}", "--log-level=OFF"], stdin=subprocess.DEVNULL, stdout=subprocess.DEVNULL,
+        self.process = subprocess.Popen([program, f"--port={self.port}", "--log-level=OFF"], stdin=subprocess.DEVNULL, stdout=subprocess.DEVNULL,
                                         stderr=subprocess.DEVNULL, env={**os.environ, "TMPDIR": self.folder})
 
     def __enter__(self):

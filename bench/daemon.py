@@ -85,10 +85,15 @@ class Daemon:
     """A run of the program in a folder of its own."""
 
     def __init__(self, stack, program, words=(), blocked=True, stderr=subprocess.PIPE, env=None, listens=True, folder=None, listen=None, port=None,
-                 bare=False, full=False, before=None, pass_fds=(), change=None):
+                 bare=False, full=False, before=None, pass_fds=(), change=None, plant=True):
         self.folder = folder or stack.enter_context(tempfile.TemporaryDirectory())
-        text = pathlib.Path(PLANT).read_text()
-        pathlib.Path(self.folder, "plant.toml").write_text(text.replace(*change) if change else text)
+        text, at = pathlib.Path(PLANT).read_text(), pathlib.Path(self.folder, "plant.toml")
+        if plant is True:
+            at.write_text(text.replace(*change) if change else text)
+        elif plant is None:
+            at.unlink(missing_ok=True)
+        else:
+            at.write_text(plant)
         self.port = port or free_port()
         listen = [word for it in (listen or [f"127.0.0.1:{self.port}"]) for word in ("--listen", it)]
         words = [program, *words] if bare else [program, "plant.toml", *listen, *words]
@@ -504,9 +509,10 @@ def wrong_words(program):
         shutil.copy(PLANT, os.path.join(folder, "plant.toml"))
         pathlib.Path(folder, "unknown.toml").write_text('description = "plant.toml"\nlisen = "x"\n')
         pathlib.Path(folder, "signal.toml").write_text('description = "plant.toml"\n[[signal]]\nvalues = [1]\n[[signal]]\nramps = 3\n')
-        pathlib.Path(folder, "numbers.toml").write_text('description = "plant.toml"\n[[signal]]\nfile = "numbers.txt"\n')
+        more = '[[signal]]\nvalues = [1]\n' * 2      # a plant without its signals is refused before they are read
+        pathlib.Path(folder, "numbers.toml").write_text(f'description = "plant.toml"\n[[signal]]\nfile = "numbers.txt"\n{more}')
         pathlib.Path(folder, "numbers.txt").write_text("1\n2x\n")
-        pathlib.Path(folder, "recording.toml").write_text('description = "plant.toml"\n[[signal]]\nrecording = "none.db"\nname = "Main.count"\n')
+        pathlib.Path(folder, "recording.toml").write_text(f'description = "plant.toml"\n[[signal]]\nrecording = "none.db"\nname = "Main.count"\n{more}')
         pathlib.Path(folder, "kind.toml").write_text('description = "plant.toml"\nsave_each = "10"\n')
         for words, status, sentence in WRONG:
             it = subprocess.run([program, *words], cwd=folder, capture_output=True, timeout=20)
@@ -527,7 +533,9 @@ def words_of(words):
 
 def main():
     import daemon_disk  # noqa: F401  (they register their tries)
+    import daemon_ends  # noqa: F401
     import daemon_store  # noqa: F401
+    import store_file  # noqa: F401
     programs, given = words_of(sys.argv[1:])
     if not programs or programs[0].startswith("-") or not os.access(programs[0], os.X_OK) or set(given) - TRIES.keys():
         sys.exit(__doc__ + "\nThe tries: " + ", ".join(TRIES))
@@ -547,4 +555,5 @@ if __name__ == "__main__":
     # As a module, so that the tries of the other files stand in the same table.
     sys.dont_write_bytecode = True
     import daemon
+    import daemon_files  # noqa: F401
     sys.exit(daemon.main())

@@ -84,8 +84,8 @@ def lived(words, folder, machine, events, way):
 def one_daemon(program, seed, folder, has):
     """Lives of the daemon over one store; what differs, or None."""
     r, kept, body = random.Random(seed), pathlib.Path(folder, "kept"), None
-    for name in ("kept", "kept.before", "kept.lock"):
-        pathlib.Path(folder, name).unlink(missing_ok=True)
+    for path in pathlib.Path(folder).glob("kept*"):
+        path.unlink()
     d, profile, others = wide_runs.without_signals(random_runs.description(r)), r.choice(("wide", "strict")), r.choice(has.others)
     random_runs.write(folder, "words", f"{profile} {others}\n")
     for life in range(1, r.choice((2, 3, 4))):

@@ -15,6 +15,7 @@ import tempfile
 import time
 
 import killed
+import store
 from daemon import COUNTS, Daemon, expect, frame, free_port, reading, reply, tried, until
 
 TITLE = 72                        # the place of Main.title in examples/plant.toml, a STRING(7) that is persistent
@@ -151,7 +152,8 @@ def a_value_that_fits_nothing(program):
         second = in_folder(stack, program, folder, words, change=('type = "STRING(7)"', 'type = "ARRAY [1..8] OF BYTE"'))
         _, err, status, _ = second.stopped(signal.SIGTERM)
         expect(status == 0 and "no persistent symbol fits the entry Main.title" in err, f"the log says {err!r}")
-        expect(pathlib.Path(folder, "kept.before").read_bytes() == before, "the copy is not what stood there")
+        copies = [store.standing_of(it.read_bytes()) for it in pathlib.Path(folder).glob("kept.before-*")]
+        expect(copies == [store.standing_of(before)], "there is not one copy of what stood there")
         return "told and copied"
 
 
@@ -173,7 +175,8 @@ def a_value_that_came_later(program):
             until(lambda: b"Main.label" in killed.read(kept), "the renamed symbol is not saved", lambda: save(link))
         _, err, status, _ = it.stopped(signal.SIGTERM)
         expect(status == 0 and "no persistent symbol fits the entry Main.title" in err, f"the log says {err!r}")
-        expect(b"Main.title" in before and b"Main.title" in pathlib.Path(folder, "kept.before").read_bytes(), "the copy has not what stood there")
+        copies = [it.read_bytes() for it in pathlib.Path(folder).glob("kept.before-*")]
+        expect(b"Main.title" in before and len(copies) == 1 and b"Main.title" in copies[0], "there is not one copy with what stood there")
         return "told and copied"
 
 

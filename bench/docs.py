@@ -8,9 +8,10 @@
 PROGRAM is crates/ads/out/ads where it is absent (`rt run` in crates/ads builds it, and so does .ci/run). Of a page each block
 ```console is run, line by line in one shell, in a folder of its own that holds the examples: a line `$ ..` is a command, the lines
 behind it are all that it prints. `rt try -- ..` and `rt run -- ..` stand for the program itself. Ports are replaced by free ones.
-The spellings in the table of values are tried, the answers that docs/CONNECTING.md tells asked for (connecting.py; the daemon's too if it
-is built), the cases counted, and the links between the pages followed, in the READMEs of the crates too; a page that a script makes is to
-be what it would make. Each difference is told with its page and line; status 1 where there is one.
+The wrong bodies by name (wrong_bodies.py --named) and the public calls (signatures.py) are held against the crates. The
+spellings in the table of values are tried, the answers that docs/CONNECTING.md tells asked for (connecting.py; the daemon's too
+if it is built), the cases counted, and the links between the pages followed, in the READMEs of the crates too; a page that a
+script makes is to be what it would make. Each difference is told with its page and line; status 1 where there is one.
 """
 import pathlib
 import queue
@@ -24,15 +25,19 @@ import threading
 import time
 
 import connecting
+import start
 
 ROOT = pathlib.Path(__file__).resolve().parent.parent
 LINKED = ["README.md", "bench/README.md", *sorted(str(p.relative_to(ROOT)) for form in ("docs/*.md", "crates/*/README.md") for p in ROOT.glob(form))]
+HELD = (("wrong_bodies.py", "--named"), ("signatures.py",))  # what the crates must have: the wrong bodies by name, the public calls
 MADE = {"docs/CONTRACTS.md": "contracts.py", "docs/BELIEVED.md": "believed.py", "docs/*.1": "manual.py"}
 ADSD = ROOT / "crates/adsd/out/adsd"
 PAGES = [page for page in LINKED if not page.startswith("crates/") and "```console" in (ROOT / page).read_text()]
 MARK = "--- that was it ---"
 RT = 'rt() { if [ "$1" = try ] || [ "$1" = run ]; then shift; [ "$1" = -- ] && shift; ads "$@"; fi; }\n'
 SECONDS = 30
+# Words that all pages together are to have, and may have at most; lines of a crate's README.
+AIM_WORDS, MOST_WORDS, MOST_LINES = 25000, 30000, 40
 
 
 def free_port():
@@ -111,11 +116,34 @@ class Shell:
             self.process.kill()
 
 
+def lines_of_start(is_built=False):
+    """What ./start prints by README.md, with N for the seconds of each step; and where the programs are built already, without these steps."""
+    block = next((wanted for _, command, wanted in blocks("README.md") if command == "./start"), [])
+    lines, steps = [re.sub(r"\b\d+ s$", "N s", line) for line in block], len(start.unproved.STEPS)
+    return lines[1 + steps:] if is_built else lines
+
+
+def of_start(wanted):
+    """A block of ./start with the line that stands there where .ci/run has left the programs, if the lines of the building are those that it prints."""
+    said = [start.BUILDING, *(f"{start.step_text(step)} N s" for step in range(1, len(start.unproved.STEPS) + 1)), start.UNPROVED.format("out/unproved")]
+    proved = start.PROVED.format("crates/ads/out/ads", "crates/adsd/out/adsd")
+    return [proved, *wanted[len(said):]] if lines_of_start()[:len(said)] == said else said
+
+
 def with_ports_of_page(line, ports):
     """A line that was printed, with the ports that the page names in place of the free ones."""
     for port, free in ports.items():
         line = line.replace(f"127.0.0.1:{free}", f"127.0.0.1:{port}")
     return line
+
+
+def with_free_ports(command, ports):
+    """A command with free ports in place of those that it names; ./start names none, and runs beside what follows."""
+    for port in re.findall(r"\b(?:127\.0\.0\.1|0\.0\.0\.0):(\d+)", command) if command != "./start" else ("48898", "8080"):
+        ports.setdefault(port, free_port())
+    if command == "./start":
+        return f"./start --port {ports['48898']} --http {ports['8080']} &"
+    return re.sub(r"(\b(?:127\.0\.0\.1|0\.0\.0\.0):)(\d+)", lambda m: m.group(1) + ports[m.group(2)], command)
 
 
 def try_page(page, program, folder):
@@ -127,13 +155,13 @@ def try_page(page, program, folder):
     shutil.copytree(ROOT / "examples", folder / "examples")
     for name in ("docs", "tools", "bench"):
         (folder / name).symlink_to(ROOT / name)
+    shutil.copy2(ROOT / "start", folder)
     ports, wrong, commands = {}, 0, blocks(page)
     shell = Shell(folder)
     shell.say(f"PATH={folder}/crates/ads/out:$PATH\n")
     for number, command, wanted in commands:
-        for port in re.findall(r"\b(?:127\.0\.0\.1|0\.0\.0\.0):(\d+)", command):
-            ports.setdefault(port, free_port())
-        tried = re.sub(r"(\b(?:127\.0\.0\.1|0\.0\.0\.0):)(\d+)", lambda m: m.group(1) + ports[m.group(2)], command)
+        tried = with_free_ports(command, ports)
+        wanted = of_start(wanted) if command == "./start" else wanted
         got = [with_ports_of_page(line, ports) for line in shell.run(tried, len(wanted))]
         if got != wanted:
             wrong += 1
@@ -215,11 +243,37 @@ def try_made():
     return sum(subprocess.run([sys.executable, ROOT / "bench" / script, "--check"], cwd=ROOT).returncode != 0 for script in MADE.values())
 
 
+def try_held():
+    """The crates have the wrong bodies of bench/wrong_bodies.md and the calls of bench/calls.txt; what they say of it is printed where something is missing."""
+    wrong = 0
+    for script, *words in HELD:
+        ran = subprocess.run([sys.executable, ROOT / "bench" / script, *words], cwd=ROOT, stdout=subprocess.PIPE, text=True)
+        said = ran.stdout.splitlines()
+        print("\n".join(said if ran.returncode else said[-1:]))
+        wrong += ran.returncode != 0
+    return wrong
+
+
 def count_words():
-    """How many words a reader of the pages has before him, without those that scripts make."""
+    """How many words a reader of the pages has before him, without code and what scripts make; status 1 where they are too many."""
     pages = [page for page in LINKED if page.startswith(("README", "docs/")) and page not in MADE]
-    texts = [re.sub(r"<!-- made .*?<!-- end .*?-->", "", (ROOT / page).read_text(), flags=re.S) for page in pages]
-    print(f"{sum(len(text.split()) for text in texts):,} words in {len(pages)} pages, and what scripts make")
+    texts = [re.sub(r"<!-- made .*?<!-- end .*?-->|```.*?```", "", (ROOT / page).read_text(), flags=re.S) for page in pages]
+    count = sum(bool(re.search(r"\w", word)) for text in texts for word in text.split())
+    print(f"{count:,} words in {len(pages)} pages, which are to have {AIM_WORDS:,}, and at most {MOST_WORDS:,}; and code, and what scripts make")
+    return count > MOST_WORDS
+
+
+def look_at_readmes():
+    """Each crate's README has an example, and few lines; gives how many have not."""
+    wrong, pages = 0, [page for page in LINKED if page.startswith("crates/")]
+    for page in pages:
+        text = (ROOT / page).read_text()
+        lines, blocks = text.count("\n"), len(re.findall(r"^```(?:rust|antt|sh|text)$", text, re.M))
+        if lines > MOST_LINES or not blocks:
+            wrong += 1
+            print(f"{page}: " + (f"{lines} lines, of at most {MOST_LINES}" if blocks else "no example of a call (```rust; of definitions ```antt, of a program ```sh or ```text)"))
+    print(f"{len(pages)} READMEs of crates, {wrong} of them too long or without an example")
+    return wrong
 
 
 def anchors(path):
@@ -247,13 +301,24 @@ def follow_links(page):
     return count, wrong
 
 
+def names_of_package(page):
+    """How many tools and examples of the package a page names that are not there."""
+    text = (ROOT / page).read_text()
+    named = [f"tools/{it}.py" for it in re.findall(r"\bads-tool ([a-z]+)", text)] + re.findall(r"/usr/share/doc/ads/(examples/[\w.@-]+\w)", text)
+    wrong = [it for it in named if not (ROOT / it).exists()]
+    for it in wrong:
+        print(f"{page}: the package has no {it}")
+    return len(wrong)
+
+
 def look_at_pages():
     """What needs no program: how much of it is wrong."""
     counts = [follow_links(page) for page in LINKED]
     wrong = sum(w for _, w in counts)
     print(f"{sum(c for c, _ in counts)} links, {wrong} of them lead nowhere")
-    count_words()
-    return wrong + try_made() + connecting.try_table()
+    wrong += count_words() + look_at_readmes()
+    wrong += sum(names_of_package(page) for page in LINKED)
+    return wrong + try_made() + try_held() + connecting.try_table()
 
 
 def main(words):

@@ -5,7 +5,7 @@ tools/history.py fails in turn, or is the one at which the program is killed; th
     python3 bench/injected.py ADS ADSD [--runs N] [--short] [--only SCENE] [--call NAME] [--fault WORD] [--at K] [--jobs N]
 
 ADS and ADSD are the built programs; it needs Debian's strace. A first run of each scene counts its calls (openat, write and pwrite64, fsync and fdatasync,
-rename, ftruncate, unlink) on the file, on what stands beside it and on its folder. Then the K-th call of a name fails with EIO, with ENOSPC, with EIO
+link, rename, ftruncate, unlink) on the file, on what stands beside it and on its folder. Then the K-th call of a name fails with EIO, with ENOSPC, with EIO
 together with all behind it, or is not made because the program is killed at it. `--runs N` tries at most N calls of each name and fault (else all),
 `--short` one, of EIO and of the kill, in less than a minute. It prints a table of what was seen, and how often. Each run that differed is told on standard
 error with the words that repeat it; then the status is 1.
@@ -15,7 +15,7 @@ What must hold, of each scene:
 - keep, keep on top: status 14 and its line; the file stands for what the model of the store says (bench/store.py); so does that of the next run.
 - adsd: the file stands for one save, its values are of one moment, none older than the last save that the log told. The daemon tells `store fault`, counts it,
   serves on and saves later, or it ends with 14. The next start serves what stands there.
-- adsd, a name is gone: the old value stands in the store or in its copy with .before, which is never a part, or the log says that there can be no copy.
+- adsd, a name is gone: the old value stands in the store, or in a copy with .before-, which is never a part.
 - adsd, its status file: it serves on and ends with 0; the file is whole where it is there.
 - record, record on top: the rows that stood and a first part of the others, each once, with their totals; status 16, or 0 and all rows. The next run goes on
   behind them.
@@ -53,7 +53,7 @@ from tries.fake_plant import FakePlant  # noqa: E402
 from tries.history_checks import of_sqlite, sound  # noqa: E402
 from tries.running import ME, NET, Wrong  # noqa: E402
 
-CALLS = ("openat", "write", "pwrite64", "fsync", "fdatasync", "rename", "renameat", "renameat2", "ftruncate", "truncate", "unlink", "unlinkat")
+CALLS = ("openat", "write", "pwrite64", "fsync", "fdatasync", "link", "linkat", "rename", "renameat", "renameat2", "ftruncate", "truncate", "unlink", "unlinkat")
 FAULTS = {"EIO": "error=EIO:when={}", "KILL": "signal=KILL:when={}", "ENOSPC": "error=ENOSPC:when={}", "EIO from there on": "error=EIO:when={}+"}
 SHORT = ("EIO", "KILL")
 HISTORY = os.path.join(HERE, "..", "tools", "history.py")
@@ -185,7 +185,7 @@ build = 0
 data = 64
 """ + "".join(f'[[port.symbol]]\nname = "Kept.a{k}"\ntype = "UDINT"\narea = "data"\noffset = {4 * k}\npersistent = true\n' for k in range(PARTS))
 ANOTHER = PLANT.replace("Kept.a0", "Kept.b0")
-STORE = ("kept", "kept.lock", "kept.before", "kept.before.new", ".")
+STORE = ("kept", "kept.part-1", ".")
 KEEPS = ("--store", "kept", "--save-each", "1")
 
 
@@ -347,15 +347,15 @@ class Gone(Adsd):
 
     def kept(self, spot, run):
         """Where the old value is."""
-        values, copy = values_in(spot.folder), killed.read(spot.folder / "kept.before")
-        see(copy in (b"", self.before), f"the copy has {len(copy)} bytes, and is not what stood")
+        values, copies = values_in(spot.folder), [killed.read(path) for path in spot.folder.glob("kept.before-*")]
+        stood = store.standing_of(self.before)
+        see(all(store.standing_of(copy) == stood for copy in copies), f"the copies, of {[len(copy) for copy in copies]} bytes, are not what stood")
+        see(len(copies) <= 1 or spot.fault, f"one change made {len(copies)} copies")
         see(all(value == self.OLD for name, value in values.items() if name != "Kept.b0") and values.get("Kept.b0", 0) == 0, f"the store has {values}")
         if values.get("Kept.a0") == self.OLD:
             return "in the store"
-        if copy:
-            return "in the copy"
-        see(run.lines("cannot be copied"), f"the old value is lost, and the log says {run.lines('')}")
-        return "lost, as the log tells"
+        see(copies, f"the old value is lost, and the log says {run.lines('')}")
+        return "in the copy"
 
 
 class StatusFile(Adsd):

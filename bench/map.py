@@ -87,7 +87,7 @@ def faults(groups, crates):
                 if use in crates and use not in seen:
                     yield f"{name} stands above {use}, which it uses"
             for other in crates:
-                if other != name and other not in crate.uses and re.search(rf"(use|Rattle\.|^|\W){other}(::|\.specs)", crate.text):
+                if other != name and other not in crate.uses and other in crate.text and re.search(rf"(use|Rattle\.|^|\W){other}(::|\.specs)", crate.text):
                     yield f"{name}: a file names {other}, which its line lacks"
             if name.startswith("spec_") and crate.has_bodies():
                 yield f"{name}: definitions alone are called spec_, and this one has code"
@@ -96,8 +96,8 @@ def faults(groups, crates):
             seen.add(name)
 
 
-def chain(crates):
-    """The longest chain of crates that hold code, the lowest first."""
+def chain(crates, top=None):
+    """The longest chain of crates that hold code, the lowest first; of those that end with a crate, if it is named."""
     best = {}
 
     def longest(name):
@@ -109,7 +109,20 @@ def chain(crates):
     def weight(names):
         return sum(1 for it in names if not it.startswith("spec_")), sum(crates[it].code for it in names)
 
-    return max((longest(it) for it in crates), key=weight)
+    return longest(top) if top else max((longest(it) for it in crates), key=weight)
+
+
+def with_code(names):
+    return [it for it in names if not it.startswith("spec_")]
+
+
+def parts_of_chain(names, groups):
+    """How many crates of a chain stand in each group, a phrase a group."""
+    of = {name: title.split(":")[0] for title, held in groups for name in held}
+    counts = {}
+    for name in names:
+        counts[of[name]] = counts.get(of[name], 0) + 1
+    return ", ".join(f"{count} of {title}" for title, count in counts.items())
 
 
 def table(groups, crates):
@@ -126,11 +139,15 @@ def table(groups, crates):
 
 def made_text(groups, crates):
     names = chain(crates)
-    proving = [it for it in names if not it.startswith("spec_")]
+    proving = with_code(names)
+    below = {it: len(with_code(chain(crates, it))) for it in ("server_core", "client_loop", "local_link")}
     return [
         *table(groups, crates),
         "",
-        f"The longest chain has {len(proving)} crates with code: " + ", ".join(f"`{it}`" for it in names) + ".",
+        f"The longest chain has {len(proving)} crates with code: " + ", ".join(f"`{it}`" for it in names) + "."
+        f" They are {parts_of_chain(proving, groups)}. The server's chain has {below['server_core']}, to `server_core`,"
+        f" the client's {below['client_loop']}, to `client_loop`, and a client over the server in one process {below['local_link']}, to `local_link`;"
+        " the others are the commands and the programs.",
     ]
 
 

@@ -1,10 +1,11 @@
 #!/usr/bin/env python3
 """Tries tools/page.py in a real browser: a line a check, then a count; status 1 where one is wrong.
 
-    python3 bench/page.py [PROGRAM] [--shots FOLDER] [--cost]
+    python3 bench/page.py [PROGRAM] [--shots FOLDER] [--cost] [--operated]
 
 PROGRAM is crates/ads/out/ads where it is absent. It needs Debian's chromium and chromium-driver, and nothing else. `--shots` keeps pictures of the page.
 `--cost` prints instead what the page costs: 134 symbols of which all change ten times a second, with no browser, one and ten.
+`--operated` looks only at what is for who operates a plant: alarms, units, limits, bits, groups, several values in one plot.
 """
 import argparse
 import contextlib
@@ -22,6 +23,7 @@ sys.path.insert(0, str(ROOT / "tools"))
 from browser import Driver, Failed  # noqa: E402
 from lib.frames import READ_WRITE  # noqa: E402
 from lib.payloads import Request  # noqa: E402
+from page_operated import operated  # noqa: E402
 from page_parts import ROW, SAID, Tried, filters, forms, hostile, keyboard, parts, plots, values, widths  # noqa: E402
 from tries.counting import Counting  # noqa: E402
 from tries.paged import PLANT, READER, Page, Rig, Stream, put  # noqa: E402
@@ -130,7 +132,12 @@ def ten_browsers(it):
         it.see(it.until(ROW + "return row('Main.wave').main.textContent !== arguments[0]", moved), "and all of them go on")
 
 
-def tried(program, shots):
+def ended(it):
+    print(f"{it.right + it.wrong} checks, {it.wrong} wrong")
+    return 1 if it.wrong else 0
+
+
+def tried(program, shots, only_operated=False):
     with contextlib.ExitStack() as stack:
         folder = stack.enter_context(tempfile.TemporaryDirectory())
         place = os.path.join(folder, "plant.toml")
@@ -138,6 +145,10 @@ def tried(program, shots):
         it = Tried(program, stack.enter_context(Driver()), shots)
         it.browser.size(1200, 900)
         it.browser.dark(False)
+        operated(it, folder)
+        if only_operated:
+            return ended(it)
+        it.browser.size(1200, 900)
         it.server = stack.enter_context(Served(program, place))
         it.between = stack.enter_context(Counting(it.server.to))
         page = stack.enter_context(Page(place, it.between.to, *(word for name in WRITTEN for word in ("--write", name))))
@@ -151,8 +162,7 @@ def tried(program, shots):
         restarted(it, place)
         rights(it)
         many_symbols(it, folder)
-    print(f"{it.right + it.wrong} checks, {it.wrong} wrong")
-    return 1 if it.wrong else 0
+    return ended(it)
 
 
 def cost(program, seconds=10):
@@ -190,6 +200,7 @@ def main():
     it.add_argument("program", nargs="?", default=str(ROOT / "crates/ads/out/ads"), type=os.path.abspath)
     it.add_argument("--shots", type=os.path.abspath)
     it.add_argument("--cost", action="store_true")
+    it.add_argument("--operated", action="store_true")
     given = it.parse_args()
     if not os.access(given.program, os.X_OK):
         print(f"there is no program at {given.program}: `rt run` in crates/ads builds it")
@@ -197,7 +208,7 @@ def main():
     if given.shots:
         os.makedirs(given.shots, exist_ok=True)
     try:
-        return cost(given.program) if given.cost else tried(given.program, given.shots)
+        return cost(given.program) if given.cost else tried(given.program, given.shots, given.operated)
     except (Failed, Wrong) as fault:
         print(f"WRONG  {fault}")
         return 1

@@ -151,7 +151,7 @@ def plots(it):
     it.click("Main.wave")
     opened = it.until("return !document.getElementById('plot').hidden && document.querySelectorAll('#plot svg text').length > 4")
     it.see(opened, "a click opens a plot with its axes")
-    first = it.browser.script(path)
+    first = it.until(path)
     time.sleep(1.2)
     it.see(first and it.browser.script(path) != first, "which is drawn on as values come")
     it.see(it.title() == "Main.wave", "its title is the name", it.title())

@@ -227,10 +227,10 @@ class Try:
         old = entries.get((TITLE, b"string(7)"))
         if old is not None and (len(entries) != 1 or old not in ((NEW,) if status == 0 else (OLD, NEW))):
             raise Wrong(f"status {status}, and the store has {entries}")
-        copy = self.folder / "kept.before"
-        if copy.exists() and store.standing_of(copy.read_bytes()) is None:
-            raise Wrong("a part of the copy stands with .before behind the store's name")
-        if old is None and not copy.exists() and "cannot be copied" not in self.log():
+        copies = list(self.folder.glob("kept.before-*"))
+        if any(store.standing_of(copy.read_bytes()) is None for copy in copies):
+            raise Wrong("a part of a copy stands with .before- behind the store's name")
+        if old is None and not copies:
             raise Wrong(f"the value that fits no symbol any more is gone, there is no copy, and the log says {self.log()[-300:]!r}")
 
 

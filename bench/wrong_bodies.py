@@ -6,6 +6,7 @@
     python3 bench/wrong_bodies.py --by COMMAND NAME..     the same by a command of one's own, one edit after another
     python3 bench/wrong_bodies.py --table FOLDER          proves nothing: a table of what the files NAME.txt of a folder say
     python3 bench/wrong_bodies.py --look     proves nothing: tells which edits of must-fail/ and of wrong-bodies/ no longer apply
+    python3 bench/wrong_bodies.py --named    proves nothing: the list of wrong_bodies.md; status 1 where an edit or its clause is gone
 
 An edit has the form of those in must-fail/: a line `file: src/lib.rt`, and pairs of lines `old: TEXT` and `new: TEXT`. The tree is copied into a scratch
 folder without what rt made; there the edits stand in must-fail/, alone, and `rt must-fail NAME` tries them. Nothing in the tree is changed. It begins with
@@ -298,6 +299,59 @@ def look():
     return lacking
 
 
+def rows_of_list():
+    """The rows of bench/wrong_bodies.md: what a body does wrong, its edits, what refuses them, and who tries them."""
+    with open("bench/wrong_bodies.md", encoding="utf-8") as it:
+        for line in it:
+            cells = [cell.strip() for cell in line.strip().strip("|").split(" | ")]
+            if len(cells) == 4 and cells[1].startswith("`"):
+                yield cells[0], re.findall(r"`(\w+)/(\w+)`", cells[1]), cells[2], cells[3]
+
+
+def clauses_of(crate, function):
+    """The names of what the functions of this name in a crate promise, and the empty name where one has a clause without a name."""
+    heads = []
+    for folder, _, files in os.walk(f"crates/{crate}/src"):
+        for file in files:
+            with open(f"{folder}/{file}", encoding="utf-8") as it:
+                heads += re.findall(rf"\bfn {function}\b(.*?)(?:\n *\{{|;)\n", it.read(), re.DOTALL)
+    return {name for head in heads for name in re.findall(r"\bensures (?:(\w+) )?\{", head)}, bool(heads)
+
+
+def lacks(edits, refused, tried_by):
+    """What of a row of the list is not there, a sentence each."""
+    for crate, name in edits:
+        folder = f"crates/{crate}/" + ("must-fail" if tried_by == "the gate" else "wrong-bodies")
+        if not os.path.isfile(f"{folder}/{name}.edit"):
+            yield f"{folder}/{name}.edit is not there"
+        elif why_not(f"{folder}/{name}.edit", crate):
+            yield f"{folder}/{name}.edit: {why_not(f'{folder}/{name}.edit', crate)}"
+    named = [(clause, function) for clause, function in re.findall(r"`(\w+)` of `(?:\w+::)?(\w+)`", refused)]
+    named += [("", function) for function in re.findall(r"the clause of `(?:\w+::)?(\w+)`", refused)]
+    for clause, function in named:
+        # (the promises of a trait's call stand in its crate)
+        clauses, is_there = clauses_of("sum_commands" if "PartService" in refused else edits[0][0], function)
+        if not is_there or clause not in clauses:
+            yield f"no function {function} of {edits[0][0]} has " + (f"a clause {clause}" if clause else "a clause without a name")
+    if not edits or not named:
+        yield "a row without an edit or without what refuses it"
+
+
+def named():
+    """Prints the list, and returns how much of it is not there."""
+    count = lacking = 0
+    for what, edits, refused, tried_by in rows_of_list():
+        wrong = list(lacks(edits, refused, tried_by))
+        count, lacking = count + len(edits), lacking + len(wrong)
+        for crate, name in edits:
+            path = next((it for it in (f"crates/{crate}/{kind}/{name}.edit" for kind in ("must-fail", "wrong-bodies")) if os.path.isfile(it)), None)
+            where = sorted({f"crates/{crate}/{file}" for file, _, _ in pairs_of(path)}) if path else []
+            print(f"{crate}/{name}: {what}\n    in {' '.join(where) or '(no file)'}; refused by {refused}; tried by {tried_by}")
+        print("".join(f"    MISSING: {it}\n" for it in wrong), end="")
+    print(f"{count} wrong bodies by name, {lacking} of them lack something")
+    return lacking if count else 1
+
+
 def told_in(folder, crate):
     """What the file of a crate says of each edit; the last line on an edit counts."""
     path = f"{folder}/{crate}.txt"
@@ -332,6 +386,8 @@ def main():
         return 0
     if sys.argv[1:] == ["--look"]:
         return 1 if look() else 0
+    if sys.argv[1:] == ["--named"]:
+        return 1 if named() else 0
     words = sys.argv[1:]
     command = None
     if words[:1] == ["--by"] and len(words) > 1:

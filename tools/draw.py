@@ -20,6 +20,7 @@ import sys
 import xml.sax.saxutils
 
 sys.path.insert(0, os.path.dirname(os.path.abspath(__file__)))
+from lib.near import closest  # noqa: E402
 from lib.words import Ended, run  # noqa: E402
 
 FORMS = {"SINT": "b", "USINT": "B", "BOOL": "B", "INT": "h", "UINT": "H", "DINT": "i", "UDINT": "I", "LINT": "q", "ULINT": "Q", "REAL": "f", "LREAL": "d"}
@@ -108,7 +109,9 @@ def drawn_of(base, file, names):
     for name, kind in names or [(name, None) for name in known]:
         points = series_of(base, name, kind)
         if not points:
-            raise Ended(f"draw.py: {shown(name)} has no sample in {file}; it has {', '.join(map(shown, known)) or 'none'}", 2)
+            near = closest(shown(name), map(shown, known))
+            right = f"is {near} meant?" if near else f"it has {', '.join(map(shown, known[:20])) or 'none'}" + (", .." if known[20:] else "")
+            raise Ended(f"draw.py: {shown(name)} has no sample in {file}; {right}", 2)
         drawn.append((name, points))
     if not drawn:
         raise Ended(f"draw.py: {file} has no sample", 2)

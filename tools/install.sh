@@ -59,13 +59,13 @@ put() { # MODE FILE PLACE
 work=$(mktemp -d)
 trap 'rm -rf "$work"' EXIT
 trap 'exit 1' HUP INT TERM
-units="ads.service ads@.service adsd.service adsd@.service"
+units="ads.service ads@.service adsd.service adsd@.service ads-discover.service"
 for unit in $units; do
     sed "s#/usr/local/#$prefix/#g" "$top/examples/$unit" >"$work/$unit"
 done
 echo 'u ads - "ADS server"' >"$work/ads.conf"
 # The signals wait until the program looks for them, in a terminal too.
-printf '#!/bin/sh\nexec env --block-signal=TERM,INT,HUP %s "$@"\n' "$prefix/libexec/ads/adsd" >"$work/adsd"
+printf '#!/bin/sh\nexec env --block-signal=TERM,INT,HUP,XFSZ %s "$@"\n' "$prefix/libexec/ads/adsd" >"$work/adsd"
 {
     printf '#!/bin/sh\n# Runs a tool by its name: ads-tool values get ..\ntools=%s\n' "$prefix/share/ads/tools"
     cat <<'END_OF_TOOL'
@@ -77,6 +77,7 @@ case $name in
 *) [ -f "$tools/$name.py" ] ;;
 esac || { echo "ads-tool: '$name' is no tool; these are: $names" >&2 && exit 1; }
 command -v python3 >/dev/null || { echo "ads-tool: there is no python3: apt install python3" >&2 && exit 4; }
+python3 -c 'import json' 2>/dev/null || { echo "ads-tool: python3 lacks its standard library, as python3-minimal does: apt install python3" >&2 && exit 4; }
 shift
 exec python3 "$tools/$name.py" "$@"
 END_OF_TOOL

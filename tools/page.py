@@ -8,8 +8,13 @@ the server was started with. The page is one client of the server, with the NetI
 
 `--http HOST:PORT` is where browsers find it; whoever reaches that sees all values. `--host NAME` is a name that it is called by, beside localhost and
 addresses; it may stand more than once. `--write NAME` gives a form for this value, with the rights of the route `--me`; it may stand more than once, and
-without one nothing can be written. `--netid` is the NetId of the server where it is not the description's, `--port N` an AMS port that is shown (all are; it
+without one nothing can be written. NAME may be an array of structures: it is then a table of recipes, of which one is written whole. `--netid` is the NetId of the server where it is not the description's, `--port N` an AMS port that is shown (all are; it
 may stand more than once), `--cycle MS` how often changes come (100), `--seconds` how long an answer may take (5).
+
+Units, limits, names of bits, alarms and groups are those of PLANT.page.toml beside the description, which tools/plant.py writes; `--words FILE` names
+another file. `--state FILE` keeps the list of alarms and the log of writes over a restart. `--user-header NAME` is the header by which a web server before this
+page says who asks; without it the log has addresses. `--history FILE`, or a URL as postgresql://.., is a history that tools/history.py records: plots then go back
+up to seven days. It is only read.
 
 /values.json has all values, /history.json?name=NAME the last minutes of one, /metrics what Prometheus reads, and /healthz the status 200 while the server
 answers, else 503.
@@ -18,12 +23,17 @@ It runs until it is ended. The status is 1 for wrong words, 2 for a description 
 """
 import asyncio
 import os
+import re
 import sys
 
 sys.path.insert(0, os.path.dirname(os.path.abspath(__file__)))
 from lib.link import host_of, net_of  # noqa: E402
+from lib.near import meant_in  # noqa: E402
+from lib.page_history import History  # noqa: E402
+from lib.page_recipes import is_recipes  # noqa: E402
 from lib.plant import steps_of  # noqa: E402
 from lib.routes import Routes, say  # noqa: E402
+from lib.type_texts import lower  # noqa: E402
 from lib.watcher import Watcher  # noqa: E402
 from lib.words import Ended, number, read_words, run  # noqa: E402
 
@@ -47,14 +57,29 @@ def names_of(given):
     return found
 
 
+def header_of(name):
+    if name and not re.fullmatch("[A-Za-z0-9-]{1,64}", name):
+        raise Ended(f"--user-header is the name of a header, such as X-Remote-User, and {name!r} is none")
+    return name
+
+
+def parts_port(ports, path):
+    """The first port that has a path."""
+    return next(number for number in ports if ports[number].find(path))
+
+
 def writable(watcher, names):
-    """Sees that each name that may be written is a plain value of the description."""
+    """Sees that each name that may be written is a plain value of the description, or a symbol that is an array of structures."""
     for port, path in names:
         own = watcher.plant.ports
         parts = [it for it in (own[number].find(path) for number in ([port] if port else own) if number in own) if it]
         if not parts:
-            raise Ended(f"{watcher.file} has no {path}: --write names a value of it")
+            asked = [number for number in ([port] if port else list(own)[:1]) if number in own]
+            near = "".join(meant_in(own[number], path) for number in asked)
+            raise Ended(f"{watcher.file} has no {path}: --write names a value of it{near}")
         named = parts[0].shape.named()
+        if is_recipes(parts[0].shape) and lower(path) in own[port or parts_port(own, path)].symbols:
+            continue
         if parts[0].shape.ends or (named and not named.base):
             raise Ended(f"{path} has parts: --write names a plain value in it, such as {path}{'[1]' if parts[0].shape.ends else '.' + named.members[0].name}")
 
@@ -75,15 +100,17 @@ async def serve(routes, host, port):
 
 def main(words):
     (file,), options = read_words(words, __doc__, ["PLANT"], {
-        "to": None, "me": None, "netid": "", "http": "127.0.0.1:8080", "host": [], "write": [], "port": [], "cycle": "100", "seconds": "5"})
+        "to": None, "me": None, "netid": "", "http": "127.0.0.1:8080", "host": [], "write": [], "port": [], "cycle": "100", "seconds": "5", "words": "", "state": "",
+        "user-header": "", "history": ""})
     host_of(options["to"])
     me, net = net_of(options["me"], "--me"), net_of(options["netid"], "--netid") if options["netid"] else None
     ports = [number(port, "--port", 1, 65535) for port in options["port"]]
     cycle, seconds = number(options["cycle"], "--cycle", 10, 60000), number(options["seconds"], "--seconds", 1, 60)
     (host, port), names = http_of(options["http"]), names_of(options["write"])
-    watcher = Watcher(file, options["to"], me, net, ports, 10000 * cycle, seconds, None)
+    watcher = Watcher(file, options["to"], me, net, ports, 10000 * cycle, seconds, None, options["words"])
     writable(watcher, names)
-    asyncio.run(serve(Routes(watcher, names, options["host"]), host, port))
+    history = History(options["history"]) if options["history"] else None
+    asyncio.run(serve(Routes(watcher, names, options["host"], options["state"], header_of(options["user-header"]), history), host, port))
     return 0
 
 

@@ -1,7 +1,7 @@
 #!/usr/bin/env python3
 """Writes a description as people write one, imports one from TwinCAT, and changes one under a running server: for whoever puts a plant into operation.
 
-    python3 tools/plant.py build LINE [--before PLANT] [--out FILE]
+    python3 tools/plant.py build LINE [--before PLANT] [--config FILE | --signals N] [--out FILE]
     python3 tools/plant.py import FILE [--net NETID] [--route NETID=RIGHTS] [--port N] [--offsets] [--out FILE]
 
     python3 tools/plant.py build examples/line.toml --out plant.toml
@@ -10,7 +10,11 @@
 `area` ("data"), `major`, `minor`, `build` (1, 0, 0) and the numbers of an enumeration. Values stand as they are: -5, 1.5, true, "Kühl 1", "Running",
 [1, 2, 3], { name = "Water", volume = 500.0 }, "T#1m30s", or hexadecimal as in a description. Members of structures may have an `initial`, too. A name
 may have ranges: Valve{1..24} stands for 24 symbols. With --before PLANT each symbol that a running server keeps (of the same port, name and type) keeps its
-place, and new ones stand behind all that was there. Every description is a line, and builds to itself.
+place, and new ones stand behind all that was there. Every description is a line, and builds to itself. A symbol may have one of the three signals of `ads`;
+for `adsd`, --config names its configuration, whose signals count, or --signals says how many there are.
+
+A symbol or a member may say what a page shows beside its value: `unit`, `min`, `max`, `low`, `high`, `bits`, `alarm`, and a symbol its `group`. With --out
+these stand beside the description, in PLANT.page.toml, where tools/page.py finds them; docs/PLANT.md has the table of them.
 
 `import` writes a line from a TMC file of TwinCAT 3, a TPY file of TwinCAT 2, or a PLCopen XML export: its symbols, structures, enumerations, arrays, initial
 values and persistent marks. What can't be carried over is noted in a comment at its place. The readers are written from the published forms of these files and
@@ -31,7 +35,9 @@ from lib.files import read_bytes, write_text  # noqa: E402
 from lib.import_model import NoImport  # noqa: E402
 from lib.importing import imported  # noqa: E402
 from lib.link import net_of  # noqa: E402
+from lib.page_words import WRITTEN, beside, empty_text  # noqa: E402
 from lib.rules_nets import RIGHTS  # noqa: E402
+from lib.signals import MOST, THREE, signals_of  # noqa: E402
 from lib.verdict import verdict_on  # noqa: E402
 from lib.words import Ended, number, read_words, run  # noqa: E402
 from lib.xml_tree import MOST_BYTES, XmlFault  # noqa: E402
@@ -47,10 +53,15 @@ def told(name, built):
 def before_of(name):
     if not name:
         return None
-    verdict = verdict_on(read_bytes(name))
+    verdict = verdict_on(read_bytes(name), MOST)
     if verdict.status:
         raise Ended(f"{name} is refused: {verdict.lines[0]}; --before is the description that the server has; tools/why.py {name} says why", 2)
     return verdict
+
+
+def beyond(document):
+    """Whether a symbol has a signal that `ads` has not."""
+    return any(symbol["signal"] is not None and symbol["signal"] >= THREE for port in document["port"] for symbol in port["symbol"])
 
 
 def written(text, out, said):
@@ -69,16 +80,27 @@ def named(symbols):
 
 
 def build_line(name, options):
-    built = build(read_bytes(name), os.path.basename(name), before_of(options["before"]))
+    built = build(read_bytes(name), os.path.basename(name), before_of(options["before"]), signals_of(options))
     if built.faults:
         told(name, built)
     said = [f"{options['out']}: {line}" for line in built.verdict.lines]
     if built.before:
         it = built.before
         said.append(f"kept in their places: {len(it.kept)}; moved with their values: {named(it.moved)}; new: {named(it.fresh)}; gone: {named(it.gone)}")
+    if beyond(built.verdict.document):
+        said.append(f"it has signals of adsd: `adsd check {options['config'] or 'CONFIG'}` checks it; `ads` has three, and refuses it by rule 14")
     if options["out"] and os.path.exists(options["out"]) and os.path.samefile(options["out"], name):
         raise Ended(f"--out {options['out']} is the line itself; name another file", 1)
-    return written(built.text, options["out"], said)
+    written(built.text, options["out"], said)
+    if options["out"]:
+        write_page(built.page, beside(options["out"]), os.path.basename(name))
+    return 0
+
+
+def write_page(text, name, line):
+    """The words of a page beside the description; where a line says none, none stay of an earlier one."""
+    if text or (os.path.exists(name) and read_bytes(name, 200).startswith(WRITTEN.encode())):
+        write_text(name, text or empty_text(line))
 
 
 def import_file(name, options):
@@ -97,7 +119,7 @@ def import_file(name, options):
 
 def main(words):
     (what, name), options = read_words(words, __doc__, ["build or import", "FILE"], {
-        "before": "", "out": "", "net": "", "route": [], "port": "", "offsets": False})
+        "before": "", "out": "", "net": "", "route": [], "port": "", "offsets": False, "config": "", "signals": ""})
     if what == "build":
         wrong = [f"--{key}" for key in ("net", "route", "port", "offsets") if options[key]]
         if wrong:
@@ -105,8 +127,9 @@ def main(words):
         return build_line(name, options)
     if what != "import":
         raise Ended(f"{what!r} is neither build nor import; --help says more")
-    if options["before"]:
-        raise Ended("--before is an option of build; --help says more")
+    wrong = [f"--{key}" for key in ("before", "config", "signals") if options[key]]
+    if wrong:
+        raise Ended(f"{wrong[0]} is an option of build; --help says more")
     return import_file(name, options)
 
 

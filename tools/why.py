@@ -3,6 +3,9 @@
 
     python3 tools/why.py examples/overlap.toml
 
+`ads` has three signals; those of `adsd` are told by `--config FILE`, its configuration, or by `--signals N`. The configuration may stand in place of the
+description, which it names.
+
 The first line is the very line that `ads check DESCRIPTION` prints. Behind it stands every fault, not the least alone: each broken rule in words, and for each
 place at which it is broken the file and its line, what is meant (a symbol, type, member, value, route or port), the key, why, and what would be right. Of one
 rule at most 20 places are printed. Where the text is no TOML document, the faults of what could be read of it follow. An accepted description has the lines of
@@ -14,9 +17,11 @@ import os
 import sys
 
 sys.path.insert(0, os.path.dirname(os.path.abspath(__file__)))
+from lib.files import read_bytes  # noqa: E402
 from lib.rule_words import WORDS  # noqa: E402
+from lib.signals import config_in, signals_of  # noqa: E402
 from lib.verdict import LONGEST, verdict_on  # noqa: E402
-from lib.words import read_words, run  # noqa: E402
+from lib.words import Ended, read_words, run  # noqa: E402
 
 MOST = 20
 
@@ -35,16 +40,22 @@ def explained(it, name):
     return lines
 
 
-def main(words):
-    (name,), _ = read_words(words, __doc__, ["DESCRIPTION"], {})
+def taken(name):
     try:
-        with open(name, "rb") as file:
-            given = file.read(LONGEST + 1)
-    except OSError as fault:
+        return read_bytes(name, LONGEST + 1)
+    except Ended:
         print("ads: read fault")
-        print(f"{name}: {fault.strerror}")
-        return 4
-    it = verdict_on(given)
+        raise
+
+
+def main(words):
+    (name,), options = read_words(words, __doc__, ["DESCRIPTION"], {"config": "", "signals": ""})
+    signals = signals_of(options)
+    given = taken(name)
+    config = config_in(given, name)
+    if config:
+        name, given = config.description, taken(config.description)
+    it = verdict_on(given, config.signals if config and not (options["config"] or options["signals"]) else signals)
     for line in it.lines + explained(it, name):
         print(line)
     return it.status

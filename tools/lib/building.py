@@ -5,22 +5,26 @@ from lib.line_comments import Comments
 from lib.line_reading import read_line
 from lib.line_text import description_text
 from lib.line_values import LineValues
+from lib.page_words import page_text, wrong_words
 from lib.placing import Before, place_all
 from lib.rules_symbols import wrong_type
 from lib.rules_types import LIMIT, wrong_part
+from lib.signals import THREE
 from lib.toml_all import AllReader
 from lib.toml_text import Places, TomlFault, text_of
 from lib.type_texts import NoType
-from lib.verdict import LONGEST, SIGNALS, rules_of, verdict_on
+from lib.verdict import LONGEST, rules_of, verdict_on
 
 
 MOST = 50
 
 
 class Built:
-    """`text` is the description; `faults` are lines without the file's name, the first of `count`, and where there are some there is no text."""
+    """`text` is the description, `page` what a page shows beside its values, None where the line says nothing of that; `faults` are lines without the file's
+    name, the first of `count`, and where there are some there is no text."""
 
     def __init__(self):
+        self.page = None
         self.text, self.faults, self.count, self.before, self.verdict = None, [], 0, None, None
 
     def wrong(self, lines, count=1):
@@ -28,7 +32,7 @@ class Built:
         return self
 
 
-def build(given, name, before=None, signals=SIGNALS):
+def build(given, name, before=None, signals=THREE):
     """What the bytes of a line come to; `before` is the verdict on the description that was served."""
     it, broken = Built(), []
     if len(given) > LONGEST:
@@ -45,7 +49,7 @@ def build(given, name, before=None, signals=SIGNALS):
     types, shapes = finished(d, broken, it.before, signals)
     if broken:
         return it.wrong(*told(broken, places))
-    it.text = description_text(d, types, shapes, Comments(reader, d), name)
+    it.text, it.page = description_text(d, types, shapes, Comments(reader, d), name), page_text(d, name)
     it.verdict = verdict_on(it.text.encode(), signals)
     if it.verdict.status:
         it.text = None
@@ -67,6 +71,7 @@ def finished(d, broken, before, signals):
     types, shapes = NamedTypes(), {}
     for wrong in rules_of(d, types, shapes, signals):
         broken += [fault for _, fault in wrong()]
+    broken += wrong_words(d, types, shapes)
     return types, shapes
 
 

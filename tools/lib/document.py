@@ -4,7 +4,7 @@ What can't be read is None, and its key is among the `lost` of its table: no lat
 """
 import difflib
 
-from lib.keys import EXAMPLES, HEADERS, IN_WORDS, KIND_OF, MUST, SECOND, TABLES, TOML_WORDS
+from lib.keys import EXAMPLES, HEADERS, IN_WORDS, KIND_OF, MEANT, MUST, SECOND, TABLES, TOML_WORDS
 from lib.shown import told
 
 # For so many unknown keys it is looked for what they were meant to be.
@@ -100,7 +100,10 @@ class Reading:
         if not self.second and (key in SECOND.get(kind, ()) or (kind == "structure" and key in SECOND["enumeration"])):
             what = "an enumeration" if kind == "structure" else "a list of writers"
             return f"{what} is a matter of schema 2, and this description has not `schema = 2`", None
-        near = difflib.get_close_matches(key, [it for it in keys if it not in table.data], 1) if len(self.faults) < MOST_MEANT else []
+        free = [it for it in keys if it not in table.data]
+        near = [MEANT[key.lower()]] if MEANT.get(key.lower()) in free else []
+        if not near and len(self.faults) < MOST_MEANT:
+            near = difflib.get_close_matches(key, free, 1)
         return f"{HEADERS[kind]} has no such key", f"is `{near[0]}` meant?" if near else f"its keys are {', '.join(keys)}"
 
     def value(self, entry, key, wanted, value):
@@ -153,4 +156,4 @@ def who_is(kind, place, table, outer):
     name = table.data.get({"route": "net", "port": "port"}.get(kind, "name"))
     is_told = name is not None and name.kind == ("integer" if kind == "port" else "string")
     said = (str(name.data) if kind == "port" else f'"{told(name.data)}"') if is_told else f"number {place + 1}"
-    return f"{kind} {said}" + (f" of {outer.who}" if kind in ("member", "value", "symbol") else "")
+    return f"{kind} {said}" + (f" of {outer.who}" if kind in ("member", "value", "symbol", "bit") else "")

@@ -7,6 +7,7 @@ from lib.entries import BadEntry, read_symbols, read_types
 from lib.flow_values import json_text, leaves, plain_of, reader_of, shape_of, wide_text_of
 from lib.frames import READ_WRITE
 from lib.link import GREATEST, Refused
+from lib.near import meant
 from lib.payloads import Request
 from lib.type_book import TypeBook, text
 from lib.type_texts import lower
@@ -20,8 +21,8 @@ MOST_ENTRY = 2048
 class Known:
     """A symbol, or a part of one, as the server describes it now."""
 
-    def __init__(self, name, raw, type_text, type_id, size, shape):
-        self.name, self.raw, self.type, self.type_id, self.size, self.shape = name, raw, type_text, type_id, size, shape
+    def __init__(self, name, raw, type_text, type_id, size, shape, flags=0):
+        self.name, self.raw, self.type, self.type_id, self.size, self.shape, self.flags = name, raw, type_text, type_id, size, shape, flags
         self.plain = plain_of(shape)
         wide = type_text.upper().startswith("WSTRING")
         self.read = reader_of(shape) if shape else wide_text_of if wide else lambda data: None
@@ -75,7 +76,8 @@ def described(stream, port):
 
 def known_of(entry, book, name=None, raw=None):
     kind = printed(entry.type)
-    return Known(name or printed(entry.name), raw or entry.name, kind, entry.type_id, entry.size, shape_of(book, text(entry.type), entry.type_id, entry.size))
+    shape = shape_of(book, text(entry.type), entry.type_id, entry.size)
+    return Known(name or printed(entry.name), raw or entry.name, kind, entry.type_id, entry.size, shape, entry.flags)
 
 
 def matches(pattern, entries, book):
@@ -88,7 +90,8 @@ def matches(pattern, entries, book):
         if whole.shape and not whole.plain and len(found) < MOST_LEAVES:
             for path, shape in leaves(whole.name, whole.shape, MOST_LEAVES):
                 if pattern.fullmatch(lower(path)):
-                    found.append(Known(path, entry.name + path[len(whole.name):].encode(), shape.text(), shape.type_id(), shape.size(), shape))
+                    raw = entry.name + path[len(whole.name):].encode()
+                    found.append(Known(path, raw, shape.text(), shape.type_id(), shape.size(), shape, entry.flags))
     return found[:MOST_LEAVES]
 
 
@@ -114,13 +117,32 @@ def ask_names(stream, port, group, names, length):
 def parts(stream, port, names, book):
     """The parts of symbols that have these names; None for each that is not there."""
     found = []
-    for name, (code, data) in zip(names, ask_names(stream, port, groups.ENTRY, [name.encode() for name in names], MOST_ENTRY)):
+    for name, (code, data) in zip(names, ask_names(stream, port, groups.ENTRY, [name.encode("utf-8", "replace") for name in names], MOST_ENTRY)):
         try:
             entry = None if code else read_symbols(data)[0]
         except (BadEntry, struct.error, IndexError):
             raise Ended(f"{stream.to} sends no entry of {name}", 9) from None
         found.append(entry and known_of(entry, book, name, name.encode()))
     return found
+
+
+class Missing(str):
+    """A word that names nothing; `meant` says which name is near, nothing where none is."""
+    entries, book = {}, None
+
+    def meant(self):
+        names = {printed(entry.name): entry for entry in self.entries.values()}
+        return None if is_pattern(self) else meant(self, names, lambda name: known_of(names[name], self.book).shape)
+
+    def said(self):
+        right = self.meant()
+        return f"{self} ({right})" if right else str(self)
+
+
+def missing_of(word, entries, book):
+    it = Missing(word)
+    it.entries, it.book = entries, book
+    return it
 
 
 def wanted(stream, port, words):
@@ -135,11 +157,11 @@ def wanted(stream, port, words):
         else:
             asked.append(word)
             continue
-        missing += [] if these else [word]
+        missing += [] if these else [missing_of(word, entries, book)]
         for it in these:
             found.setdefault(lower(it.name), it)
     for word, it in zip(asked, parts(stream, port, asked, book)):
-        missing += [] if it else [word]
+        missing += [] if it else [missing_of(word, entries, book)]
         if it:
             found.setdefault(lower(it.name), it)
     return found, missing

@@ -36,27 +36,28 @@ def plain_of(shape):
     return it if kind == "plain" else it.base if kind == "named" else None
 
 
-def reader_of(shape):
-    """A function of the bytes of a value; it gives numbers, True and False, texts, lists and dictionaries."""
+def reader_of(shape, plain=lambda shape, read: read):
+    """A function of the bytes of a value; it gives numbers, True and False, texts, lists and dictionaries. `plain` may put another in the place of one that
+    reads numbers."""
     word = plain_of(shape)
     if word == "BOOL":
         return lambda data: data[0] != 0
     if word:
         one = struct.Struct("<" + LETTERS[word])
-        return lambda data: one.unpack(data)[0]
+        return plain(shape, lambda data: one.unpack(data)[0])
     if shape.ends:
-        return array_reader(shape.ends, shape.of_element())
+        return array_reader(shape.ends, shape.of_element(), plain)
     kind, it = shape.element
     if kind == "text":
         return text_of
-    parts = [(own.name, own.at, own.at + own.shape.size(), reader_of(own.shape)) for own in it.members]
+    parts = [(own.name, own.at, own.at + own.shape.size(), reader_of(own.shape, plain)) for own in it.members]
     return lambda data: {name: read(data[at:end]) for name, at, end, read in parts}
 
 
-def array_reader(ends, inner):
+def array_reader(ends, inner, plain):
     (low, high), rest = ends[0], ends[1:]
     inner_shape = Shape(rest, inner.element)
-    read, size = reader_of(inner_shape), inner_shape.size()
+    read, size = reader_of(inner_shape, plain), inner_shape.size()
     return lambda data: [read(data[size * place:size * (place + 1)]) for place in range(high - low + 1)]
 
 

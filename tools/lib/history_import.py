@@ -4,7 +4,7 @@ import contextlib
 import os
 import sqlite3
 
-from lib.files import read_plant
+from lib.files import read_plant, regular
 from lib.flow_names import Known
 from lib.flow_session import unix_ns
 from lib.history_store import Batch
@@ -20,6 +20,7 @@ def recording(path):
     """The samples of a recording: a name, a moment in 100 ns, and bytes."""
     if not os.path.exists(path):
         raise Ended(f"{path}: No such file or directory", 4)
+    regular(path)
     name = path.replace("%", "%25").replace("?", "%3f").replace("#", "%23")
     try:
         with contextlib.closing(sqlite3.connect(f"file:{name}?mode=ro", uri=True)) as base:

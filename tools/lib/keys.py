@@ -21,12 +21,20 @@ TABLES = {
     },
 }
 
+# What other systems call a key, in lower case.
+CALLED = {
+    "persistent": ("retain", "remanent", "retentive", "persist", "keep", "nonvolatile"), "initial": ("default", "init", "start", "value"),
+    "offset": ("address", "adr", "byte", "index_offset"), "read_only": ("readonly", "constant"), "type": ("datatype",),
+    "comment": ("description", "remark", "text", "unit"), "net": ("netid", "ams_net_id"), "rights": ("access", "right"),
+}
+MEANT = {word: key for key, words in CALLED.items() for word in words}
+
 # The keys of schema 2 alone.
 SECOND = {"enumeration": ("base", "value"), "symbol": ("writers",)}
 
 HEADERS = {
     "document": "the top of a description", "route": "[[route]]", "structure": "a structure, [[type]]", "enumeration": "an enumeration, [[type]]",
-    "member": "[[type.member]]", "value": "[[type.value]]", "port": "[[port]]", "symbol": "[[port.symbol]]",
+    "member": "[[type.member]]", "value": "[[type.value]]", "port": "[[port]]", "symbol": "[[port.symbol]]", "bit": "an element of `bits`",
 }
 
 IN_WORDS = {"text": "a text in quotes", "number": "a number without quotes or point", "flag": "true or false", "texts": "an array of texts in quotes"}

@@ -23,11 +23,14 @@ class Node:
 
     def __init__(self, name, shape, comment):
         self.name, self.shape, self.comment, self.leaf, self.at, self.parts, self.more = name, shape, comment, None, 0, [], 0
+        # (which of the words of a page are its own)
+        self.words = None
 
     def told(self):
         """The node for a page."""
         it = {"n": self.name, "t": self.shape.text()}
         it.update({"c": self.comment} if self.comment else {})
+        it.update({"w": self.words} if self.words is not None else {})
         if self.leaf is not None:
             return {**it, "l": self.leaf, "a": self.at}
         it.update({"more": self.more} if self.more else {})

@@ -2,6 +2,7 @@
 import bisect
 
 from lib.document import Entry
+from lib.page_words import PAGE_KEYS
 
 
 WRITTEN, MEANS = "# Written by tools/plant.py ", "# = "
@@ -37,6 +38,11 @@ def anchors_of(entry):
     """Where each table and each key stands: triples of a place, an entry and a key. Of those for which a range stands, the first."""
     found, seen = [(entry.at, entry, None)] if entry.kind != "document" else [], set()
     for key, at in entry.places.items():
+        if key in PAGE_KEYS:
+            # (which the description has not: their comments stand with the key before)
+            before = [(place, own) for own, place in entry.places.items() if own not in PAGE_KEYS and place < at]
+            found.append((at, entry, max(before, default=(0, None))[1]))
+            continue
         inner = [it for it in entry[key] if isinstance(it, Entry)] if isinstance(entry[key], list) else []
         found += [(at, entry, key)] if not inner or key in ("member", "value") else []
         for it in inner:

@@ -5,7 +5,8 @@ import itertools
 import re
 
 from lib.document import Reading
-from lib.keys import TABLES
+from lib.keys import MUST, TABLES
+from lib.page_words import LIMITS, PAGE_KEYS
 from lib.rules_ports import AREAS, MOST_SYMBOLS
 from lib.rules_types import MOST_PARTS
 from lib.toml_text import Value
@@ -17,7 +18,16 @@ ABSENT = {
     "port": {"major": ("number", 1), "minor": ("number", 0), "build": ("number", 0), **{area: ("number", None) for area in AREAS}},
     "symbol": {"area": ("text", "data"), "offset": ("number", None), "initial": ("any", None)},
 }
-LINE = {kind: {**keys, **ABSENT.get(kind, {})} for kind, keys in TABLES.items()}
+BIT = {"name": ("text", MUST), "bit": ("number", None), "alarm": ("flag", False)}
+# What a source says of values for a page.
+SHOWN = {**{key: ("text", None) for key in PAGE_KEYS}, **{key: ("any", None) for key in LIMITS}, "bits": ("bit", None)}
+OF_MEMBER = {key: it for key, it in SHOWN.items() if key != "group"}
+LINE = {**{kind: {**keys, **ABSENT.get(kind, {})} for kind, keys in TABLES.items()}, "bit": BIT}
+LINE.update(member={**LINE["member"], **OF_MEMBER}, symbol={**LINE["symbol"], **SHOWN})
+NAME = {"name": ("text", MUST)}
+PAGE = {"document": {"type": ("type", None), "port": ("port", None)}, "structure": {**NAME, "member": ("member", MUST)},
+        "port": {"port": ("number", MUST), "symbol": ("symbol", MUST)}, "member": {**NAME, **OF_MEMBER}, "symbol": {**NAME, **SHOWN}, "bit": BIT}
+PAGE["enumeration"] = PAGE["structure"]
 RANGE = re.compile(r"\{([0-9]{1,9})\.\.([0-9]{1,9})\}")
 
 
@@ -28,9 +38,19 @@ class LineReading(Reading):
         return value if wanted == "any" and value.kind != "broken" else super().value(entry, key, wanted, value)
 
     def item(self, entry, key, wanted, place, one):
-        if wanted == "value" and one.kind == "string":
+        if wanted in ("value", "bit") and one.kind == "string":
             one = Value("table", {"name": one}, one.at)
         return super().item(entry, key, wanted, place, one)
+
+
+class PageReading(LineReading):
+    TABLES = PAGE
+
+
+def read_page(root, doubtful):
+    """The document that the words of a page are, and all that is wrong with its keys."""
+    reading = PageReading(True, doubtful)
+    return reading.table("document", root, "the file"), reading.faults
 
 
 def read_line(root, doubtful):
@@ -97,11 +117,13 @@ def numbers_of(it):
 
 
 def copied(entry, numbers):
-    """One of the entries for which a range stands. In its comment each {} is the number in the same place of its name."""
-    it, left, right = copy.copy(entry), iter(numbers), iter(numbers)
+    """One of the entries for which a range stands. In its texts each {} is the number in the same place of its name."""
+    it, left = copy.copy(entry), iter(numbers)
     it.values = dict(entry.values, name=RANGE.sub(lambda _: next(left), entry["name"]))
-    if it.values["comment"]:
-        it.values["comment"] = re.sub(r"\{\}", lambda found: next(right, found[0]), it.values["comment"])
+    for key in ("comment", "alarm", "group"):
+        if it.values.get(key):
+            right = iter(numbers)
+            it.values[key] = re.sub(r"\{\}", lambda found, numbers=right: next(numbers, found[0]), it.values[key])
     return it
 
 

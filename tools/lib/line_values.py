@@ -14,6 +14,8 @@ from lib.value_words import FLOATS, SIGNED
 
 HEX = re.compile("(?:[0-9A-Fa-f]{2})*")
 LONG = re.compile("0|[1-9][0-9]{18,19}")
+COMMA = re.compile(r"\s*([-+]?[0-9]{1,40}),([0-9]{1,40})\s*")
+MOST_DIGITS = 40
 TRUTH = {"true": 1, "false": 0}
 
 
@@ -58,7 +60,12 @@ class LineValues:
         return data
 
     def wrong_kind(self, shape_text, wanted, value, path, size):
-        self.fault(value.at, path, f"{shape_text} wants {wanted}, and {TOML_WORDS[value.kind]} stands there", self.or_bytes(size))
+        comma = COMMA.fullmatch(value.data) if value.kind == "string" and wanted.startswith("a number") else None
+        if comma and (shape_text in FLOATS or not comma[2].strip("0")):
+            right = f"write {comma[1]}" + (f".{comma[2]}" if shape_text in FLOATS else "")
+            self.fault(value.at, path, f"{shape_text} wants {wanted}, and {shown(value.data)} has a comma", right)
+        else:
+            self.fault(value.at, path, f"{shape_text} wants {wanted}, and {TOML_WORDS[value.kind]} stands there", self.or_bytes(size))
         return bytes(size)
 
     @staticmethod
@@ -79,7 +86,7 @@ class LineValues:
             wanted = "a number without quotes" if word != "TIME" else "a duration as \"T#1m30s\", or a number of milliseconds"
             return self.wrong_kind(word, wanted, value, path, size)
         if not low <= number <= high:
-            self.fault(value.at, path, f"{number} is no number of {word}, {low} to {high}", wider(word, number))
+            self.fault(value.at, path, f"{in_short(number)} is no number of {word}, {low} to {high}", wider(word, number))
             return bytes(size)
         return number.to_bytes(size, "little", signed=word in SIGNED)
 
@@ -102,7 +109,7 @@ class LineValues:
         try:
             return struct.pack(FLOATS[word], value.data)
         except (OverflowError, struct.error):
-            self.fault(value.at, path, f"{value.data} is greater than a {word} can be")
+            self.fault(value.at, path, f"{in_short(value.data)} is greater than a {word} can be")
             return bytes(size)
 
     def truth(self, value, path):
@@ -170,6 +177,11 @@ class LineValues:
             seen.add(own)
             data[own.at:own.at + own.shape.size()] = self.bytes(own.shape, one, inside)
         return bytes(data)
+
+
+def in_short(number):
+    text = str(number)
+    return text if len(text) <= MOST_DIGITS else f"{text[:MOST_DIGITS]}.."
 
 
 def own_number(named, text):

@@ -26,6 +26,7 @@ class Port:
 
     def __init__(self, number, symbols, shapes):
         self.number, self.symbols, self.placed, self.upload = number, {}, {area: [] for area in BYTES}, 0
+        self.writers = {lower(symbol["name"]): symbol["writers"] for symbol in symbols if symbol["writers"]}
         for symbol in symbols:
             part = Part(symbol["name"], symbol["area"], symbol["offset"], shapes[symbol])
             self.symbols[lower(part.path)] = part
@@ -44,6 +45,16 @@ class Port:
             if part:
                 return within(part, steps[count:])
         return None
+
+    def symbol_of(self, path):
+        """The symbol that a path begins with; None where there is none."""
+        ends = [at for at, letter in enumerate(path) if letter in ".["] + [len(path)]
+        return next((self.symbols[lower(path[:end])] for end in ends if lower(path[:end]) in self.symbols), None)
+
+    def writers_of(self, path):
+        """The NetIds that alone may write what a path names; none where every route with the right may."""
+        symbol = self.symbol_of(path)
+        return self.writers.get(lower(symbol.path), []) if symbol else []
 
     def at(self, group, offset, size):
         """The outermost part that has exactly these bytes; None where none has."""

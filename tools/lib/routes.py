@@ -10,16 +10,24 @@ import secrets
 import threading
 import time
 
-from lib.leaves import for_script, values_of
+from lib.leaves import enum_name, for_script, typed, values_of
+from lib.page_history import joined
+from lib.page_limits import for_page, see_within
+from lib.page_recipes import BadParts, element_bytes, is_recipes
+from lib.page_record import Record, short
 from lib.streams import Streams, event
+from lib.type_texts import lower
 from lib.typed_in import typed_bytes
 from lib.values import NoValue
 from lib.web import Answer, Bad, Web, plain
+from lib.words import Ended
 
 FOLDER = os.path.join(os.path.dirname(os.path.abspath(__file__)), "page")
 FILES = {"/page.css": "text/css; charset=utf-8", "/icon.svg": "image/svg+xml",
-         **{f"/{name}.js": "text/javascript; charset=utf-8" for name in ("page", "rows", "plot", "form", "words")}}
+         **{f"/{name}.js": "text/javascript; charset=utf-8" for name in ("page", "rows", "plot", "form", "words", "alarms", "log", "lang", "german", "draw", "recipe")}}
 JSON, METRICS, WRITE_SECONDS = "application/json", "text/plain; version=0.0.4; charset=utf-8", 20
+# Of a history, more than two months.
+MOST_MINUTES = 99999
 
 
 def json_answer(said, status=200):
@@ -61,58 +69,84 @@ def read_file(name):
 
 
 class Routes:
-    """`names` are the values that may be written, pairs of a port, None where it is not said, and a path."""
+    """`names` are the values that may be written, pairs of a port, None where it is not said, and a path; `state` is the file of what is kept; `user_header`
+    the header by which a proxy tells who asks; `history` what was recorded before."""
 
-    def __init__(self, watcher, names, hosts):
+    def __init__(self, watcher, names, hosts, state="", user_header="", history=None):
+        self.history = history
+        self.record, self.user_header, self.loop = Record(state, self.tell, self.noticed), user_header.lower(), None
         self.watcher, self.names, self.streams, self.web = watcher, names, Streams(), Web(self.answer, hosts)
         self.start, self.token, self.began = secrets.token_hex(8), secrets.token_urlsafe(32), time.time()
         self.files = {path: read_file(path[1:]) for path in FILES}
         page = read_file("page.html").decode()
-        self.page = page.replace("{start}", self.start).replace("{token}", html.escape(self.token if names else "")).encode()
+        self.page = page.replace("{start}", self.start).replace("{history}", "yes" if history else "")
         self.gets = {"/": self.get_page, "/events": self.get_events, "/values.json": self.get_values, "/history.json": self.get_history,
                      "/healthz": self.get_health, "/metrics": self.get_metrics}
+        self.posts = {"/write": self.post_write, "/acknowledge": self.post_acknowledge, "/recipe": self.post_recipe}
         self.kept = {}
 
+    def tell(self, kind, said):
+        self.streams.send(event(kind, said))
+
+    def noticed(self):
+        """What is kept can't be kept, or can again."""
+        self.loop.call_soon_threadsafe(lambda: self.tell("state", self.state()))
+
+    def state(self):
+        it = self.watcher.state()
+        return {**it, "notices": self.record.faults() + it["notices"]}
+
     def publishing(self, loop):
+        self.loop = loop
+        self.record.start()
+
         def publish(kind, said):
             loop.call_soon_threadsafe(self.published, kind, said)
         return publish
 
     def published(self, kind, said):
         """What the watcher has to say goes to all browsers; a new table and the state to standard output, too."""
+        table = self.watcher.table
         if kind == "values":
             self.streams.send(event("values", said))
+            if table.words and said["g"] == table.generation:
+                self.record.look(self.loop, table, [number for number, _ in said["c"]])
         elif kind == "table":
+            self.record.begin(table)
             self.streams.send(self.table_event())
             say(f"{self.watcher.to}: {len(self.watcher.table.symbols)} symbols of version {self.watcher.table.version}")
         else:
-            self.streams.send(event("state", said))
+            self.tell("state", self.state())
             if self.kept.get("why") != said["why"]:
                 say(said["why"])
         self.kept["why"] = self.watcher.why
 
     async def answer(self, request, reader, writer):
-        if request.path == "/write":
-            return await self.post_write(request)
+        if request.path in self.posts:
+            return await self.posts[request.path](request, by_of(request, writer, self.user_header))
         if request.path not in self.gets and request.path not in FILES:
             return plain(404, "there is nothing here: / is the page, /values.json its values")
         if request.method not in ("GET", "HEAD"):
             return plain(405, "this is read only", "Allow: GET, HEAD\r\n")
         if request.path in FILES:
             return Answer(200, FILES[request.path], self.files[request.path])
+        if request.path == "/history.json":
+            return await self.get_history(request)
         if request.path == "/events":
             return await self.get_events(request, reader, writer)
         return self.gets[request.path](request)
 
     def get_page(self, _):
-        return Answer(200, "text/html; charset=utf-8", self.page)
+        token = self.token if self.names or self.watcher.words.has_alarms() else ""
+        return Answer(200, "text/html; charset=utf-8", self.page.replace("{token}", html.escape(token)).encode())
 
     async def get_events(self, request, reader, writer):
         if request.method == "HEAD":
             return Answer(200, "text/event-stream", b"")
-        if self.streams.is_full():
+        if not await self.streams.place():
             return plain(503, "too many browsers follow this page")
-        await self.streams.follow(reader, writer, self.table_event())
+        more = event("alarms", self.record.alarms.told()) + event("log", self.record.told_log())
+        await self.streams.follow(reader, writer, self.table_event() + more)
         return None
 
     # The values.
@@ -130,19 +164,20 @@ class Routes:
 
     def told(self):
         """The whole table for a browser."""
-        table, state = self.watcher.table, self.watcher.state()
+        table, state = self.watcher.table, self.state()
         said = {"start": self.start, "now": round(1000 * time.time()), "state": state, "g": 0, "o": 0, "ports": [], "types": {}, "symbols": [],
-                "values": [], "changed": [], "forms": []}
+                "values": [], "changed": [], "forms": [], "recipes": [], "words": []}
         if not table:
             return said
         with table.lock:
             types = {leaf.shape.text(): {"k": leaf.kind, "s": leaf.size, "v": values_of(leaf.shape)} for leaf in table.leaves}
-            return {**said, "g": table.generation, "o": table.order, "ports": table.ports, "types": types,
+            return {**said, "g": table.generation, "o": table.order, "ports": table.ports, "types": types, "words": [for_page(it) for it in table.all_words],
                     "symbols": [it.told() for it in table.symbols], "values": [for_script(it) for it in table.values],
-                    "changed": [round(1000 * moment) for moment in table.changed], "forms": self.forms(table)}
+                    "changed": [round(1000 * moment) for moment in table.changed], "forms": self.forms(table), "recipes": self.recipes(table)}
 
     def forms(self, table):
-        found = [(path, port, table.find(path, port)) for port, path in self.names]
+        recipes = {lower(it["n"]) for it in self.recipes(table)}
+        found = [(path, port, table.find(path, port)) for port, path in self.names if lower(path) not in recipes]
         return [{"n": path, "port": it[0].port if it else port, "l": it[1] if it else None} for path, port, it in found]
 
     def get_values(self, _):
@@ -153,15 +188,23 @@ class Routes:
         server = {key: state[key] for key in ("live", "why", "to", "net", "version", "notices")}
         return json_answer({"server": server, "values": table.records() if table else []})
 
-    def get_history(self, request):
+    async def get_history(self, request):
         table, name = self.watcher.table, request.query.get("name", "")
-        port = request.query.get("port", "")
+        port, minutes = request.query.get("port", ""), request.query.get("minutes", "10")
         found = table.find(name, int(port) if port.isascii() and port.isdigit() and len(port) < 6 else None) if table else None
         if not found:
             return json_answer({"why": "there is no plain value of this name: /history.json?name=Main.count"}, 404)
-        times, numbers = table.points(found[1])
-        name, now = table.leaves[found[1]].path, round(1000 * time.time())
-        return json_answer({"name": name, "port": found[0].port, "now": now, "times": times, "values": numbers})
+        if not (minutes.isascii() and minutes.isdigit() and len(minutes) < 6 and 1 <= int(minutes) <= MOST_MINUTES):
+            return json_answer({"why": f"minutes is a number from 1 to {MOST_MINUTES}"}, 400)
+        points, now = table.points(found[1]), round(1000 * time.time())
+        name, more = table.leaves[found[1]].path, {}
+        if self.history and int(minutes) > 10:
+            asked = (self.watcher.net(), found[0].port, name, now - 60000 * int(minutes), now)
+            try:
+                points = joined(await self.loop.run_in_executor(None, self.history.points, *asked), points)
+            except Ended as end:
+                more = {"why": end.why}
+        return json_answer({"name": name, "port": found[0].port, "now": now, "times": points[0], "values": points[1], **more})
 
     # The state for other programs.
 
@@ -193,42 +236,109 @@ class Routes:
                         said = {"NaN": "NaN", "Infinity": "+Inf", "-Infinity": "-Inf"}.get(value, value)
                         yield f'{{name="{label(leaf.path)}",port="{symbol.port}"}}', int(said) if isinstance(said, bool) else said
 
-    # The form.
+    # The form, and the alarms.
 
-    async def post_write(self, request):
+    def guard(self, request):
+        """Sees that this very page asks: a POST with its token, of a body of JSON; gives what the body says."""
+        if request.method != "POST":
+            raise Bad(405, "this is done by POST")
+        if not hmac.compare_digest(request.headers.get("x-token", "").encode("latin-1"), self.token.encode()):
+            raise Bad(403, "the token is not that of this page: load the page again")
+        if request.headers.get("content-type", "").split(";")[0].strip().lower() != "application/json":
+            raise Bad(415, "a value is sent as application/json")
+        try:
+            return json.loads(request.body)
+        except (ValueError, RecursionError):
+            raise Bad(400, "the body is no JSON") from None
+
+    async def post_write(self, request, by):
         """Writes a value: of the names that may be written, asked for by this very page, and checked before the server is asked."""
         if not self.names:
             return plain(404, "nothing can be written here: the page was started without --write")
-        if request.method != "POST":
-            return plain(405, "a value is written by POST", "Allow: POST\r\n")
-        if not hmac.compare_digest(request.headers.get("x-token", "").encode("latin-1"), self.token.encode()):
-            return json_answer({"why": "the token is not that of this page: load the page again"}, 403)
-        path, port, text = asked_in(request)
+        path, port, text = asked_in(self.guard(request))
         table = self.watcher.table
         found = table.find(path, port) if table else None
-        allowed = table and [table.find(own, own_port) for own_port, own in self.names]
+        allowed = table and [it for it in (table.find(own, own_port) for own_port, own in self.names) if it]
         if not found or found not in allowed:
             return json_answer({"why": f"{path} is none of the values that may be written here"}, 403)
+        leaf, was = table.leaves[found[1]], table.values[found[1]]
         try:
-            given = typed_bytes(table.leaves[found[1]], text)
+            given = see_within(leaf, table.words.get(found[1]), typed_bytes(leaf, text))
         except NoValue as fault:
             return json_answer({"why": str(fault)}, 400)
-        future = self.watcher.write(table.leaves[found[1]].path, found[0].port, lambda leaf: typed_bytes(leaf, text))
+        status, why = await self.written(
+            lambda it: it.write(leaf.path, found[0].port, lambda own, words: see_within(own, words, typed_bytes(own, text))))
+        self.record.wrote(by=by, port=found[0].port, name=leaf.path, was=short(said_of(leaf, was)), value=short(said_of(leaf, typed(leaf, given))),
+                          why="" if status == 200 else short(why))
+        return json_answer({"why": why, "bytes": given.hex(), "value": for_script(typed(leaf, given))}, status)
+
+    async def written(self, call):
+        """The status of a write, and why it was not done."""
         try:
-            status, why = await asyncio.wait_for(asyncio.wrap_future(future), WRITE_SECONDS)
+            return await asyncio.wait_for(asyncio.wrap_future(self.watcher.write(call)), WRITE_SECONDS)
         except asyncio.TimeoutError:
-            status, why = 504, "the server did not answer: whether the value was written is not known"
-        return json_answer({"why": why, "bytes": given.hex()}, status)
+            return 504, "the server did not answer: whether the value was written is not known"
+
+    async def post_recipe(self, request, by):
+        """Writes a structure of an array that may be written, whole, once all of its values were looked at."""
+        said = self.guard(request)
+        texts = said.get("values") if isinstance(said, dict) else None
+        if not isinstance(texts, dict) or not all(isinstance(it, str) for it in texts.values()) or not isinstance(said.get("index"), str):
+            raise Bad(400, 'the body is {"name": NAME, "index": "[1]", "values": {PATH: TEXT, ..}}')
+        table = self.watcher.table
+        own = next((it for it in self.recipes(table) if it["n"] == said.get("name") and it["port"] == said.get("port")), None) if table else None
+        if not own:
+            raise Bad(403, "this is none of the arrays that may be written here")
+        with table.lock:
+            element = table.element(own["n"] + said["index"], own["port"])
+        if not element:
+            raise Bad(404, f"there is no {short(own['n'] + said['index'])}, or it is too long to be shown here")
+        try:
+            element_bytes(table, element, texts)
+        except BadParts as bad:
+            return json_answer({"why": str(bad), "parts": bad.faults}, 400)
+        was = {path: table.values[number] for path, number in element.values.items()}
+        status, why = await self.written(lambda it: it.write_element(element.path, own["port"], lambda now, found: element_bytes(now, found, texts)))
+        before = {path: said_of(table.leaves[number], was[path]) for path, number in element.values.items() if path in texts}
+        changed = [path for path in before if before[path] != texts[path]]
+        self.record.wrote(by=by, port=own["port"], name=element.path, was=short(", ".join(f"{path} {before[path]}" for path in changed)),
+                          value=short(", ".join(f"{path} {texts[path]}" for path in changed)), why="" if status == 200 else short(why))
+        return json_answer({"why": why}, status)
+
+    def recipes(self, table):
+        """The arrays of structures that may be written."""
+        return [{"n": it.name, "port": it.port} for it in table.symbols for port, path in self.names
+                if lower(path) == lower(it.name) and port in (None, it.port) and is_recipes(it.shape)]
+
+    async def post_acknowledge(self, request, by):
+        """Acknowledges alarms by their numbers."""
+        said = self.guard(request)
+        numbers = said.get("alarms") if isinstance(said, dict) else None
+        if not isinstance(numbers, list) or not all(type(number) is int for number in numbers):
+            raise Bad(400, 'the body is {"alarms": [NUMBER, ..]}')
+        return json_answer({"count": self.record.acknowledge(set(numbers), by)})
 
 
-def asked_in(request):
-    """The path, the port and the text of a write."""
-    if request.headers.get("content-type", "").split(";")[0].strip().lower() != "application/json":
-        raise Bad(415, "a value is sent as application/json")
+def by_of(request, writer, header):
+    """Who asks: the name that a proxy tells, or the address."""
+    named = request.headers.get(header, "") if header else ""
     try:
-        said = json.loads(request.body)
-    except (ValueError, RecursionError):
-        raise Bad(400, "the body is no JSON") from None
+        named = named.encode("latin-1").decode("utf-8")
+    except UnicodeDecodeError:
+        pass
+    peer = writer.get_extra_info("peername") or ("?",)
+    return short(named) if named.isprintable() and named else peer[0]
+
+
+def said_of(leaf, value):
+    """A value in a log: the name of an enumeration's value, and a text as it is."""
+    if leaf.kind == "enum" and value is not None:
+        return enum_name(leaf.shape, value) or str(value)
+    return {True: "TRUE", False: "FALSE", None: "?"}.get(value, str(value)) if not isinstance(value, (int, float)) or isinstance(value, bool) else str(value)
+
+
+def asked_in(said):
+    """The path, the port and the text of a write."""
     if not isinstance(said, dict) or not isinstance(said.get("name"), str) or not isinstance(said.get("value"), str):
         raise Bad(400, 'the body is {"name": NAME, "value": TEXT}')
     port = said.get("port")

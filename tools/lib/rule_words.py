@@ -20,6 +20,6 @@ WORDS = {
     12: ("a symbol lies within its area, which is inputs, outputs, memory or data, and on no byte of an earlier symbol", "symbols through all ports, from 0"),
     13: ("`initial` is hexadecimal text of exactly the symbol's bytes, and one of the values where its type is an enumeration; a comment has at most 255 "
          "printable bytes; writers are 1 to 64 NetIds of which no two are the same", "symbols through all ports, from 0"),
-    14: ("a signal is there (the program has 0, 1 and 2), no earlier symbol has it, and the symbol's type is a plain one", "symbols through all ports, from 0"),
+    14: ("a signal is there (`ads` has 0, 1 and 2, `adsd` those of its configuration), no earlier symbol has it, and the symbol's type is a plain one", "symbols through all ports, from 0"),
     15: ("the upload of a port has at most 2,000,000 bytes: 33 for each symbol, and its name, its type's text and its comment", "ports, from 0"),
 }

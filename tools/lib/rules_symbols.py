@@ -175,7 +175,8 @@ def wrong_signal(d, shapes, signals):
         if signal is None:
             return
         if not 0 <= signal < signals:
-            yield symbol.broken("signal", f"there is no signal {signal}; the program has {signals}, numbered from 0", None, free)
+            said = getattr(signals, "said", f"there are {signals}, numbered from 0")
+            yield symbol.broken("signal", f"there is no signal {signal}; {said}", None, free)
         elif signal in seen:
             yield symbol.broken("signal", f"{seen[signal].who} has the signal {signal}", seen[signal], free)
         elif shape is not None and not shape.is_plain():

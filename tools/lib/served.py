@@ -1,8 +1,10 @@
 """What a server serves, as a table of values: its symbols as it tells them itself, with the types of a description where the two agree."""
+import bisect
 import math
 import threading
 import time
 from array import array
+from typing import NamedTuple
 
 from describe import counts_of, facts_of, upload
 from lib.codes import code_text
@@ -27,10 +29,12 @@ class Symbol:
         self.port, self.area, self.at, self.size, self.flags = port, area, entry.offset, entry.size, entry.flags
         self.name, self.group, self.type_id, self.shape = printed(entry.name), entry.group, entry.type_id, shape
         self.comment, self.node, self.first, self.end, self.data = comment_of(entry.comment), None, 0, 0, None
+        self.section = ""
 
     def told(self):
         """The symbol for a page."""
         it = {**self.node.told(), "port": self.port, "group": f"0x{self.group:X}", "at": self.at}
+        it.update({"section": self.section} if self.section else {})
         return {**it, **({"flags": "read-only" if self.flags & READ_ONLY else "persistent"} if self.flags & (READ_ONLY | PERSISTENT) else {})}
 
 
@@ -47,6 +51,22 @@ class Past:
             del self.times[:most // 4], self.numbers[:most // 4]
 
 
+class Element(NamedTuple):
+    """A structure in an array: where it stands in its symbol, and the numbers of its plain values."""
+    path: str
+    symbol: Symbol
+    at: int
+    size: int
+    values: dict
+
+
+def collect(node, path, found):
+    if node.leaf is not None:
+        found[path.lstrip(".")] = node.leaf
+    for part in node.parts:
+        collect(part, path + part.name, found)
+
+
 class Table:
     """The values of a server between two descriptions. What changes and what is read of it goes through `lock`."""
 
@@ -54,6 +74,8 @@ class Table:
         self.generation, self.version, self.notices, self.ports, self.symbols = generation, version, [], [], []
         self.leaves, self.values, self.changed, self.past, self.found = [], [], [], {}, {}
         self.lock, self.order, self.most = threading.Lock(), 0, MOST_POINTS
+        # What a page shows beside the values: words by leaf, and each of them once.
+        self.words, self.all_words = {}, []
 
     def add(self, symbol):
         symbol.first = len(self.leaves)
@@ -67,6 +89,7 @@ class Table:
     def close(self, before):
         """The table is whole: values are not known yet, and what is the same in the table before keeps its past."""
         self.values, self.changed = [None] * len(self.leaves), [0.0] * len(self.leaves)
+        self.firsts = [symbol.first for symbol in self.symbols]
         self.most = max(100, min(MOST_POINTS, MOST_KEPT // max(1, len(self.leaves))))
         if before:
             for key, (_, number) in self.found.items():
@@ -74,12 +97,27 @@ class Table:
                 if old and old[1] in before.past and before.leaves[old[1]].shape.text() == self.leaves[number].shape.text():
                     self.past[number] = before.past[old[1]]
 
+    def port_of(self, number):
+        """The port of the symbol that a leaf is of."""
+        return self.symbols[bisect.bisect_right(self.firsts, number) - 1].port
+
     def find(self, path, port=None):
         """The symbol and the number of the leaf that a path names, at a port or at the first that has it; None where there is none."""
         for number in [port] if port else [number for number, _ in self.ports]:
             if (number, lower(path)) in self.found:
                 return self.found[number, lower(path)]
         return None
+
+    def element(self, path, port):
+        """A structure in a symbol that is an array of them, with its plain values by their paths in it; None where there is none, or not all are shown."""
+        name, bracket, _ = path.rpartition("[")
+        symbol = next((it for it in self.symbols if it.port == port and lower(it.name) == lower(name)), None)
+        node = next((it for it in symbol.node.parts if it.name == path[len(name):]), None) if symbol and bracket else None
+        if node is None or node.leaf is not None or node.more or symbol.data is None:
+            return None
+        found = {}
+        collect(node, "", found)
+        return Element(symbol.name + node.name, symbol, min(self.leaves[number].at for number in found.values()), node.shape.size(), found)
 
     def take(self, symbol, data, moment):
         """The bytes of a symbol: the numbers of the leaves that changed, which are given their values."""

@@ -19,6 +19,7 @@ ESCAPES = {"b": "\b", "e": "\x1b", "f": "\f", "n": "\n", "r": "\r", "t": "\t", '
 HEX_DIGITS = {"x": 2, "u": 4, "U": 8}
 PREFIXED = {"0x": (16, re.compile(r"[0-9A-Fa-f]+")), "0o": (8, re.compile(r"[0-7]+")), "0b": (2, re.compile(r"[01]+"))}
 DECIMAL = re.compile(r"(0|[1-9][0-9]*)(\.[0-9]+)?([eE][+-]?[0-9]+)?")
+WITH_COMMA = re.compile(r"(?<![0-9A-Za-z_.])[-+]?[0-9]{1,19},[0-9]{1,19}(?![0-9A-Za-z_.])")
 DATE_LIKE = re.compile(r"[0-9]+[-:]")
 DATE = re.compile(r"(\d{4})-(\d{2})-(\d{2})", re.ASCII)
 TIME = re.compile(r"(\d{2}):(\d{2})(?::(\d{2})(?:\.\d+)?)?", re.ASCII)
@@ -56,6 +57,12 @@ class Places:
 
     def column(self, at):
         return at - self.text.rfind("\n", 0, at)
+
+
+def comma_meant(text, at):
+    """What is said where a fault is the comma of a number; None where it is another."""
+    near = next((it[0] for it in WITH_COMMA.finditer(text, max(at - 40, 0), at + 40) if it.start() < at <= it.end()), None)
+    return near and f"a number has a full stop in place of a comma: write {near.replace(',', '.')} for {near}"
 
 
 def text_of(given):
@@ -155,9 +162,9 @@ class Reader:
 
     def pair(self, at, deep):
         """A key, its value, and where that ends."""
-        parts, at = self.key(at)
+        start, (parts, at) = at, self.key(at)
         if self.first(at) != "=":
-            raise TomlFault(at, f"behind the key {shown(parts[-1])} an equals sign is wanted")
+            raise TomlFault(at, comma_meant(self.text, start) or f"behind the key {shown(parts[-1])} an equals sign is wanted")
         value, end = self.value(SPACE.match(self.text, at + 1).end(), deep)
         return parts, value, end
 
@@ -234,7 +241,7 @@ class Reader:
             put(section, parts, one, at)
         end = SPACE.match(self.text, end).end()
         if self.first(end) not in ("", "#", "\n", "\r"):
-            raise TomlFault(end, "a new line is wanted here")
+            raise TomlFault(end, comma_meant(self.text, end) or "a new line is wanted here")
         return section, end
 
     def header(self, root, start):

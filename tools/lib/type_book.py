@@ -63,6 +63,8 @@ class TypeBook:
                 self.built[key] = entry, self.made(entry)
             except NoType as fault:
                 self.built[key] = entry, fault
+            except RecursionError:
+                self.built[key] = entry, NoType("it is nested too deep")
         known, made = self.built[key]
         if known is not entry and known._replace(rest=b"") != entry._replace(rest=b""):
             raise NoType(f"another port has another type {name}")

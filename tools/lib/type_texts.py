@@ -30,7 +30,7 @@ class NoType(Exception):
 
 def lower(text):
     """A text with its ASCII letters in lower case."""
-    return text.encode().lower().decode()
+    return text.encode("utf-8", "surrogatepass").lower().decode("utf-8", "surrogatepass")
 
 
 def is_identifier(text):

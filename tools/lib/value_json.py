@@ -11,6 +11,10 @@ from lib.toml_text import Value
 from lib.value_words import FLOATS, SIGNED, real_words
 
 
+# No type of a description is nested so deep.
+DEEPEST = 64
+
+
 class NoValueOf(Exception):
     """Why something is no value of a type, and what would be right."""
 
@@ -51,24 +55,48 @@ def text_of(value):
     return value if isinstance(value, str) else json.dumps(value, ensure_ascii=False)
 
 
+def value_in(shape, text):
+    """What somebody wrote for a type: a text as it stands where one is wanted, else what JSON says."""
+    return text if shape.element[0] == "text" and not shape.ends and not text.startswith('"') else parsed(text)
+
+
+def pairs_of(pairs):
+    """An object of JSON, in which each key stands once."""
+    found = dict(pairs)
+    if len(found) < len(pairs):
+        names = [name for name, _ in pairs]
+        raise NoValueOf(f"{next(name for name in names if names.count(name) > 1)!r} stands there twice")
+    return found
+
+
+def json_in(text):
+    """What a text of JSON says; a ValueError where it is none, a NoValueOf where a key stands twice."""
+    try:
+        return json.loads(text, object_pairs_hook=pairs_of)
+    except RecursionError:
+        raise NoValueOf("it is nested too deep") from None
+
+
 def parsed(text):
     """What somebody wrote: JSON where it is that, else a text."""
     try:
-        return json.loads(text)
+        return json_in(text)
     except ValueError:
         return text
 
 
-def written(value):
+def written(value, deep=0):
     """A value of JSON as the reader of lines takes it."""
+    if deep > DEEPEST:
+        raise NoValueOf("it is nested too deep")
     if isinstance(value, bool):
         return Value("boolean", value, 0)
     if isinstance(value, (int, float)):
         return Value("integer" if isinstance(value, int) else "float", value, 0)
     if isinstance(value, list):
-        return Value("array", [written(it) for it in value], 0)
+        return Value("array", [written(it, deep + 1) for it in value], 0)
     if isinstance(value, dict):
-        return Value("table", {name: written(it) for name, it in value.items()}, 0)
+        return Value("table", {name: written(it, deep + 1) for name, it in value.items()}, 0)
     if value is None:
         raise NoValueOf("null is no value")
     return Value("string", value, 0)
@@ -86,23 +114,3 @@ def bytes_of(shape, value):
         part = fault.who.partition(", part ")[2]
         raise NoValueOf((f"part {part}: " if part else "") + fault.why + (f"; {fault.right}" if getattr(fault, "right", None) else ""))
     return data
-
-
-def spread(path, shape, value):
-    """The parts of which a value gives bytes, each with its path and shape: an object gives the members that it names, and leaves the others alone."""
-    named = shape.named()
-    if isinstance(value, Raw):
-        is_text = shape.element[0] == "text" and not shape.ends and not value.startswith('"')
-        value = str(value) if is_text else parsed(value)
-    if not isinstance(value, dict) or named is None or named.base:
-        try:
-            return [(path, shape, bytes_of(shape, value))]
-        except NoValueOf as fault:
-            raise NoValueOf(f"{path}: {fault}") from None
-    found = []
-    for name, inner in value.items():
-        member = named.member(name)
-        if member is None:
-            raise NoValueOf(f"{path}: {named.name} has no member {name!r}; it has {', '.join(own.name for own in named.members)[:200]}")
-        found += spread(f"{path}.{member.name}", member.shape, inner)
-    return found

@@ -20,9 +20,10 @@ from typing import NamedTuple, Optional
 from lib import groups
 from lib.frames import ADD, CONTROL, DELETE, INFO, READ, READ_WRITE, STATE, WRITE
 from lib.layout import Shape
+from lib.near import meant_in
 from lib.payloads import Request
 from lib.shown import shown
-from lib.value_json import NoValueOf, Raw, spread
+from lib.value_json import NoValueOf, bytes_of, value_in
 from lib.values import NoValue, value_bytes, value_text
 
 MODES = {"cycle": 3, "change": 4}
@@ -59,12 +60,13 @@ def written_bytes(place, text):
         return value_bytes(place.shape.type_id(), place.length, text)
     except NoValue as fault:
         try:
-            parts = spread("it", place.shape, Raw(text)) if place.shape.size() == place.length else []
+            value = value_in(place.shape, text)
+            data = bytes_of(place.shape, value) if not (isinstance(value, dict) and place.shape.named()) else b""
         except NoValueOf:
-            parts = []
-        if len(parts) != 1 or parts[0][1] is not place.shape:
+            data = b""
+        if len(data) != place.length:
             raise fault
-        return parts[0][2]
+        return data
 
 
 def number(text, what):
@@ -95,7 +97,8 @@ def place_of(client, text):
         part = client.port.find(words[0])
         group, offset = (part.group(), part.at) if part else (None, None)
     if group is None:
-        raise NoRequest(f"{shown(text)} is not GROUP:OFFSET:LENGTH" if text[:1].isdigit() else f"the description has no {words[0]}")
+        no_name = f"the description has no {words[0]}{meant_in(client.port, words[0])}"
+        raise NoRequest(f"{shown(text)} is not GROUP:OFFSET:LENGTH" if text[:1].isdigit() else no_name)
     if part is None and len(words) == 1:
         raise NoRequest(f"no name was asked for on this connection as the handle {words[0]}: say {words[0]}:LENGTH")
     length = number(words[1], "length") if len(words) == 2 else part.shape.size()

@@ -6,10 +6,11 @@ from lib.rules_nets import wrong_net, wrong_rights, wrong_schema
 from lib.rules_ports import AREAS, upload_size, wrong_port, wrong_upload
 from lib.rules_symbols import wrong_content, wrong_name, wrong_place, wrong_signal, wrong_type
 from lib.rules_types import LIMIT, wrong_part, wrong_size, wrong_type_name
+from lib.signals import THREE
 from lib.toml_all import AllReader
 from lib.toml_text import Places, TomlFault, text_of
 
-LONGEST, SIGNALS, LAST_ITEM = 16777216, 3, 4294967295
+LONGEST, LAST_ITEM = 16777216, 4294967295
 
 
 class Verdict:
@@ -29,7 +30,7 @@ class Verdict:
         return [broken for rule in sorted(self.found) for broken in self.found[rule]]
 
 
-def verdict_on(given, signals=SIGNALS):
+def verdict_on(given, signals=THREE):
     """The verdict on the bytes of a file, for so many signals."""
     if len(given) > LONGEST:
         return Verdict(["ads: file too long"], 12)

@@ -8,6 +8,8 @@ from lib.codes import code_text
 from lib.files import read_plant
 from lib.leaves import for_script
 from lib.link import Refused
+from lib.page_limits import dress
+from lib.page_words import read_page_words, words_file
 from lib.served import table_of, version_of
 from lib.watching import Watched, Watching, wake_pair
 from lib.words import Ended
@@ -17,12 +19,15 @@ UNKNOWN = "the connection was lost before the answer came: whether the value was
 
 
 class Watcher(threading.Thread):
-    """`publish(kind, said)` is called for each change: `table`, `values` or `state`."""
+    """`publish(kind, said)` is called for each change: `table`, `values` or `state`. `words_name` names the words of a page where they are not beside the
+    description."""
 
-    def __init__(self, file, to, me, net, ports, cycle, seconds, publish):
+    def __init__(self, file, to, me, net, ports, cycle, seconds, publish, words_name=""):
         super().__init__(daemon=True)
+        self.words_name, self.words_fault = words_name, None
         self.file, self.to, self.me, self.own_net, self.own_ports, self.cycle, self.seconds, self.publish = file, to, me, net, ports, cycle, seconds, publish
         self.plant, self.plant_fault, self.table, self.generation = read_plant(file), None, None, 0
+        self.words = read_page_words(words_name or words_file(file), self.plant, not words_name)
         self.counts = {"requests": 0, "samples": 0, "changes": 0, "connections": 0, "tables": 0, "written": 0, "refused": 0}
         self.jobs, (self.wake, self.waker), self.is_live, self.why, self.since = queue.Queue(MOST_JOBS), wake_pair(), False, "not connected yet", time.time()
 
@@ -32,7 +37,7 @@ class Watcher(threading.Thread):
     def state(self):
         """What is known of the connection, for a page."""
         table = self.table
-        notices = ([self.plant_fault] if self.plant_fault else []) + (table.notices if table else [])
+        notices = [it for it in (self.plant_fault, self.words_fault) if it] + (table.notices if table else [])
         return {"live": self.is_live, "why": self.why, "since": round(1000 * self.since), "to": self.to, "net": self.net(), "me": self.me,
                 "version": table.version if table else None, "generation": self.generation, "notices": notices[:20]}
 
@@ -95,6 +100,11 @@ class Watcher(threading.Thread):
             self.plant, self.plant_fault = read_plant(self.file), None
         except Ended as end:
             self.plant_fault = f"{end.why}; the last description that was read holds until it is right."
+        try:
+            self.words = read_page_words(self.words_name or words_file(self.file), self.plant, not self.words_name)
+            self.words_fault = self.words.notice()
+        except Ended as end:
+            self.words_fault = f"{end.why}; the last units, limits and alarms that were read hold until it is right."
 
     def watching(self, link):
         """The values of what the server has now, once all of them have come."""
@@ -102,6 +112,7 @@ class Watcher(threading.Thread):
         for _ in range(ATTEMPTS):
             self.generation += 1
             table = table_of(link, self.plant, self.file, ports, self.generation, self.table)
+            dress(table, self.words)
             it = Watching(link, table, self.cycle)
             it.subscribe()
             until = time.monotonic() + self.seconds
@@ -147,20 +158,20 @@ class Watcher(threading.Thread):
         self.publish("values", {"g": table.generation, "o": table.order, "m": round(1000 * time.time()), "c": values})
 
     def do_jobs(self, it):
-        for path, port, bytes_of, future in self.waiting_jobs():
+        for call, future in self.waiting_jobs():
             try:
-                why = it.write(path, port, bytes_of)
+                why = call(it)
             except BaseException:
                 future.set_result((504, UNKNOWN))
                 raise
             self.counts["refused" if why else "written"] += 1
             future.set_result((409, why) if why else (200, "written"))
 
-    def write(self, path, port, bytes_of):
-        """A write that this thread does when it comes to it: a future of an HTTP status and a sentence."""
+    def write(self, call):
+        """A write that this thread does when it comes to it, by `call` of what it watches: a future of an HTTP status and a sentence."""
         future = concurrent.futures.Future()
         try:
-            self.jobs.put_nowait((path, port, bytes_of, future))
+            self.jobs.put_nowait((call, future))
             self.waker.send(b"w")
         except queue.Full:
             future.set_result((503, f"{MOST_JOBS} values wait to be written already: try again"))

@@ -184,29 +184,37 @@ class Watching:
         return self.looked_at(touched, moment)
 
     def write(self, path, port, bytes_of):
-        """Writes a value by a handle, so that a new description can't put it elsewhere; a sentence where it is refused, else None."""
+        """Writes a value; a sentence where it is refused, else None."""
         found = self.table.find(path, port)
         if not found:
             return f"the server has no {path} now"
-        symbol, number = found
-        leaf = self.table.leaves[number]
+        leaf = self.table.leaves[found[1]]
+        return self.write_bytes(leaf.path, found[0].port, lambda: bytes_of(leaf, self.table.words.get(found[1])))
+
+    def write_element(self, path, port, bytes_of):
+        """Writes a whole structure of an array at once."""
+        found = self.table.element(path, port)
+        return self.write_bytes(found.path, port, lambda: bytes_of(self.table, found)) if found else f"the server has no {path} now"
+
+    def write_bytes(self, path, port, given_of):
+        """Writes by a handle, so that a new description can't put the value elsewhere."""
         try:
-            given = bytes_of(leaf)
-            data = self.link.ask(symbol.port, Request(READ_WRITE, HANDLE, 0, 4, leaf.path.encode("latin-1")))
+            given = given_of()
+            data = self.link.ask(port, Request(READ_WRITE, HANDLE, 0, 4, path.encode("latin-1")))
             handle = struct.unpack("<I", data)[0]
             try:
-                if version_of(self.link, [symbol.port]) != self.table.version:
+                if version_of(self.link, [port]) != self.table.version:
                     self.is_over = True
                     return "a new description came in between: look at the value again, and write again"
-                self.link.ask(symbol.port, Request(WRITE, BY_HANDLE, handle, 0, given))
+                self.link.ask(port, Request(WRITE, BY_HANDLE, handle, 0, given))
             finally:
-                self.link.ask(symbol.port, Request(WRITE, RELEASE, 0, 0, data))
+                self.link.ask(port, Request(WRITE, RELEASE, 0, 0, data))
         except NoValue as fault:
             return str(fault)
         except struct.error:
             raise Ended(f"{self.link.to} gave a handle that is none", 9) from None
         except Refused as refused:
-            return refusal(refused.code, leaf.path, self.link.me)
+            return refusal(refused.code, path, self.link.me)
         return None
 
 

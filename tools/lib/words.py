@@ -11,10 +11,19 @@ class Ended(Exception):
         self.why, self.status = why, status
 
 
-def run(main):
-    """Runs a tool's `main` over its words, and ends with the status that it gives."""
+def hold_standard_streams():
+    """What is closed of standard input, output and error gives its number to nothing that is opened; what is printed there is lost."""
+    while (held := os.open(os.devnull, os.O_RDWR)) < 3:
+        pass
+    os.close(held)
+    sys.stdout, sys.stderr = (stream or open(os.devnull, "w", encoding="utf-8") for stream in (sys.stdout, sys.stderr))
     for stream in (sys.stdout, sys.stderr):
         stream.reconfigure(errors="backslashreplace")
+
+
+def run(main):
+    """Runs a tool's `main` over its words, and ends with the status that it gives."""
+    hold_standard_streams()
     try:
         status = main(sys.argv[1:])
         sys.stdout.flush()

@@ -25,10 +25,10 @@ def fits(pattern, topic):
 
 
 class Broker:
-    """`retained` has what stands under each topic, `heard` all that was published, in its order."""
+    """`retained` has what stands under each topic, `heard` all that was published, in its order; `count` is how many connections there were."""
 
     def __init__(self, port=0):
-        self.port, self.retained, self.heard, self.lock, self.clients = port, {}, [], threading.Lock(), {}
+        self.port, self.retained, self.heard, self.lock, self.clients, self.count = port, {}, [], threading.Lock(), {}, 0
         self.come()
 
     def come(self):
@@ -86,7 +86,7 @@ class Broker:
     def took(self, peer, kind, flags, body):
         """One packet; gives the last will of a CONNECT."""
         if kind == CONNECT:
-            self.clients[peer] = []
+            self.clients[peer], self.count = [], self.count + 1
             peer.sendall(packet(2, b"\0\0"))
             return self.will(body)
         if kind == SUBSCRIBE:
@@ -127,6 +127,12 @@ class Broker:
             for peer, patterns in list(self.clients.items()):
                 if any(fits(pattern, topic) for pattern in patterns):
                     peer.sendall(packet(PUBLISH, text(topic.encode()) + given))
+
+    def raw(self, given):
+        """The same bytes to each client, whatever they are."""
+        with self.lock:
+            for peer in list(self.clients):
+                peer.sendall(given)
 
     def __enter__(self):
         return self

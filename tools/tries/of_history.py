@@ -1,4 +1,5 @@
 """history.py: a server that counts, that goes and comes and is described anew; a recorder that is killed; what comes out again; and all that is no history."""
+import concurrent.futures
 import contextlib
 import os
 import signal
@@ -17,6 +18,7 @@ from lib.history_record import Recorder
 from lib.history_sqlite import SqliteStore
 from lib.history_writer import Writer
 from lib.program import run as run_program
+from tries import history_hostile
 from tries.fake_plant import FakePlant
 from tries.fake_server import Fake, told
 from tries.history_checks import of_sqlite, sound
@@ -261,6 +263,17 @@ def no_history(folder):
     return "ok"
 
 
+def hostile():
+    """Beside one another, since most of it waits."""
+    with tempfile.TemporaryDirectory() as folder, FakePlant({f"GVL.v{k}": KINDS[k % 4] for k in range(20)}) as plant, \
+            concurrent.futures.ThreadPoolExecutor(4) as pool:
+        asked = [pool.submit(it, plant, folder) for it in (history_hostile.no_room, history_hostile.taken_away, history_hostile.tables_gone)]
+        with tempfile.TemporaryDirectory() as own:
+            history_hostile.none(own)
+        for it in asked:
+            it.result()
+
+
 def tried(program, _size):
     with tempfile.TemporaryDirectory() as folder:
         samples = comes_and_goes(folder)
@@ -272,4 +285,5 @@ def tried(program, _size):
         kept(path)
         taken_in(program, folder)
         no_history(folder)
-    return f"{samples} samples of 120 names over a server that went, came and was described anew, each once; killed, exported, drawn and taken in"
+    hostile()
+    return f"{samples} samples of 120 names over a server that went, came and was described anew, each once; killed, exported, drawn and taken in; files that go, are full, or another's"

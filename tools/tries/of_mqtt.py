@@ -5,17 +5,19 @@ import signal
 import struct
 import subprocess
 import sys
+import threading
 import time
 
 from lib.flow_names import Known
 from lib.flow_values import shape_by_id
 from lib.mqtt_words import bytes_of, level, value_line
 from lib.values import NoValue
+from tries import mqtt_hostile
 from tries.fake_broker import Broker
 from tries.fake_plant import FakePlant
-from tries.running import ME, NET, TOOLS, Wrong, refused, see
+from tries.running import ME, NET, TOOLS, Served, Wrong, refused, see
 
-HEAD = "rig/851"
+HEAD, PLANT = "rig/851", os.path.join(TOOLS, "tries", "page_plant.toml")
 # A type id, a size, a text that is sent, and the bytes that it means; and texts that are refused.
 TAKEN = ((3, 4, b"-7", struct.pack("<i", -7)), (33, 1, b"true", b"\1"), (33, 1, b"TRUE", b"\1"), (5, 8, b"1.5", struct.pack("<d", 1.5)),
          (4, 4, b'"Infinity"', struct.pack("<f", float("inf"))), (30, 4, '"ü"'.encode(), b"\xfc\0\0\0"), (30, 4, b"'ab'", b"ab\0\0"),
@@ -59,8 +61,13 @@ class Bridge:
     def __init__(self, python, plant, broker, *words):
         self.process = subprocess.Popen([python, os.path.join(TOOLS, "mqtt.py"), "*", "--to", plant.to, "--netid", NET, "--me", ME, "--set", "--cycle", "0",
                                          "--broker", f"127.0.0.1:{broker.port}", "--plant", "rig", *words], stdout=subprocess.DEVNULL, stderr=subprocess.PIPE)
-        self.broker = broker
+        self.broker, self.errors = broker, ""
         self.started.append(self.process)
+        threading.Thread(target=self.read, daemon=True).start()
+
+    def read(self):
+        for line in self.process.stderr:
+            self.errors += line.decode()
 
     def until(self, holds, what, lives=True, seconds=30):
         end = time.monotonic() + seconds
@@ -84,8 +91,8 @@ class Bridge:
 
     def end(self, how=signal.SIGTERM):
         self.process.send_signal(how)
-        _, err = self.process.communicate(timeout=30)
-        see("Traceback" not in err.decode(), err.decode()[-300:])
+        self.process.wait(30)
+        see("Traceback" not in self.errors, self.errors[-300:])
         return self.process.returncode
 
 
@@ -139,7 +146,30 @@ def over(python):
         killed.until(lambda: "failed" in json.loads(broker.retained[HEAD]).get("why", ""), "the last will", False)
 
 
-def tried(_program, _size):
+def people(python, program):
+    """A REAL in its shortest form, enumerations by name, both ways and in structures; each `online` tells how many names there are."""
+    with Served(program, PLANT) as server, Broker() as broker:
+        bridge = Bridge(python, server, broker, "--description", PLANT)
+        for name, value in (("Main.speed", 0.1), ("Main.mode", "Off"), ("Main.flow", "NaN")):
+            bridge.value(name, value)
+        bridge.until(lambda: f"{HEAD}/Main.axes" in broker.retained, "a structure")
+        axes = json.loads(broker.retained[f"{HEAD}/Main.axes"])["value"]
+        see(axes[0] == {"active": False, "mode": "Off", "pos": 0.0, "label": ""}, f"a structure: {axes[0]}")
+        see(bridge.result("Main.mode", b'"auto"')[0] == {"result": "done", "value": "Auto"}, "a name of an enumeration, as JSON")
+        see(bridge.result("Main.mode", b"Mode.Off")[0]["result"] == "done", "a name of an enumeration, as it stands")
+        see(bridge.result("Main.mode", b"2")[0] == {"result": "done", "value": "Auto"}, "a number of an enumeration")
+        bridge.value("Main.mode", "Auto")
+        see("takes one of Off, " in bridge.result("Main.mode", b'"Aut"')[0]["why"], "a name that the enumeration has not")
+        see(bridge.result("Main.speed", b"2.4")[0] == {"result": "done", "value": 2.4}, "a REAL")
+        bridge.value("Main.speed", 2.4)
+        states = [json.loads(it) for topic, it, _ in broker.heard if topic == HEAD]
+        count = sum(topic.startswith(f"{HEAD}/") for topic in broker.retained)
+        see({it["names"] for it in states if it["state"] == "online"} == {count}, f"of {count} names these states were told: {states}")
+        bridge.end()
+        see(json.loads(broker.retained[HEAD])["names"] == 0, "how many names behind the end")
+
+
+def tried(program, size):
     words_of_values()
     refused(1, "--broker", "mqtt.py", "x", "--to", "127.0.0.1", "--me", ME)
     refused(1, "--period is a number", "mqtt.py", "x", "--to", "127.0.0.1", "--me", ME, "--broker", "h", "--period", "0")
@@ -152,7 +182,12 @@ def tried(_program, _size):
         return "texts of values, and words; the library paho is not here, so no broker was played (apt-get install python3-paho-mqtt)"
     try:
         over(python)
+        people(python, program)
+        count = mqtt_hostile.any_bytes(lambda plant, broker: Bridge(python, plant, broker), size)
+        said = mqtt_hostile.flood(lambda plant, broker: Bridge(python, plant, broker), size)
+        mqtt_hostile.hangs(lambda plant, broker: Bridge(python, plant, broker))
     finally:
         for process in Bridge.started:
             process.kill()
-    return "values out and back over a broker and a server that went and came, a new description, refusals, birth and last will"
+    return (f"values out and back over a broker and a server that went and came, a new description, refusals, birth and last will; {count} pieces of a broker "
+            f"that lies; {said}")

@@ -11,7 +11,7 @@ import tempfile
 
 from tries.running import EXAMPLES, PLANT, TOOLS, see
 
-UNITS = ["ads.service", "ads@.service", "adsd.service", "adsd@.service"]
+UNITS = ["ads.service", "ads@.service", "adsd.service", "adsd@.service", "ads-discover.service"]
 # In place of adsd: it prints its words, and which signals are blocked. No shell, since dash lets signals through again.
 STAND_IN = f"""#!{sys.executable}
 import signal, sys
@@ -87,16 +87,25 @@ def installed(folder, programs):
     out, err, status = script("install.sh", [prefix], folder, DESTDIR="/", **programs)
     see(status == 0 and err == "" and "clients.conf" not in out, f"install.sh: status {status}, {err!r}")
 
-    def ran(*words):
-        it = subprocess.run([os.path.join(prefix, "bin", words[0]), *words[1:]], capture_output=True, text=True, timeout=60)
+    def ran(*words, **variables):
+        it = subprocess.run([os.path.join(prefix, "bin", words[0]), *words[1:]], env={**os.environ, **variables}, capture_output=True, text=True, timeout=60)
         return it.stdout, it.stderr, it.returncode
 
     words, blocked = ran("adsd", "a b", "--c")[0].splitlines()
-    see(words == "a b --c" and blocked == "1 2 15", f"the launcher: {words!r}, the signals {blocked!r} are blocked in place of 1 2 15")
+    see(words == "a b --c" and blocked == "1 2 15 25", f"the launcher: {words!r}, the signals {blocked!r} are blocked in place of 1 2 15 25")
     for name in ("nonesuch", "../tools/why", "lib/words", ""):
         out, err, status = ran("ads-tool", name)
         see(status == 1 and out == "" and len(err.splitlines()) == 1 and f"'{name}' is no tool" in err, f"ads-tool {name}: {status} {out + err!r}")
     see("why" in ran("ads-tool", "--help")[0].split(), "ads-tool --help does not name the tools")
+    for name, part in (("", "there is no python3: apt"), ("python3", "lacks its standard library")):
+        path = os.path.join(folder, f"bin-{name}")
+        os.mkdir(path)
+        for own in ("sh", "ls", "sed", "tr"):
+            os.symlink(shutil.which(own), os.path.join(path, own))
+        if name:
+            os.symlink(shutil.which("false"), os.path.join(path, name))
+        out, err, status = ran("ads-tool", "why", PLANT, PATH=path)
+        see(status == 4 and part in err and len(err.splitlines()) == 1, f"ads-tool with PATH={path}: status {status}, {out + err!r}")
     said = ran("ads-tool", "why", os.path.join(EXAMPLES, "overlap.toml"))
     see(said[2] == 2 and "rule 12" in said[0], f"ads-tool why: {said}")
     said = ran("ads-tool", "frames", "play", PLANT, os.path.join(EXAMPLES, "requests.words"), "--expect")

@@ -8,7 +8,7 @@ import sys
 import time
 
 from lib.program import run as run_program
-from tries import page_form, page_http, page_servers
+from tries import page_form, page_http, page_servers, page_told
 from tries.counting import Counting
 from tries.paged import PLANT, Page, Rig, Stream, leaves_of
 from tries.running import EXAMPLES, ME, TOOLS, Served, refused, see
@@ -31,7 +31,7 @@ def wrong_words():
         refused(1, "--http", "page.py", PLANT, *to, "--http", http)
     refused(1, "--cycle is a number from 10 to 60000", "page.py", PLANT, *to, "--cycle", "5")
     refused(1, "has no Main.nothing", "page.py", PLANT, *to, "--write", "Main.nothing")
-    refused(1, "Main.axes has parts: --write names a plain value in it, such as Main.axes[1]", "page.py", PLANT, *to, "--write", "Main.axes")
+    refused(1, "Main.axes[1] has parts: --write names a plain value in it, such as Main.axes[1].active", "page.py", PLANT, *to, "--write", "Main.axes[1]")
     refused(1, "is none", "page.py", PLANT, *to, "--write", "Main..x")
     refused(1, "there is no option --wrote", "page.py", PLANT, *to, "--wrote", "x")
     refused(4, "No such file", "page.py", "/nowhere.toml", *to)
@@ -125,13 +125,19 @@ def one_page(program, size):
         return equal, typed, guarded, hostile
 
 
+def full_page(program):
+    with Served(program, PLANT) as server, Page(PLANT, server.to) as page:
+        page.until(page.is_well, "the server")
+        return page_http.of_full(page)
+
+
 def tried(program, size):
-    calls = [(one_page, program, size), (wrong_words,), (page_servers.goes_and_comes, program), (page_servers.takes_descriptions, program),
-             (page_servers.lying_servers,), (page_servers.two_ports, program)] + ([] if size.quick else [(page_servers.far_apart, program)])
+    calls = [(one_page, program, size), (wrong_words,), (full_page, program), (page_servers.goes_and_comes, program), (page_servers.takes_descriptions, program),
+             (page_servers.lying_servers,), (page_servers.two_ports, program), (page_told.tells, program)] + ([] if size.quick else [(page_servers.far_apart, program)])
     with concurrent.futures.ThreadPoolExecutor(3) as pool:
         parts = [pool.submit(call, *given) for call, *given in calls]
-        (equal, typed, guarded, hostile), _, _, _, lies, *_ = [part.result() for part in parts]
+        (equal, typed, guarded, hostile), _, waited, _, _, lies, *_ = [part.result() for part in parts]
     nobody_reads()
     one, ten = one_connection(program)
     return (f"{equal} values as `ads get` prints them, {typed} typed, {guarded} writes of others kept out, {hostile} hostile requests, "
-            f"{lies} servers that lie; gone and back three times; four descriptions; {one} requests in 3 s for one browser, {ten} for ten")
+            f"{lies} servers that lie; a place for one more browser in {waited:.0f} s; gone and back three times; four descriptions; {one} requests in 3 s for one browser, {ten} for ten")

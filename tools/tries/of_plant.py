@@ -313,6 +313,24 @@ def other_word(rng, text):
     return text[:one + 1] + new + text[text.index("<", one):]
 
 
+def words_of_others(folder):
+    """A comma in a number, and a key of another system: what is meant is said. Signals are counted in a configuration of adsd."""
+    for old, new, part in (("initial = 1.25", "initial = 120,0", "a number has a full stop in place of a comma: write 120.0 for 120,0"),
+                           ("initial = 1.25", 'initial = "120,0"', "LREAL wants a number, as 1.5 or 20, and '120,0' has a comma; write 120.0"),
+                           ('"UDINT", persistent', '"UDINT", retain', "key `retain`: [[port.symbol]] has no such key; is `persistent` meant?")):
+        told = build(text_of(LINE).replace(old, new, 1).encode(), "line.toml").faults
+        see(len(told) == 1 and part in told[0], f"{new}: {told}")
+    line = written(folder, "four.toml", text_of(LINE).replace("signal = 2", "signal = 3"))
+    config = written(folder, "adsd.toml", 'description = "x"\n' + "[[signal]]\nramp = 1\nperiod = 9\n" * 4)
+    out = os.path.join(folder, "four.plant.toml")
+    refused(2, "there is no signal 3; `ads` has 3, numbered from 0", "plant.py", "build", line, lines=2)
+    for words in (("--config", config), ("--signals", "4")):
+        said, err, status = tool("plant.py", "build", line, "--out", out, *words)
+        see(status == 0 and "it has signals of adsd: `adsd check" in said, f"plant.py build with {words}: {said}{err}")
+    see(tool("plant.py", "build", line, "--before", out, "--signals", "4")[2] == 0, "--before is refused for its signals")
+    refused(1, "--signals is an option of build", "plant.py", "import", LINE, "--signals", "4")
+
+
 def wrong_words(folder):
     refused(1, "build or import and FILE are wanted", "plant.py")
     refused(1, "'make' is neither build nor import", "plant.py", "make", LINE)
@@ -348,6 +366,7 @@ def tried(program, size):
         imports(program, folder)
         bad_files(folder)
         damaged_files(seed, damaged)
+        words_of_others(folder)
         wrong_words(folder)
     see(parts and built, "nothing was tried")
     return (f"{lines} random lines build, and their {parts} parts are read back; {faults} faults together are told; {damaged} damaged lines, {built} of which "

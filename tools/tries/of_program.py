@@ -130,6 +130,54 @@ def daemon_tells(program, folder):
     see(it.returncode == 0, f"adsd ended with {it.returncode}")
 
 
+def daemon_refuses(program, folder):
+    """A configuration with two files that are one, or with a slip of TOML, is refused by a sentence, and nothing is made."""
+    daemon = daemon_of(program)
+    if not daemon:
+        return 0
+    os.symlink("plant.toml", os.path.join(folder, "round.toml"))
+    asked = [
+        ('store = "round.toml"\n', "adsd: description and store are one file, plant.toml or round.toml"),
+        ('status = "./one.toml"\n', "adsd: the configuration and status are one file, one.toml or ./one.toml"),
+        ('store = "one"\nstatus = "one"\n', "adsd: store and status are one file, one: "),
+        ('status = "."\n', "adsd: status is to be a file"),
+        ('listen = "0.0.0.0"\n', "adsd: listen takes an address"),
+        ('settle = 3601\n', "adsd: settle takes a number of seconds from 0 to 3600"),
+        ('keep_description = true\n', "adsd: keep_description needs store"),
+        ('allow = [\n', "adsd: this is no configuration: TOML parse error at line 3, column 1: "),
+    ]
+    before = sorted(os.listdir(folder))
+    for keys, wanted in asked:
+        put(folder, "one.toml", f'description = "plant.toml"\n{keys}')
+        it = subprocess.run([daemon, "check", "one.toml"], cwd=folder, stdin=subprocess.DEVNULL, stdout=subprocess.PIPE, stderr=subprocess.PIPE, timeout=60)
+        told = it.stderr.decode()
+        see(it.returncode == 1 and told.startswith(wanted) and told.count("\n") == 1, f"adsd check of {keys!r}: status {it.returncode}, {told!r}")
+    os.remove(os.path.join(folder, "one.toml"))
+    see(sorted(os.listdir(folder)) == before, "adsd check made a file")
+    return len(asked)
+
+
+def daemon_stands_in(program, folder):
+    """The daemon serves the description that it accepted last, where a start finds one that is refused."""
+    daemon = daemon_of(program)
+    if not daemon:
+        return
+    shutil.copy(PLANT, os.path.join(folder, "kept.toml"))
+    words = [daemon, "kept.toml", "--store", "kept", "--keep-description", "true", "--log", "journal", "--stop-file", "end"]
+    for told in (None, "<3>description refused: rule "):
+        with subprocess.Popen([*words, "--listen", f"127.0.0.1:{free_port()}"], cwd=folder, stdin=subprocess.DEVNULL, stdout=subprocess.PIPE,
+                              stderr=subprocess.PIPE, text=True) as it:
+            late = threading.Timer(60, it.kill)
+            late.start()
+            see(it.stdout.readline() == "listening\n", "adsd does not listen")
+            put(folder, "end", "")
+            _, log = it.communicate()
+            late.cancel()
+        os.remove(os.path.join(folder, "end"))
+        see(it.returncode == 0 and (told is None or told in log), f"adsd ended with {it.returncode}, and tells {log!r}")
+        shutil.copy(os.path.join(EXAMPLES, "overlap.toml"), os.path.join(folder, "kept.toml"))
+
+
 # A body of one entry has 21 bytes beside its value and its form, where the name has one byte, and the form has 26: "array [1..1048529] of byte". It has
 # 1,048,576 at most.
 MOST = 1_048_576 - 21 - 26
@@ -246,10 +294,12 @@ def tried(program, _size):
         count = ends(program, folder)
         count += daemon_ends(program, folder)
         daemon_tells(program, folder)
+        count += daemon_refuses(program, folder)
+        daemon_stands_in(program, folder)
         long_ones(program, folder)
         shares_types(program, folder)
         gives_room_back(program, folder)
         reads_much_at_once(program, folder)
     serves(program)
-    return (f"a store and a recording go on at a second start; {count} endings by their numbers; a description that can't be read; "
+    return (f"a store and a recording go on at a second start; {count} endings by their numbers; a description that can't be read, or is refused at a start; "
             "long pieces and bodies; room; a server and a client as processes")

@@ -3,10 +3,16 @@ import contextlib
 import os
 import shutil
 import sqlite3
+import struct
+import subprocess
 import tempfile
+import time
 
+from lib.frames import ADD, DELETE, NOTE, REQUEST, Frame
 from lib.program import run as run_program
-from tries.running import ME, PLANT, see
+from tries.fake_server import Fake, data, reply, symbol
+from tries.running import ME, NET, PLANT, see
+from tries.slow import slow_disk
 
 LOCAL = ["--local", PLANT, "--me", ME]
 FAULT = ("ads: keeper fault\n", 16)
@@ -114,8 +120,56 @@ def files_of_others(program, folder):
         see(base.execute("SELECT a FROM mine").fetchall() == [(7,)], "another's table is changed")
 
 
+def samples_of(first, count):
+    """The payload of a notification: samples of handle 1, a stamp each, whose moments and values are their numbers."""
+    stamps = b"".join(struct.pack("<QIIII", k, 1, 1, 4, k) for k in range(first, first + count))
+    return struct.pack("<II", len(stamps) + 4, count) + stamps
+
+
+class Sampling:
+    """A server that sends all samples at once behind the grant of a notification; the disk is slow from then on, and it keeps when it is asked for what."""
+
+    def __init__(self, count, slow):
+        self.count, self.slow, self.asked = count, slow, {}
+
+    def answer(self, frame):
+        self.asked[frame.command] = time.monotonic()
+        if frame.command == DELETE:
+            return reply(frame, bytes(4))
+        if frame.command != ADD:
+            return data(frame, symbol(b"Main.count", b"UDINT", 0x4040, 0, 4, 19))
+        with open(self.slow, "wb"):
+            return self.notes(frame)
+
+    def notes(self, frame):
+        yield reply(frame, struct.pack("<II", 0, 1))
+        for first in range(1, self.count, 1000):
+            yield Frame(frame.source, frame.target, NOTE, REQUEST, 0, 0, samples_of(first, 1000)).bytes()
+
+
+def puts_before_a_deletion(program, folder, count=20000):
+    """Puts that take longer than the five seconds in which an answer must come: the deletion behind them has its own five seconds."""
+    env = slow_disk(folder, 400)
+    if env is None:
+        return
+    os.unlink(env["SLOW_WHILE"])
+    path, server = os.path.join(folder, "samples.db"), Sampling(count, env["SLOW_WHILE"])
+    with Fake(server.answer) as fake:
+        words = ("record", "Main.count", "--mode", "change", "--cycle", "0", "--count", str(count), "--store", path, "--to", fake.to, "--netid", NET, "--me", ME)
+        with subprocess.Popen([program, *words], stdin=subprocess.DEVNULL, stdout=subprocess.PIPE, stderr=subprocess.DEVNULL, env=env) as it:
+            while DELETE not in server.asked and it.poll() is None:
+                time.sleep(0.02)
+            time.sleep(1)
+            os.unlink(env["SLOW_WHILE"])  # (what it does behind the call is no part of this)
+            out, status = it.communicate(timeout=60)[0].decode(), it.returncode
+    see((status, out) == (0, f"Main.count count {count} last {count} {count}\n"), f"a deletion behind slow puts: {out!r}, status {status}")
+    took = server.asked[DELETE] - server.asked[ADD]
+    see(took > 5, f"the puts took {took:.1f} s, which shows nothing")
+    see(numbers_of(path) == list(range(1, count + 1)), "the rows behind slow puts")
+
+
 def tried(program, size):
-    for scene in (one_file, rows_missing, rules_of_others, files_of_others):
+    for scene in (one_file, rows_missing, rules_of_others, files_of_others, puts_before_a_deletion):
         with tempfile.TemporaryDirectory() as folder:
             scene(program, folder)
-    return "one file at each end; rows that are missing, rules and files of others"
+    return "one file at each end; rows that are missing, rules and files of others; a deletion behind five seconds of puts"

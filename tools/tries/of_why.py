@@ -38,7 +38,7 @@ ONE_CHANGE = [
     ("offset = 60", "offset = 2", "rule 12 item 2", 'and 0 to 3 are those of symbol "Main.count" of port 851 (line'),
     ("offset = 60", "offset = 127", "rule 12 item 2", "it ends at byte 129, and data has 128 bytes"),
     ('initial = "e803"', 'initial = "e8"', "rule 13 item 2", "it has 1 bytes, and INT has 2"),
-    ("signal = 2", "signal = 3", "rule 14 item 3", "there is no signal 3; the program has 3, numbered from 0"),
+    ("signal = 2", "signal = 3", "rule 14 item 3", "there is no signal 3; `ads` has 3, numbered from 0 (for `adsd` name its"),
 ]
 
 
@@ -122,6 +122,29 @@ def by_hand(longest):
     return count
 
 
+def signals(folder):
+    """How many signals there are is told by the configuration of adsd, in place of the description or beside it, or by a number; and said."""
+    plant, config = os.path.join(folder, "four.toml"), os.path.join(folder, "adsd.toml")
+    with open(PLANT, encoding="utf-8") as file, open(plant, "w", encoding="utf-8") as out:
+        out.write(file.read().replace("signal = 2", "signal = 3"))
+    for count, part in ((4, None), (2, f"there is no signal 3; {config} has 2 tables [[signal]], numbered from 0; free: 0, 1"),
+                        (0, f"there is no signal 3; {config} has no table [[signal]], so there are the 3 of `ads`, numbered from 0")):
+        with open(config, "w", encoding="utf-8") as file:
+            file.write(f'description = "{plant}"\n' + "[[signal]]\nramp = 1\nperiod = 9\n" * count)
+        for words in ((config,), (plant, "--config", config)):
+            out, _, status = tool("why.py", *words)
+            see((status == 0 and "ok ports 1" in out) if part is None else (status == 2 and part in out), f"why.py {words}: {out}")
+    see(tool("why.py", plant, "--signals", "4")[2] == 0, "why.py with four signals refuses the fourth")
+    refused(2, "there is no signal 3; --signals says 1, numbered from 0; free: 0", "why.py", plant, "--signals", "1")
+    refused(1, "--signals does not go with it", "why.py", plant, "--signals", "1", "--config", config)
+    refused(1, "--signals is a number from 0 to 1024", "why.py", plant, "--signals", "1025")
+    refused(2, "is no configuration of adsd", "why.py", plant, "--config", plant)
+    refused(4, "No such file", "why.py", plant, "--config", "/nowhere.toml")
+    with open(config, "w", encoding="utf-8") as file:
+        file.write(f'description = "{plant}"\nsignal = 3\n')
+    refused(2, "`signal` takes tables [[signal]]", "why.py", config)
+
+
 def wrong_words():
     refused(1, "DESCRIPTION is wanted", "why.py")
     refused(1, "one too many", "why.py", "a", "b")
@@ -135,6 +158,7 @@ def tried(program, size):
     with tempfile.TemporaryDirectory() as folder, concurrent.futures.ThreadPoolExecutor(4) as pool:
         examples(program, folder)
         wrong_words()
+        signals(folder)
         worked = by_hand(size.of(2 ** 63, 100000))
         together(program, folder, seed, size.of(200, 40))
         rules = pool.map(lambda number: agrees(program, damaged(number, seed), os.path.join(folder, f"damaged{number}.toml")), range(count))

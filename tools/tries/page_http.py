@@ -5,6 +5,7 @@ import time
 
 from lib.streams import Streams
 from lib.web import Web
+from tries.paged import Stream
 from tries.running import see
 
 
@@ -180,3 +181,24 @@ def of_lazy():
         server.close()
 
     asyncio.run(asyncio.wait_for(played(), 60))
+
+
+def of_full(page):
+    """All places are taken by browsers that read nothing, but for one that does: another one gets a place, and the one that reads keeps its own."""
+    held = [socket.create_connection(("127.0.0.1", page.port), timeout=60) for _ in range(63)]
+    try:
+        with Stream(page) as reads:
+            reads.next("table")
+            for it in held:
+                it.sendall(f"GET /events HTTP/1.1\r\nHost: 127.0.0.1:{page.port}\r\n\r\n".encode())
+            page.until(lambda: b"ads_page_browsers 64\n" in page.ask("/metrics")[2], "64 browsers")
+            began = time.monotonic()
+            with Stream(page) as late:
+                late.next("table")
+                took = time.monotonic() - began
+                see(took < 30, f"another browser waited {took:.1f} s for a place")
+                reads.next("values")
+    finally:
+        for it in held:
+            it.close()
+    return took

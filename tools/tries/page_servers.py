@@ -8,7 +8,7 @@ import tempfile
 import time
 
 from tries.counting import Counting
-from tries.fake_server import Fake, data, reply, symbol, told, uploads
+from tries.fake_server import Fake, data, reply, symbol, told, type_entry, uploads
 from tries.paged import PLANT, Page, Rig, Stream, put
 from tries.running import FOREVER, ME, NET, Served, see
 
@@ -161,7 +161,22 @@ def running_version(count=iter(range(10 ** 6))):
     return lambda frame: data(frame, bytes([next(count) % 256]))
 
 
+def endless(answer):
+    """A device that sends notifications without end in place of an answer to a read."""
+    def answers(frame):
+        note = frame._replace(target=frame.source, source=frame.target, command=8, flags=4, id=0, payload=struct.pack("<II", 4, 0)).bytes()
+        return (note * 100 for _ in range(10 ** 6)) if frame.command == 2 else answer(frame)
+    return answers
+
+
+def chain(count, last):
+    """Types each of which has a member of the next; the last one has a member of that type."""
+    names = [b"T%d" % number for number in range(count)] + [last]
+    return [type_entry(name, name, 4, subs=[type_entry(b"in", inner, 4, flags=2)]) for name, inner in zip(names, names[1:])]
+
+
 ONE = symbol(b"Main.count", b"DINT", 0x4040, 0, 4, 3)
+CIRCLE = type_entry(b"T0", b"T0", 4, subs=[type_entry(b"in", b"T0", 4, flags=2)])
 HOSTILE = symbol(b"<img src=x>\x1b[2J", b"DINT", 0x4040, 4, 4, 3, comment=b"</td><script>")
 GOOD = {**uploads([ONE], []), 0xF008: b"\1"}
 # What a server is, its answers, and a part of the sentence that must come.
@@ -173,6 +188,14 @@ LIES = [
     ("names that are none", told({**GOOD, 0xF00B: b"\xff" * len(ONE)}), "sends no symbols"),
     ("a version of two bytes", told({**GOOD, 0xF008: b"\1\2"}), "where 1 were asked for"),
     ("no ADS", lambda frame: b"HTTP/1.1 400 Bad Request\r\n\r\n", "does not speak ADS"),
+    ("frames without end", endless(told(GOOD)), "in place of an answer"),
+    ("answers to what nobody asked", lambda frame: told(GOOD)(frame._replace(id=frame.id + 7)), "answers nothing"),
+    ("answers of another command", lambda frame: told(GOOD)(frame._replace(command=frame.command ^ 11)), "answers nothing"),
+    ("a frame of 4 GB", lambda frame: b"\0\0\xff\xff\xff\xff" + bytes(40), "does not speak ADS"),
+    ("a frame of four bytes", lambda frame: b"\0\0\4\0\0\0" + bytes(4), "does not speak ADS"),
+    ("an answer whose length is more than there is", lambda frame: reply(frame, struct.pack("<II", 0, 9999) + b"1"), "does not speak ADS"),
+    ("a thousand symbols, of which it sends one", told({**GOOD, 0xF00F: struct.pack("<IIIIII", 1000, len(ONE), 0, 0, 0, 0)}), "1000 symbols, and sends 1"),
+    ("fewer bytes than it says", told({**GOOD, 0xF00F: struct.pack("<IIIIII", 1, len(ONE) + 100, 0, 0, 0, 0)}), "were asked for"),
     ("an end", lambda frame: None, "closed the connection"),
     ("a version that runs", notes(told({**GOOD, 0xF008: running_version()}), sample(bytes(4))), "has a new description again and again"),
 ]
@@ -185,4 +208,10 @@ def lying_servers():
     with Fake(notes(told({**uploads([ONE, HOSTILE], []), 0xF008: b"\1"}), sample(bytes(8)))) as it, Page(PLANT, it.to) as page:
         page.until(page.is_well, "a server with a hostile name")
         see((851, "<img src=x>\\x1b[2J") in page.values(), f"a hostile name: {list(page.values())}")
-    return len(LIES) + 1
+    for what, types in (("a type that has itself", chain(0, b"T0") or [CIRCLE]), ("types in a circle", chain(3, b"T0")), ("two thousand types in one another", chain(2000, b"DINT"))):
+        odd = symbol(b"Main.odd", b"T0", 0x4040, 8, 4, 65)
+        with Fake(notes(told({**uploads([ONE, odd], types), 0xF008: b"\1"}), sample(bytes(4)))) as it, Page(PLANT, it.to) as page:
+            page.until(page.is_well, f"a server with {what}")
+            notices = page.json("/values.json")["server"]["notices"]
+            see(any("Main.odd is not shown" in notice for notice in notices), f"{what}: {notices}")
+    return len(LIES) + 4

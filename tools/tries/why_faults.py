@@ -155,7 +155,7 @@ FAULTS = [
     ('read_only = false', 'read_only = "no"', ["key `read_only`: true or false is wanted, and a text stands there"]),
     ('initial = "01"', "initial = true", ['a text in quotes is wanted, and true or false stands there; write "01"']),
     ('initial = "0100000000000000"', 'initial = "0100"', ['it has 2 bytes, and LINT has 8; write "0100000000000000" for 1']),
-    ("signal = 2", "signal = 7", ["there is no signal 7; the program has 3, numbered from 0; free: 0, 1, 2"]),
+    ("signal = 2", "signal = 7", ["there is no signal 7; `ads` has 3, numbered from 0 (for `adsd` name its"]),
     ('writers = ["192.168.0.9.1.1"]', 'writers = ["192.168.0.9.1.1", "192.168.0.9.1.1"]', ["'192.168.0.9.1.1' stands there twice"]),
     ('name = "Main.axes"', 'name = "Main.mode.x"', ["it begins with the whole name 'Main.mode' of an earlier symbol (line "]),
     ("offset = 112", "offset = 510", ["it ends at byte 514, and data has 512 bytes; let it be data = 520"]),

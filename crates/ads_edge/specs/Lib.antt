@@ -8,7 +8,9 @@ pub mod LinkClock
 pub mod Peers
 pub mod Refusal
 pub mod RefusedPeers
+pub mod Settled
 pub mod Sockets
 pub mod TickClock
+pub mod UsedUp
 pub mod Waiting
 pub mod Written

@@ -58,3 +58,8 @@ refused_peer n (Some s) = refused_at n s.doors.refused
 abbrev pub failed_readings : Option Sockets → ℕ
 failed_readings None = 0
 failed_readings (Some s) = s.watch.failed
+
+-- how often since the start nobody could be accepted since no descriptor was left
+abbrev pub without_descriptor : Option Sockets → ℕ
+without_descriptor None = 0
+without_descriptor (Some s) = s.doors.without

@@ -1,12 +1,12 @@
-//! Which doors a wire has, and whom they let in.
+//! Which doors a wire has, whom they let in, and how its description is watched.
 
-ghost use Rattle.std.specs.Prelude.{[], ◌≡◌};
+ghost use Rattle.std.specs.Prelude.{[], false, ◌≡◌};
 
-use crate::AllowedNet;
 use crate::refusal::PROGRAM;
+use crate::{AllowedNet, WatchPlan};
 use std::alloc::Global;
 
-/// What a wire is to know of its doors beside the addresses that it is started with.
+/// What a wire is to know of its doors and its description beside what it is started with.
 #[derive(Drop)]
 pub(crate) struct DoorPlan {
     // The program that a line on standard error names.
@@ -15,18 +15,21 @@ pub(crate) struct DoorPlan {
     pub(crate) given: u16,
     // The nets that are let in; all are where there is none.
     pub(crate) allowed: Vec<AllowedNet>,
+    pub(crate) watch: WatchPlan,
 }
 
 impl DoorPlan {
-    /// No socket was given, and all are let in.
+    /// No socket was given, all are let in, and the description is watched as usual.
     pub(crate) fn open_to_all(alloc: Global) -> DoorPlan
         ensures given { result.given ≡ 0 }
         ensures allowed { result.allowed.items ≡ [] }
+        ensures watch { result.watch ≡ record { settle = 0; anew = false } }
     {
         DoorPlan {
             program: PROGRAM,
             given: 0,
             allowed: Vec::new(alloc),
+            watch: WatchPlan::usual(),
         }
     }
 }

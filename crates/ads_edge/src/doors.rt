@@ -1,6 +1,7 @@
 //! The doors of a wire: listening sockets, and whom they let in.
 
-ghost use Rattle.std.specs.Prelude.{◌≡◌, false, IfSome, OnSome, IfOk, IsTrue, vec_len};
+ghost use Rattle.std.specs.Prelude.{◌≡◌, true, false, IfSome, OnSome, IfOk, IsTrue, vec_len};
+ghost use Rattle.std.specs.IoError.{raw_os_error};
 ghost use Rattle.std.specs.Net.Socket.{socket_ip};
 ghost use Rattle.ads_edge.specs.AllowedNet.{allows as is_let_in};
 
@@ -10,6 +11,7 @@ use crate::guest::Guest;
 use crate::listening_at::address_of;
 use crate::refusal::{Refusal, tell};
 use crate::refused_peers::RefusedPeers;
+use crate::used_up::are_used_up;
 use crate::{AllowedNet, allows};
 use ads_base::NoMemory;
 use mio::net::{TcpListener, TcpStream};
@@ -36,10 +38,12 @@ pub(crate) struct Doors {
     pub(crate) next: usize,
     pub(crate) left: usize,
     pub(crate) refused: RefusedPeers,
+    // How often nobody could be accepted since no descriptor was left.
+    pub(crate) without: u64,
 }
 
 impl Doors {
-    ghost use Rattle.ads_edge.specs.Doors.{KeepsDoors, is_guarded, knocks};
+    ghost use Rattle.ads_edge.specs.Doors.{KeepsDoors, is_guarded, knocks, without_then};
 
     /// Doors at these addresses, one behind another with a comma and a blank between them; or those that were given. None where
     /// one can't be opened, and why is told on standard error.
@@ -65,6 +69,7 @@ impl Doors {
             left: listeners.len(),
             listeners,
             refused: RefusedPeers::new(),
+            without: 0,
         }))
     }
 
@@ -107,14 +112,26 @@ impl Doors {
                 self.let_in(stream, peer)
             }
             Err(error) => {
-                let again = error.kind() == ErrorKind::Interrupted
-                    || error.kind() == ErrorKind::ConnectionAborted;
-                if !again {
-                    self.turn();
-                    self.left -= 1;
-                }
+                self.miss(&error);
                 None
             }
+        }
+    }
+
+    // Nobody was accepted at the door that was asked, for this reason.
+    fn miss(&mut self, error: &io::Error)
+        requires { knocks self.old ≡ true }
+        ensures without { self.new.without ≡ without_then (raw_os_error error.now) self.old.without }
+        ensures same { KeepsDoors (record self.old { without = self.new.without }) self.new }
+    {
+        if are_used_up(error) {
+            self.without = self.without.saturating_add(1);
+        }
+        let again = error.kind() == ErrorKind::Interrupted
+            || error.kind() == ErrorKind::ConnectionAborted;
+        if !again {
+            self.turn();
+            self.left -= 1;
         }
     }
 

@@ -2,10 +2,10 @@
 
 ghost use Rattle.std.specs.Prelude.{◌≡◌, ◌<◌, ◌^◌, IfSome, length};
 
-use crate::AllowedNet;
 use crate::door_plan::DoorPlan;
 use crate::happened::Happened;
 use crate::sockets::Sockets;
+use crate::{AllowedNet, WatchPlan};
 use ads_base::NoMemory;
 use ads_outside::{Event, Next, Offer, Shut, Started, Wire};
 use std::alloc::Global;
@@ -18,7 +18,7 @@ use std::time::Clock;
 ///
 /// What is offered to a connection is gathered, at most 262,144 bytes, and sent before the wire waits again; a connection
 /// that was shut stays till its peer has taken that, is gone, or takes nothing for 30 s. The named description is read again each second, and is
-/// given where it holds other bytes than last.
+/// given where it holds other bytes than last, at once or, with a plan that says so, once they stood unchanged for some seconds.
 #[derive(Drop)]
 pub struct RealWire<R: Net + Clock + SystemFiles + Eprint + Drop> {
     alloc: Global,
@@ -35,7 +35,7 @@ pub struct RealWire<R: Net + Clock + SystemFiles + Eprint + Drop> {
 }
 
 impl<R: Net + Clock + SystemFiles + Eprint + Drop> RealWire<R> {
-    ghost use Rattle.ads_edge.specs.Sockets.{IsPeerIn, failed_readings, refused_count, refused_peer};
+    ghost use Rattle.ads_edge.specs.Sockets.{IsPeerIn, failed_readings, refused_count, refused_peer, without_descriptor};
 
     /// A wire that is not started, with a buffer to read by.
     pub fn new(alloc: Global, rt: R) -> Result<RealWire<R>, NoMemory> {
@@ -45,18 +45,20 @@ impl<R: Net + Clock + SystemFiles + Eprint + Drop> RealWire<R> {
     /// The same with doors of its own: `listen` of `start` is one address or several, with a comma and a blank between them; where
     /// the process was given listening sockets, these are its doors and `listen` is a name. Who is in none of the allowed nets is
     /// refused: its connection is closed at once, and opens none of the wire. With no net all are let in. A line on standard error
-    /// begins with the program's name.
+    /// begins with the program's name. The description is watched as the plan says.
     pub fn with_doors(
         alloc: Global,
         rt: R,
         program: &'static str,
         given: u16,
         allowed: Vec<AllowedNet>,
+        watch: WatchPlan,
     ) -> Result<RealWire<R>, NoMemory> {
         let plan = DoorPlan {
             program,
             given,
             allowed,
+            watch,
         };
         RealWire::with_plan(alloc, rt, plan)
     }
@@ -113,6 +115,16 @@ impl<R: Net + Clock + SystemFiles + Eprint + Drop> RealWire<R> {
     {
         match &self.sockets {
             Some(sockets) => sockets.watch.failed,
+            None => 0,
+        }
+    }
+
+    /// How often since the start nobody could be accepted since no descriptor was left.
+    pub fn without_descriptor(&self) -> u64
+        ensures { result ≡ without_descriptor self.now.sockets }
+    {
+        match &self.sockets {
+            Some(sockets) => sockets.doors.without,
             None => 0,
         }
     }

@@ -82,7 +82,7 @@ impl Sockets {
             peers: Peers::new(alloc),
             clock: TickClock::new(now, wall),
             struck: false,
-            watch: DescriptionWatch::new(alloc, name, first, now)?,
+            watch: DescriptionWatch::new(alloc, plan.watch, name, first, now)?,
         }))
     }
 

@@ -7,24 +7,21 @@ ghost use Rattle.port_device.specs.Holds.{WasAccepted};
 use ads_base::{NetId, NoMemory, Octets};
 use persist_store::{Store, StoreOpen};
 use port_device::Ports;
-use real_disk::RealDisk;
 use std::alloc::Global;
+use store_file::StoreFile;
 use symbol_file::read;
 use type_layout::Description;
 
 /// The body that stands in the store of a name, an empty one where nothing stands; None where the disk failed.
-pub(crate) fn standing_body(rt: &HostRuntime, store: &str) -> Result<Option<Octets>, NoMemory> {
-    let mut disk = RealDisk::new(*rt);
-    match Store::open(rt.alloc(), &mut disk, store)? {
-        StoreOpen::Ready(store) => Ok(Some(copy_of(rt.alloc(), &store)?)),
+pub(crate) fn standing_body(
+    alloc: Global,
+    disk: &mut StoreFile,
+    store: &str,
+) -> Result<Option<Octets>, NoMemory> {
+    match Store::open(alloc, disk, store)? {
+        StoreOpen::Ready(store) => Ok(Some(copy_of(alloc, &store)?)),
         StoreOpen::Failed => Ok(None),
     }
-}
-
-/// The sentence that tells that a store can't be opened, behind the name of the program, as a line.
-pub(crate) fn unopened_sentence(alloc: Global, store: &str) -> Result<Octets, NoMemory> {
-    let text = format!(in alloc; "adsd: {store}: the store can't be opened: the disk failed\n")?;
-    Octets::copy_of(alloc, text.as_bytes())
 }
 
 fn copy_of(alloc: Global, store: &Store) -> Result<Octets, NoMemory> {

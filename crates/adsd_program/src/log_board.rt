@@ -1,14 +1,18 @@
 //! What becomes of events, told to the log.
 
+use ads_base::Octets;
 use daemon_core::Board;
 use daemon_log::{Noticeboard, Reloaded, Served};
 use server_core::{Outcome, Summary};
+use store_file::StoreHandle;
 use symbol_file::DescFault;
 
-/// Posts what becomes of descriptions, and the counts, on the log's board.
+/// Posts what becomes of descriptions, and the counts, on the log's board; and hands bodies at new descriptions to the store's file,
+/// where there is one.
 #[derive(Drop)]
 pub(crate) struct LogBoard {
     pub(crate) board: Noticeboard,
+    pub(crate) store: Option<StoreHandle>,
 }
 
 impl Board for LogBoard {
@@ -30,6 +34,16 @@ impl Board for LogBoard {
             replies: counts.replies,
             samples: counts.samples,
         });
+    }
+
+    fn wants_bodies(&self) -> bool {
+        self.store.is_some()
+    }
+
+    fn replaced(&mut self, before: &Option<Octets>, now: &Option<Octets>) {
+        if let Some(store) = &self.store {
+            store.replaced(before, now);
+        }
     }
 }
 

@@ -7,7 +7,7 @@ ghost use Rattle.run_tasks.specs.StatusTable.{number_of};
 use crate::serving::serve_setup;
 use ads_edge::{RealFiles, RealSink, hold_standard_descriptors, words_of_process};
 use ads_outside::Sink;
-use daemon_edge::ErrSink;
+use daemon_edge::{ErrSink, RealPlaces};
 use daemon_run::{Prepared, prepare};
 use run_tasks::{Status, end_without_memory};
 use std::io::ErrorKind;
@@ -60,7 +60,8 @@ fn run_words<T: Threads + Sync, S: Sink, E: Sink>(
     let Ok(mut files) = RealFiles::new(rt.alloc(), *rt) else {
         return end_without_memory(err);
     };
-    match prepare(rt.alloc(), words, &mut files, out, err) {
+    let places = RealPlaces::new(*rt);
+    match prepare(rt.alloc(), words, &mut files, &places, out, err) {
         Prepared::Ended(status) => status,
         Prepared::Ready(setup) => serve_setup(rt, threads, &setup, &mut files, out, err),
     }

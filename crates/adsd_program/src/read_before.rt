@@ -2,6 +2,7 @@
 
 ghost use Rattle.ads_outside.specs.Limit.{IsWithinLimit};
 
+use ads_base::Octets;
 use ads_edge::RealFiles;
 use ads_outside::{Files, Got};
 
@@ -14,6 +15,8 @@ const LIMIT: usize = 16_777_216;
 pub(crate) struct ReadBefore {
     files: RealFiles<HostRuntime>,
     first: Option<Got>,
+    // The first is not what the file held.
+    stands_in: bool,
     faults: u64,
 }
 
@@ -24,8 +27,20 @@ impl ReadBefore {
         ReadBefore {
             files,
             first: Some(first),
+            stands_in: false,
             faults: 0,
         }
+    }
+
+    /// Another text stands in for what the file held.
+    pub fn stand_in(&mut self, text: Octets) {
+        self.first = Some(Got::Bytes(text));
+        self.stands_in = true;
+    }
+
+    /// Whether another text stands in for what the file held.
+    pub fn stands_in(&self) -> bool {
+        self.stands_in
     }
 
     /// The text of the file, where it could be read and was not asked for.

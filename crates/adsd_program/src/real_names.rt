@@ -27,4 +27,8 @@ impl<R: Net + Clock + SystemFiles + Eprint + Drop> PeerNames<Routed<RealWire<R>>
     fn failed_readings(&self, wire: &Routed<RealWire<R>>) -> u64 {
         wire.wire.failed_readings()
     }
+
+    fn without_descriptor(&self, wire: &Routed<RealWire<R>>) -> u64 {
+        wire.wire.without_descriptor()
+    }
 }

@@ -9,7 +9,7 @@ use crate::case_notes::CaseNotes;
 use ads_base::{Calls, ListOf, NoMemory, Octets};
 use ads_outside::{Cuts, Files, MemFiles, MemSink, MemWire, Sink, Wire};
 use daemon_log::{Chronicle, Noticeboard};
-use daemon_outside::{MemBeacon, MemOutlet, MemStop, NoNames, Onlooker, Stop};
+use daemon_outside::{MemBeacon, MemOutlet, MemStop, NoNames, NoPlaces, Onlooker, Stop};
 use daemon_run::{Prepared, prepare, run_watched};
 use daemon_signals::{NoRecordings, Played, read_sources};
 use daemon_words::{OthersWord, ProfileWord, Setup};
@@ -178,7 +178,7 @@ fn run_words<
     disk: &mut D,
     board: &Noticeboard,
 ) -> Result<Status, Fault> {
-    match prepare(alloc, words, files, out, err) {
+    match prepare(alloc, words, files, &NoPlaces, out, err) {
         Prepared::Ended(status) => Ok(status),
         Prepared::Ready(setup) => {
             let mut recordings = NoRecordings;

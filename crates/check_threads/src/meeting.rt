@@ -2,10 +2,9 @@
 
 use server_core::Gate;
 use std::sync::atomic::{AtomicU64, Ordering};
-use std::thread::yield_now;
 
 /// How often it is looked whether another thread has come.
-const LOOKS: u64 = 10_000_000;
+const LOOKS: u64 = 100_000_000;
 
 /// A gate at which two threads meet, if they run at once.
 #[derive(Drop)]
@@ -42,7 +41,6 @@ impl Gate for Meeting {
                 self.met.fetch_add(1, Ordering::SeqCst);
                 return;
             }
-            yield_now();
         }
     }
 }

@@ -1,74 +1,52 @@
-//! Two sessions over the smallest plant.
-
-ghost use Rattle.std.specs.Prelude.{◌≡◌, IfOk, false};
-ghost use Rattle.type_layout.specs.Descriptions.{description_of};
-ghost use Rattle.spec_plant.specs.World.{Plant};
-ghost use Rattle.spec_machine.specs.Client.{new_client};
-ghost use Rattle.port_device.specs.Holds.{WasAccepted};
-ghost use Rattle.session.specs.StandsFor.{StandsFor};
+//! Two sessions, each of which is due to be told of Main.count.
 
 use crate::meeting::Meeting;
-use ads_base::{NetId, NoMemory};
+use crate::plant::{described, watching};
 use port_device::Ports;
-use server_core::{Turned, check_all};
-use session::{FrameList, Session};
-use std::alloc::Global;
+use server_core::{OpenGate, Turned, check_all};
 use std::test::Fail;
-use type_layout::{Description, DeviceFacts4, PortDesc, PortList, Routes4, Sizes, Symbols, Types};
 
-const NET: NetId = NetId {
-    bytes: [5, 1, 2, 3, 1, 1],
-};
+/// The moment of the tick.
+const NOW: u64 = 1000;
 
-// One port without a byte.
-fn smallest(alloc: Global) -> Result<Description, NoMemory>
-    ensures { IfOk result (λ d. WasAccepted (description_of d)) }
-{
-    let mut ports = PortList::new(alloc);
-    let port = PortDesc {
-        port: 851,
-        facts: DeviceFacts4 {
-            major: 0,
-            minor: 0,
-            build: 0,
-            name: [0; 16],
-        },
-        sizes: Sizes {
-            inputs: 0,
-            outputs: 0,
-            memory: 0,
-            process: 0,
-        },
-        symbols: Symbols::new(alloc),
-    };
-    ports.push(alloc, port)?;
-    Ok(Description {
-        net: NET,
-        routes: Routes4::new(alloc),
-        types: Types::new(alloc),
-        ports,
-    })
-}
+// What each is told at it: a frame of port 851 to 192.168.0.9.1.1:32905, with one stamp and one sample, of handle 1: 42.
+const FRAME: [u8; 70] = [
+    0, 0, 0x40, 0, 0, 0, 0xc0, 0xa8, 0, 9, 1, 1, 0x89, 0x80, 5, 1, 2, 3, 1, 1, 0x53, 3, 8, 0, 4, 0,
+    0x20, 0, 0, 0, 0, 0, 0, 0, 0, 0, 0, 0, 28, 0, 0, 0, 1, 0, 0, 0, 0xe8, 3, 0, 0, 0, 0, 0, 0, 1,
+    0, 0, 0, 1, 0, 0, 0, 4, 0, 0, 0, 0x2a, 0, 0, 0,
+];
 
-fn turned(alloc: Global) -> Result<Turned, NoMemory>
-    ensures { IfOk result (λ turned. (plant : Plant) → StandsFor plant new_client turned.session) }
-{
-    Ok(Turned {
-        session: Session::new(alloc)?,
-        skip: false,
-        out: FrameList::new(alloc),
-    })
+// Whether a session gives that frame, and no other.
+fn is_told(turned: &Turned) -> bool {
+    match turned.out.as_slice() {
+        [one] => one.samples == 1 && one.frame.as_slice() == FRAME.as_slice(),
+        _ => false,
+    }
 }
 
 #[test]
 #[tactic(auto, using(port_device::proofs::BuiltLemmas::accepted_may_be_built))]
 fn both_halves_are_checked_at_once(rt: HostRuntime) -> Result<(), Fail> {
     let alloc = rt.alloc();
-    let ports = Ports::build(alloc, &smallest(alloc)?)?;
-    let mut list = [turned(alloc)?, turned(alloc)?];
+    let d = described(alloc)?;
+    let ports = Ports::build(alloc, &d)?;
+    let mut list = [watching(alloc, &d)?, watching(alloc, &d)?];
     let gate = Meeting::new();
-    check_all(&rt, alloc, &mut list, &ports, NET, 1, 1, &gate)?;
+    check_all(&rt, alloc, &mut list, &ports, d.net, NOW, 1, &gate)?;
     assert_eq!(rt; gate.met(), 2);
+    assert!(rt; list.iter().all(is_told));
+    Ok(())
+}
+
+#[test]
+#[tactic(auto, using(port_device::proofs::BuiltLemmas::accepted_may_be_built))]
+fn without_levels_the_same_frames_come(rt: HostRuntime) -> Result<(), Fail> {
+    let alloc = rt.alloc();
+    let d = described(alloc)?;
+    let ports = Ports::build(alloc, &d)?;
+    let mut list = [watching(alloc, &d)?, watching(alloc, &d)?];
+    check_all(&rt, alloc, &mut list, &ports, d.net, NOW, 0, &OpenGate)?;
+    assert!(rt; list.iter().all(is_told));
     Ok(())
 }
 
@@ -76,10 +54,11 @@ fn both_halves_are_checked_at_once(rt: HostRuntime) -> Result<(), Fail> {
 #[tactic(auto, using(port_device::proofs::BuiltLemmas::accepted_may_be_built))]
 fn without_levels_one_is_checked_after_another(rt: HostRuntime) -> Result<(), Fail> {
     let alloc = rt.alloc();
-    let ports = Ports::build(alloc, &smallest(alloc)?)?;
-    let mut list = [turned(alloc)?, turned(alloc)?];
+    let d = described(alloc)?;
+    let ports = Ports::build(alloc, &d)?;
+    let mut list = [watching(alloc, &d)?, watching(alloc, &d)?];
     let gate = Meeting::new();
-    check_all(&rt, alloc, &mut list, &ports, NET, 1, 0, &gate)?;
+    check_all(&rt, alloc, &mut list, &ports, d.net, NOW, 0, &gate)?;
     // The first waited in vain, and the second saw that it had come.
     assert_eq!(rt; gate.came(), 2);
     assert_eq!(rt; gate.met(), 1);

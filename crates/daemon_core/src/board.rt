@@ -2,6 +2,7 @@
 
 ghost use Rattle.std.specs.Prelude.{◌≡◌};
 
+use ads_base::Octets;
 use server_core::{Outcome, Summary};
 
 /// Is told what each event came to, and at each tick the counts of the run. It can change nothing of the server.
@@ -20,4 +21,15 @@ pub trait Board {
     /// The counts of the run so far.
     fn counts(&mut self, counts: &Summary)
         ensures { posted self.new ≡ posted self.old };
+
+    /// Whether it wants the bodies at a new description.
+    fn wants_bodies(&self) -> bool {
+        false
+    }
+
+    /// A new description was accepted: the body of what was served before it, and that of what is served now. Each is None where
+    /// memory was wanting for it.
+    fn replaced(&mut self, _before: &Option<Octets>, _now: &Option<Octets>)
+        ensures { posted self.new ≡ posted self.old }
+    {}
 }

@@ -1,17 +1,18 @@
 //! The server's core, and the board that is told what it comes to.
 
-ghost use Rattle.std.specs.Prelude.{◌≡◌, ◌++◌, OnOk, OnErr, IsErr};
+ghost use Rattle.std.specs.Prelude.{◌≡◌, ◌++◌, OnOk, OnErr, IsErr, IfSome};
 ghost use Rattle.spec_machine.specs.Outcomes.{outcome_of_event};
 ghost use Rattle.spec_machine.specs.RunText.{notes_of_event};
+ghost use Rattle.spec_persistent.specs.Persistent.{body_of_world};
 ghost use Rattle.server_core.specs.CoreState.{CoreState, OpensNew, after_event};
 ghost use Rattle.server_core.specs.Served.{served};
 ghost use Rattle.server_core.specs.Serves.{Serves, Follows, HasFailed};
 ghost use Rattle.daemon_core.specs.Posting.{Posts};
 
 use crate::Board;
-use ads_base::NoMemory;
+use ads_base::{NoMemory, Octets};
 use ads_outside::Event;
-use server_core::{Core, Sources};
+use server_core::{Core, Outcome, Sources};
 use std::alloc::Global;
 use std::thread::Threads;
 
@@ -40,13 +41,51 @@ impl<S: Sources, B: Board + Drop> PostedCore<S, B> {
         ensures untold { OnErr result (self.new.board ≡ self.old.board) }
         ensures from_then_on { HasFailed self.old.core → IsErr result }
     {
+        let before = self.body_before(alloc, event);
         match self.core.step(rt, alloc, event) {
             Ok(outcome) => {
                 self.board.outcome(&outcome);
+                self.post_bodies(alloc, &outcome, &before);
                 self.post_counts(event);
                 Ok(())
             }
             Err(NoMemory) => Err(NoMemory),
+        }
+    }
+
+    // The body that is served before a new description, where the board wants it.
+    fn body_before(&self, alloc: Global, event: &Event) -> Option<Octets>
+        ensures body { IfSome result (λ body. (x : CoreState) → Serves self.now.core x → body ≡ body_of_world x.state.world) }
+    {
+        if let Event::Reload(_) = event {
+            if self.board.wants_bodies() {
+                return self.body_now(alloc);
+            }
+        }
+        None
+    }
+
+    // The body that is served; None where memory is wanting for it.
+    fn body_now(&self, alloc: Global) -> Option<Octets>
+        ensures body { IfSome result (λ body. (x : CoreState) → Serves self.now.core x → body ≡ body_of_world x.state.world) }
+    {
+        let mut body = Octets::new(alloc);
+        match self.core.ports().persistent(alloc, &mut body) {
+            Ok(()) => Some(body),
+            Err(NoMemory) => None,
+        }
+    }
+
+    // The bodies before and behind a new description that was accepted are posted, where the board wants them.
+    fn post_bodies(&mut self, alloc: Global, outcome: &Outcome, before: &Option<Octets>)
+        ensures core { self.new.core ≡ self.old.core }
+        ensures posted { B.posted self.new.board ≡ B.posted self.old.board }
+    {
+        if let Outcome::ReloadOk(_) = outcome {
+            if self.board.wants_bodies() {
+                let now = self.body_now(alloc);
+                self.board.replaced(before, &now);
+            }
         }
     }
 

@@ -1,6 +1,6 @@
 //! A stop by a signal that waits, or by a file.
 
-ghost use Rattle.std.specs.Prelude.{◌≡◌, ◌≤◌, IfOk, IsSome, length, vec_len};
+ghost use Rattle.std.specs.Prelude.{◌≡◌, ◌≤◌, IfOk, IsSome, is_some, length, vec_len};
 
 use crate::mask::{INTERRUPT, TERMINATE, mask_in};
 use ads_base::NoMemory;
@@ -8,7 +8,7 @@ use cli_words::Text;
 use daemon_outside::{Stop, StopCause};
 use std::alloc::{AllocError, Global};
 use std::fs;
-use std::io::Read;
+use std::io::{Read, Seek, SeekFrom};
 use std::rt::Files as SystemFiles;
 
 /// Where Linux tells the signals of a process.
@@ -22,6 +22,8 @@ const EACH: u32 = 10;
 #[derive(Drop)]
 pub struct SignalStop<R: SystemFiles + Drop> {
     rt: R,
+    // Open from the start: it can be read when no descriptor is left, and Linux writes its text anew at each reading.
+    status: Option<R::File>,
     file: Option<Text>,
     buffer: Vec<u8>,
     rest: u32,
@@ -31,13 +33,22 @@ pub struct SignalStop<R: SystemFiles + Drop> {
 impl<R: SystemFiles + Drop> SignalStop<R> {
     /// Nothing was looked up.
     pub fn new(alloc: Global, rt: R, file: Option<Text>) -> Result<SignalStop<R>, NoMemory> {
+        let status = fs::open(&rt, STATUS_FILE).ok();
         Ok(SignalStop {
             rt,
+            status,
             file,
             buffer: empty_buffer(alloc)?,
             rest: 0,
             asked: 0,
         })
+    }
+
+    /// Whether the system tells which signals wait: else the stop file alone asks for an end.
+    pub fn sees_signals(&self) -> bool
+        ensures { result ≡ is_some self.now.status }
+    {
+        self.status.is_some()
     }
 
     /// Whether SIGTERM is blocked, so that it waits for the process and does not end it.
@@ -72,9 +83,9 @@ impl<R: SystemFiles + Drop> SignalStop<R> {
         ensures asked { self.new.asked ≡ self.old.asked }
         ensures within { result ≤ vec_len self.new.buffer }
     {
-        match fs::open(&self.rt, STATUS_FILE) {
-            Ok(mut file) => read_into(&mut file, self.buffer.as_mut_slice()),
-            Err(_) => 0,
+        match &mut self.status {
+            Some(file) => read_anew(file, self.buffer.as_mut_slice()),
+            None => 0,
         }
     }
 }
@@ -84,6 +95,16 @@ fn is_there<R: SystemFiles>(rt: &R, file: &Option<Text>) -> bool {
     match file {
         Some(name) => fs::exists(rt, name.as_str()).unwrap_or(false),
         None => false,
+    }
+}
+
+// Reads a file from its start on; how many bytes that were.
+fn read_anew<F: Read + Seek>(file: &mut F, buffer: &mut [u8]) -> usize
+    ensures { result ≤ length buffer.new }
+{
+    match file.seek(SeekFrom::Start(0)) {
+        Ok(_) => read_into(file, buffer),
+        Err(_) => 0,
     }
 }
 

@@ -3,6 +3,7 @@
 use crate::notify_address::{NotifyAddress, notify_address};
 use daemon_outside::Beacon;
 use libc::net as c;
+use std::io;
 use std::rt::Env;
 
 /// MSG_DONTWAIT and MSG_NOSIGNAL.
@@ -34,11 +35,13 @@ fn datagrams() -> i32 {
 }
 
 impl Beacon for SystemdBeacon {
-    fn tell(&mut self, state: &[u8]) {
+    // What systemd does not take is not told: it looks after the daemon by itself.
+    fn tell(&mut self, state: &[u8]) -> io::Result<()> {
         if let Some(address) = &self.address {
             if self.fd >= 0 {
                 let _ = unsafe { c::sendto(self.fd, state, NOW, &address.bytes, address.len) };
             }
         }
+        Ok(())
     }
 }

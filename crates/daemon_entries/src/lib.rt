@@ -1,6 +1,10 @@
-//! What a log tells of the entries of a store: how many there are, and which fit no symbol.
+//! The entries of a store's body: how many there are, and which of them others leave out.
 #![tactic(auto)]
 
-mod unfit;
+mod counting;
+mod leaving;
+mod listing;
 
-pub use unfit::{count_in, unfit_names};
+pub use counting::count_in;
+pub use leaving::{left_out, unfit_names};
+pub use listing::with_entries;

@@ -9,6 +9,7 @@ use crate::noticeboard::Noticeboard;
 use crate::plant::Plant;
 use crate::posted::{Reloaded, SaveTold};
 use crate::reading_health::ReadingHealth;
+use crate::reminder::Reminder;
 use crate::ring::Ring;
 use crate::spoken::Spoken;
 use crate::status_text::{Beside, text_of};
@@ -18,17 +19,25 @@ use crate::told::{
     speaks_line,
 };
 use crate::told_plant as plant_lines;
-use ads_base::Octets;
 use ads_outside::Event;
 use daemon_outside::{Beacon, LogOutlet, Onlooker, PeerNames, StopCause};
 use std::alloc::{AllocError, Global};
+use std::io;
 
 /// Ticks in a second, and in ten.
 const SECOND_TICKS: u64 = 100;
 
 const STATUS_TICKS: u64 = 1_000;
 
-/// How many refused peers a wire remembers, and how many entries that fit nothing are named.
+/// Ticks between two lines that nothing is saved.
+const HELD_TICKS: u64 = 6_000;
+
+/// Ticks in a minute, and in ten.
+const MINUTE_TICKS: u64 = 6_000;
+
+const TEN_MINUTES_TICKS: u64 = 60_000;
+
+/// How many refused peers a wire remembers.
 const NAMED: u64 = 16;
 
 /// Looks on, and writes the log: a line for what began and ended, who spoke, what was reloaded and saved. It tells a beacon
@@ -57,6 +66,12 @@ pub struct Chronicle<
     ready: bool,
     health: StoreHealth,
     readings: ReadingHealth,
+    // The status file, descriptors, and the description that is served in the place of one that was refused, with its line.
+    status: Reminder,
+    descriptors: Reminder,
+    without: u64,
+    standing_in: Option<String>,
+    refused: Reminder,
     plant: Plant,
     guests: Guests,
     counts: Counts,
@@ -96,6 +111,11 @@ impl<N: Drop, J: Judge + Drop, L: LogOutlet + Drop, B: Beacon + Drop, F: Beacon 
             ready: false,
             health: StoreHealth::Well,
             readings: ReadingHealth::Well,
+            status: Reminder::new(),
+            descriptors: Reminder::new(),
+            without: 0,
+            standing_in: None,
+            refused: Reminder::new(),
             plant: Plant::new(alloc),
             guests: Guests::new(alloc),
             counts: Counts::new(now),
@@ -118,6 +138,45 @@ impl<N: Drop, J: Judge + Drop, L: LogOutlet + Drop, B: Beacon + Drop, F: Beacon 
         self.put(Level::Warning, text);
     }
 
+    /// A line that something fails.
+    pub fn complain(&mut self, text: &str) {
+        self.put(Level::Error, text);
+    }
+
+    /// The description that was kept in this file is served, since the named one breaks this rule, or can't be read. It is told now
+    /// and each minute, till a description is accepted.
+    pub fn stands_in(&mut self, kept: &str, rule: Option<(u8, u32)>) {
+        match plant_lines::kept_line(self.alloc, kept, rule) {
+            Ok(text) => {
+                self.standing_in = Some(text);
+                self.tell_standing_in();
+            }
+            Err(_) => self.ring.lose(),
+        }
+    }
+
+    // That another description is served than the named one, where it is due.
+    fn tell_standing_in(&mut self) {
+        let Some(text) = self.standing_in.take() else {
+            return;
+        };
+        if self.refused.is_due(self.counts.ticks, MINUTE_TICKS) {
+            self.put(Level::Error, text.as_str());
+        }
+        self.standing_in = Some(text);
+    }
+
+    // A description was accepted: it is kept, where descriptions are.
+    fn keep_description(&mut self) {
+        if self.plant.text().is_empty() {
+            return;
+        }
+        if let Err(error) = self.judge.keep(self.plant.text()) {
+            let text = plant_lines::unkept_line(self.alloc, &error);
+            self.put_made(Level::Error, text);
+        }
+    }
+
     /// What each machine without a route may do.
     pub fn lets_others_in(&mut self, right: &str) {
         let text = format!(in self.alloc; "other_routes {right}");
@@ -128,46 +187,6 @@ impl<N: Drop, J: Judge + Drop, L: LogOutlet + Drop, B: Beacon + Drop, F: Beacon 
     pub fn store_opened(&mut self, name: &str, entries: u64, bytes: u64) {
         let text = plant_lines::store_line(self.alloc, name, entries, bytes);
         self.put_made(Level::Info, text);
-    }
-
-    /// Entries of the store that fit no persistent symbol, by their names. The store is copied before a save leaves them out.
-    pub fn unfit(&mut self, names: &[Octets]) {
-        if names.is_empty() {
-            return;
-        }
-        self.name_unfit(names);
-        self.copy_store();
-    }
-
-    // The store is copied, which is told.
-    fn copy_store(&mut self) {
-        if let Some(text) = plant_lines::copy_text(self.judge.copy_store()) {
-            self.put(Level::Warning, text);
-        }
-    }
-
-    // What in the store fits nothing of the plant that is served from here on. Where that is not known, it is copied as well.
-    fn look_at_store(&mut self) {
-        match self.judge.unfit(self.alloc, self.plant.text()) {
-            Some(names) => self.unfit(names.as_slice()),
-            None => {
-                self.put(Level::Warning, plant_lines::UNKNOWN);
-                self.copy_store();
-            }
-        }
-    }
-
-    // The first of them by their names.
-    fn name_unfit(&mut self, names: &[Octets]) {
-        for name in names.iter().take(16) {
-            let text = plant_lines::unfit_line(self.alloc, name.as_slice());
-            self.put_made(Level::Warning, text);
-        }
-        let more = (names.len() as u64).saturating_sub(NAMED);
-        if more != 0 {
-            let text = plant_lines::more_unfit_line(self.alloc, more);
-            self.put_made(Level::Warning, text);
-        }
     }
 
     /// The run is over: what waits is given to the outlet, as far as it takes it at once.
@@ -210,9 +229,39 @@ impl<N: Drop, J: Judge + Drop, L: LogOutlet + Drop, B: Beacon + Drop, F: Beacon 
         if let Some(reload) = posted.reload {
             self.tell_reload(reload);
         }
+        if self.counts.held && !posted.held {
+            // The log said that saves go on: a fault behind that is a new one.
+            self.health = StoreHealth::Well;
+        }
+        self.counts.held = posted.held;
+        if posted.has_lines {
+            self.tell_store();
+        }
         if let Some(save) = posted.save {
             self.tell_save(save);
         }
+    }
+
+    // What the store's file told.
+    fn tell_store(&mut self) {
+        let mut told = self.board.lines_in_hand();
+        for line in told.lines.as_slice() {
+            self.put(line.level, line.text.as_str());
+        }
+        told.lines.clear();
+        self.board.give_back(told);
+    }
+
+    // Why nothing is saved, each minute.
+    fn tell_held(&mut self) {
+        if !self.counts.held || self.counts.ticks % HELD_TICKS != 0 {
+            return;
+        }
+        let told = self.board.lines_in_hand();
+        if let Some(why) = &told.held {
+            self.put(Level::Error, why.as_str());
+        }
+        self.board.give_back(told);
     }
 
     // What became of a changed description.
@@ -223,7 +272,8 @@ impl<N: Drop, J: Judge + Drop, L: LogOutlet + Drop, B: Beacon + Drop, F: Beacon 
                 self.counts.reloads = self.counts.reloads.saturating_add(1);
                 self.put_made(Level::Info, text);
                 self.plant.accept(self.alloc);
-                self.look_at_store();
+                self.standing_in = None;
+                self.keep_description();
             }
             Reloaded::Syntax | Reloaded::Breaks(_, _) => {
                 self.counts.refusals = self.counts.refusals.saturating_add(1);
@@ -267,15 +317,17 @@ impl<N: Drop, J: Judge + Drop, L: LogOutlet + Drop, B: Beacon + Drop, F: Beacon 
         self.counts.tick(moment);
         if !self.ready {
             self.ready = true;
-            self.beacon.tell(b"READY=1\nSTATUS=serving");
+            let _ = self.beacon.tell(b"READY=1\nSTATUS=serving");
             self.file_counts();
         }
         if self.counts.ticks % SECOND_TICKS == 0 {
-            self.beacon.tell(b"WATCHDOG=1");
+            let _ = self.beacon.tell(b"WATCHDOG=1");
         }
         if self.counts.ticks % STATUS_TICKS == 0 {
             self.file_counts();
         }
+        self.tell_held();
+        self.tell_standing_in();
         self.tell_lost();
         let _ = self.ring.flush(&mut self.outlet);
     }
@@ -288,7 +340,25 @@ impl<N: Drop, J: Judge + Drop, L: LogOutlet + Drop, B: Beacon + Drop, F: Beacon 
             lost: self.ring.lost(),
         };
         if let Ok(text) = text_of(self.alloc, &self.counts, beside) {
-            self.file.tell(text.as_bytes());
+            let told = self.file.tell(text.as_bytes());
+            self.tell_status(told);
+        }
+    }
+
+    // It is told where the status file can't be written, at once and each ten minutes, and where it is written again.
+    fn tell_status(&mut self, told: io::Result<()>) {
+        match told {
+            Ok(()) => {
+                if self.status.is_over() {
+                    self.put(Level::Notice, plant_lines::STATUS_WELL);
+                }
+            }
+            Err(error) => {
+                if self.status.is_due(self.counts.ticks, TEN_MINUTES_TICKS) {
+                    let text = plant_lines::status_line(self.alloc, &error);
+                    self.put_made(Level::Warning, text);
+                }
+            }
         }
     }
 
@@ -337,6 +407,7 @@ impl<N: Drop, J: Judge + Drop, L: LogOutlet + Drop, B: Beacon + Drop, F: Beacon 
     fn first(&mut self, listen: &str, name: &str, bytes: &[u8]) {
         self.plant.hear(self.alloc, bytes);
         self.plant.accept(self.alloc);
+        self.keep_description();
         let len = bytes.len();
         let text = format!(in self.alloc; "listening at {listen}, {name}, {len} bytes");
         self.put_made(Level::Info, text);
@@ -373,6 +444,17 @@ impl<N: Drop, J: Judge + Drop, L: LogOutlet + Drop, B: Beacon + Drop, F: Beacon 
             self.tell_refused(wire);
             let failed = self.names.failed_readings(wire);
             self.tell_readings(failed);
+            let without = self.names.without_descriptor(wire);
+            self.tell_descriptors(without);
+        }
+    }
+
+    // Once a minute it is told that nobody could be accepted for want of a descriptor.
+    fn tell_descriptors(&mut self, without: u64) {
+        let more = without != self.without;
+        self.without = without;
+        if more && self.descriptors.is_due(self.counts.ticks, MINUTE_TICKS) {
+            self.put(Level::Warning, plant_lines::NO_DESCRIPTOR);
         }
     }
 
@@ -471,7 +553,7 @@ impl<
 
     fn stops(&mut self, cause: StopCause) {
         self.look();
-        self.beacon.tell(b"STOPPING=1\nSTATUS=stopping");
+        let _ = self.beacon.tell(b"STOPPING=1\nSTATUS=stopping");
         let text = match cause {
             StopCause::Terminate => "stopping: SIGTERM",
             StopCause::Interrupt => "stopping: SIGINT",

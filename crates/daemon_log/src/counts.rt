@@ -27,6 +27,8 @@ pub(crate) struct Counts {
     pub(crate) saved: u64,
     pub(crate) save_time: u64,
     pub(crate) failed_readings: u64,
+    /// Nothing is saved.
+    pub(crate) held: bool,
 }
 
 impl Counts {
@@ -54,6 +56,7 @@ impl Counts {
             saved: 0,
             save_time: 0,
             failed_readings: 0,
+            held: false,
         }
     }
 

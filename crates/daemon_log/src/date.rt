@@ -16,17 +16,17 @@ const BEFORE: [u64; 12] = [0, 31, 59, 90, 120, 151, 181, 212, 243, 273, 304, 334
 
 /// A second of the calendar.
 #[derive(Clone, Copy, Debug, PartialEq, Eq)]
-pub(crate) struct Date {
-    pub(crate) year: u64,
-    pub(crate) month: u64,
-    pub(crate) day: u64,
-    pub(crate) hour: u64,
-    pub(crate) minute: u64,
-    pub(crate) second: u64,
+pub struct Date {
+    pub year: u64,
+    pub month: u64,
+    pub day: u64,
+    pub hour: u64,
+    pub minute: u64,
+    pub second: u64,
 }
 
 /// The date of a moment in 100 ns since 1 January 1601.
-pub(crate) fn date_of(moment: u64) -> Date {
+pub fn date_of(moment: u64) -> Date {
     let seconds = moment / 10_000_000;
     let days = seconds / 86_400;
     let within = seconds % 86_400;

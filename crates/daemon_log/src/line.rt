@@ -7,8 +7,10 @@ use std::alloc::Global;
 
 /// How much a line weighs, as syslog numbers it.
 #[derive(Clone, Copy, Debug, PartialEq, Eq)]
-pub(crate) enum Level {
+pub enum Level {
+    /// The daemon ends, or can't save.
     Error,
+    /// What somebody should look at.
     Warning,
     Notice,
     Info,

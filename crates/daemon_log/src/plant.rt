@@ -1,5 +1,7 @@
 //! What a log knows of the plant that is served.
 
+ghost use Rattle.std.specs.Prelude.{◌≡◌};
+
 use crate::judge::Judge;
 use crate::spoken::Spoken;
 use ads_base::{ListOf, NetId, Octets};
@@ -44,8 +46,10 @@ impl Plant {
         self.known = false;
     }
 
-    /// The text that is served.
-    pub(crate) fn text(&self) -> &[u8] {
+    /// The text that is served; empty where there was no memory for it.
+    pub(crate) fn text(&self) -> &[u8]
+        ensures { result.now ≡ self.now.text }
+    {
         self.text.as_slice()
     }
 

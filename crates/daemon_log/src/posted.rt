@@ -40,6 +40,10 @@ pub(crate) struct Posted {
     pub(crate) saves: u64,
     pub(crate) faults: u64,
     pub(crate) served: Served,
+    /// There are lines of the store's file.
+    pub(crate) has_lines: bool,
+    /// Nothing is saved.
+    pub(crate) held: bool,
 }
 
 impl Posted {
@@ -55,6 +59,8 @@ impl Posted {
                 replies: 0,
                 samples: 0,
             },
+            has_lines: false,
+            held: false,
         }
     }
 

@@ -25,6 +25,7 @@ pub(crate) fn text_of(
     put_reloads(alloc, &mut text, counts)?;
     put_ticks(alloc, &mut text, counts)?;
     put_store(alloc, &mut text, counts)?;
+    put_gauge(alloc, &mut text, "adsd_store_held", u64::from(counts.held))?;
     put_counter(alloc, &mut text, "adsd_log_lines_lost_total", beside.lost)?;
     Ok(text)
 }

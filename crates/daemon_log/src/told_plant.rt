@@ -1,9 +1,9 @@
 //! The lines that a log tells of descriptions and of the store.
 
-use crate::judge::StoreCopy;
 use crate::posted::Reloaded;
 use crate::rules::rule_text;
 use std::alloc::{AllocError, Global};
+use std::io;
 
 /// The description that was to be served breaks this rule, and in it this item; rule 0 for no TOML document.
 pub(crate) fn refused_line(alloc: Global, rule: u8, item: u32) -> Result<String, AllocError> {
@@ -34,6 +34,42 @@ pub(crate) const UNREADABLE: &str =
 /// What is told where it can be read again.
 pub(crate) const READABLE: &str = "description: can be read again";
 
+/// What is told while the description that was kept is served.
+pub(crate) fn kept_line(
+    alloc: Global,
+    kept: &str,
+    rule: Option<(u8, u32)>,
+) -> Result<String, AllocError> {
+    match rule {
+        Some((rule, item)) => {
+            let words = rule_text(rule);
+            format!(in alloc;
+                "description refused: rule {rule} item {item}: {words}; the last one that was accepted is served, {kept}"
+            )
+        }
+        None => format!(in alloc;
+            "description: cannot be read; the last one that was accepted is served, {kept}"
+        ),
+    }
+}
+
+/// That an accepted description could not be kept, and why.
+pub(crate) fn unkept_line(alloc: Global, error: &io::Error) -> Result<String, AllocError> {
+    format!(in alloc; "description: cannot be kept beside the store: {error}")
+}
+
+/// The status file could not be written, and why.
+pub(crate) fn status_line(alloc: Global, error: &io::Error) -> Result<String, AllocError> {
+    format!(in alloc; "status: the status file cannot be written: {error}")
+}
+
+/// What is told where the status file is written again.
+pub(crate) const STATUS_WELL: &str = "status: the status file is written again";
+
+/// What is told where nobody can be accepted for want of a descriptor.
+pub(crate) const NO_DESCRIPTOR: &str =
+    "no descriptor is left for a new connection: raise the limit";
+
 /// The store was opened.
 pub(crate) fn store_line(
     alloc: Global,
@@ -42,41 +78,6 @@ pub(crate) fn store_line(
     bytes: u64,
 ) -> Result<String, AllocError> {
     format!(in alloc; "store opened: {name}, {entries} entries, {bytes} bytes")
-}
-
-/// An entry of the store that fits no symbol.
-pub(crate) fn unfit_line(alloc: Global, name: &[u8]) -> Result<String, AllocError> {
-    match std::str::from_utf8(name) {
-        Ok(name) => format!(in alloc;
-            "store: no persistent symbol fits the entry {name}, so the next save leaves it out"
-        ),
-        Err(_) => format!(in alloc;
-            "store: no persistent symbol fits an entry whose name is no text, so the next save leaves it out"
-        ),
-    }
-}
-
-/// More entries that fit no symbol.
-pub(crate) fn more_unfit_line(alloc: Global, entries: u64) -> Result<String, AllocError> {
-    format!(in alloc; "store: {entries} more entries fit no persistent symbol")
-}
-
-/// What is told where the entries of the store can't be held beside a new description.
-pub(crate) const UNKNOWN: &str =
-    "store: out of memory or the disk failed, so which entries fit the description is not known";
-
-/// What came of a copy of the store's file, where there is something to tell.
-pub(crate) fn copy_text(copy: StoreCopy) -> Option<&'static str> {
-    match copy {
-        StoreCopy::NotAsked => None,
-        StoreCopy::Copied => Some("store: its file was copied to the name with .before behind it"),
-        StoreCopy::There => Some(
-            "store: there is a copy with .before behind its name already, and no other was made",
-        ),
-        StoreCopy::Failed => Some(
-            "store: its file cannot be copied to the name with .before behind it",
-        ),
-    }
 }
 
 /// The save with this number since the start was done, in a time of 100 ns each.

@@ -1,3 +1,4 @@
 pub mod Outlet
 pub mod MemStop
 pub mod MemOutlet
+pub mod Places

@@ -1,7 +1,9 @@
 //! Whom a daemon tells its state.
 
-/// Is told the state of a daemon, as `READY=1`, and answers nothing.
+use std::io;
+
+/// Is told the state of a daemon, as `READY=1`.
 pub trait Beacon {
-    /// Tells a state.
-    fn tell(&mut self, state: &[u8]);
+    /// Tells a state; what failed where it could not be told.
+    fn tell(&mut self, state: &[u8]) -> io::Result<()>;
 }

@@ -1,4 +1,4 @@
-//! The outside of a daemon: what asks it to stop, who looks on, where its log goes, whom it tells its state; and stand-ins in memory.
+//! The outside of a daemon: what asks it to stop, who looks on, where its log goes, whom it tells its state, what stands at names of files; and stand-ins in memory.
 #![tactic(auto)]
 
 mod beacon;
@@ -9,6 +9,8 @@ mod mem_outlet;
 mod mem_stop;
 mod onlooker;
 mod peer_names;
+mod place;
+mod places;
 mod stop;
 mod stop_cause;
 
@@ -20,5 +22,7 @@ pub use mem_outlet::MemOutlet;
 pub use mem_stop::MemStop;
 pub use onlooker::Onlooker;
 pub use peer_names::{NoNames, PeerNames};
+pub use place::{Node, Place};
+pub use places::{Folder, NoPlaces, Places};
 pub use stop::Stop;
 pub use stop_cause::StopCause;

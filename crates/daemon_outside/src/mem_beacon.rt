@@ -3,8 +3,9 @@
 ghost use Rattle.std.specs.Prelude.{◌≡◌};
 
 use crate::Beacon;
-use ads_base::{ListOf, Octets};
+use ads_base::{ListOf, NoMemory, Octets};
 use std::alloc::Global;
+use std::io::{self, ErrorKind};
 
 /// The states that were told, in order, as far as memory sufficed.
 #[derive(Drop)]
@@ -31,9 +32,15 @@ impl MemBeacon {
 }
 
 impl Beacon for MemBeacon {
-    fn tell(&mut self, state: &[u8]) {
-        if let Ok(copy) = Octets::copy_of(self.alloc, state) {
-            let _ = self.states.push(self.alloc, copy);
+    fn tell(&mut self, state: &[u8]) -> io::Result<()> {
+        match put_copy(self.alloc, &mut self.states, state) {
+            Ok(()) => Ok(()),
+            Err(NoMemory) => Err(ErrorKind::OutOfMemory.into()),
         }
     }
+}
+
+fn put_copy(alloc: Global, states: &mut ListOf<Octets>, state: &[u8]) -> Result<(), NoMemory> {
+    let copy = Octets::copy_of(alloc, state)?;
+    states.push(alloc, copy)
 }

@@ -19,6 +19,11 @@ pub trait PeerNames<W> {
     fn failed_readings(&self, _wire: &W) -> u64 {
         0
     }
+
+    /// How often since the start nobody could be accepted since no descriptor was left.
+    fn without_descriptor(&self, _wire: &W) -> u64 {
+        0
+    }
 }
 
 /// Knows no peer.

@@ -2,7 +2,7 @@
 use Rattle.std.specs.Prelude.{◌≡◌, ◌⊎◌, ℕ, List, [], ◌∷◌, ◌++◌, Option, Some, None, codes}
 use Rattle.daemon_words.specs.declared.field.Field.{Field}
 use Rattle.daemon_words.specs.declared.field.Field.TheVariants.{Description, Listen, Store, SaveEach, Allow, OtherRoutes, Profile, Signal, Status, Log}
-use Rattle.daemon_words.specs.declared.field.Field.TheVariants.{StopFile}
+use Rattle.daemon_words.specs.declared.field.Field.TheVariants.{StopFile, StoreDamaged, KeepDescription, Settle}
 use Rattle.daemon_words.specs.Said.{Said, Puts, nothing_said}
 
 -- the option of a field; the description and the signals have none
@@ -11,6 +11,9 @@ option_of Description = []
 option_of Listen = codes "--listen"
 option_of Store = codes "--store"
 option_of SaveEach = codes "--save-each"
+option_of StoreDamaged = codes "--store-damaged"
+option_of KeepDescription = codes "--keep-description"
+option_of Settle = codes "--settle"
 option_of Allow = codes "--allow"
 option_of OtherRoutes = codes "--other-routes"
 option_of Profile = codes "--profile"

@@ -1,8 +1,11 @@
 -- The setup of what was said. This project's own choice.
-use Rattle.std.specs.Prelude.{◌≡◌, ◌==◌, ℕ, List, [], ◌∷◌, ◌++◌, length, Option, Some, None, codes, if◌then◌else◌}
+use Rattle.std.specs.Prelude.{◌≡◌, ◌==◌, ℕ, false, List, [], ◌∷◌, ◌++◌, length, Option, Some, None, is_some, codes, if◌then◌else◌}
+use Rattle.daemon_words.specs.declared.field.Field.{Field}
+use Rattle.daemon_words.specs.declared.field.Field.TheVariants.{SaveEach, StoreDamaged, KeepDescription}
 use Rattle.daemon_words.specs.declared.log_form.LogForm.TheVariants.{Plain}
 use Rattle.daemon_words.specs.declared.profile_word.ProfileWord.TheVariants.{Wide}
 use Rattle.daemon_words.specs.declared.seconds.Seconds.{Seconds}
+use Rattle.daemon_words.specs.declared.settle.Settle.{Settle}
 use Rattle.daemon_words.specs.declared.setup.Setup.{Setup}
 use Rattle.daemon_words.specs.Said.{Said}
 
@@ -34,12 +37,27 @@ abbrev pub seconds_or : Option Seconds → ℕ
 seconds_or None = 10
 seconds_or (Some s) = s.count
 
+-- seconds for which a changed description is to stand: 0 where nothing was said
+abbrev pub settle_or : Option Settle → ℕ
+settle_or None = 0
+settle_or (Some s) = s.count
+
+-- what was said of a store, where none is named: what is first of how often to save, a damaged store, and descriptions that are kept
+abbrev pub lacks_store : Said → Option Field
+lacks_store said = if is_some said.store then None
+    else if is_some said.save_each then Some SaveEach
+    else if said.begins then Some StoreDamaged
+    else if said_or false said.keeps then Some KeepDescription else None
+
 -- a setup has the fields that were said; of the description it is the one that was said, or this file
 pub record SetsUp (said : Said) (file : List ℕ) (setup : Setup) : Type 0 where
   pub description : setup.description ≡ said_or file said.description
   pub listen : setup.listen ≡ listen_or (codes "127.0.0.1:48898") said.listen
   pub store : setup.store ≡ said.store
   pub save_each : setup.save_each ≡ seconds_or said.save_each
+  pub begins : setup.begins_damaged ≡ said.begins
+  pub keeps : setup.keeps_description ≡ said_or false said.keeps
+  pub settle : setup.settle ≡ settle_or said.settle
   pub allow : setup.allow ≡ said.allow
   pub others : setup.others ≡ said.others
   pub profile : setup.profile ≡ said_or Wide said.profile

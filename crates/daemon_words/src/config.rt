@@ -1,30 +1,56 @@
 //! A configuration, read.
 
 use crate::signals_in::signal_in;
-use crate::{Field, Given, Seconds, SetupFault};
+use crate::{Field, Given, Seconds, Settle, SetupFault};
+use ads_base::NoMemory;
 use cli_words::Text;
 use std::alloc::Global;
+use toml::de::Error;
 use toml::{Table, Value};
 
+/// What a file is that may be a configuration.
+#[derive(Debug, Drop)]
+pub enum ConfigRead {
+    /// A configuration: what it gives was added.
+    Config,
+    /// Another TOML table, as a description of a plant.
+    Other,
+    /// No TOML table, and where and why, in one line.
+    NoToml(Text),
+}
+
 /// Adds what a configuration gives, a TOML table with the key `description`, to what is given in words, which counts first.
-/// False where the bytes are no such table, as those of a description of a plant, and then nothing was added.
-pub fn config_in(alloc: Global, bytes: &[u8], given: &mut Given) -> Result<bool, SetupFault> {
+/// Where the bytes are no such table nothing is added.
+pub fn config_in(alloc: Global, bytes: &[u8], given: &mut Given) -> Result<ConfigRead, SetupFault> {
     match toml::table_from_slice(alloc, bytes) {
         Ok(table) => {
             if table.get("description").is_none() {
-                return Ok(false);
+                return Ok(ConfigRead::Other);
             }
             add_table(alloc, &table, given)?;
-            Ok(true)
+            Ok(ConfigRead::Config)
         }
         Err(error) => {
             if error.is_memory() {
                 Err(SetupFault::Memory)
             } else {
-                Ok(false)
+                Ok(ConfigRead::NoToml(reason_of(alloc, &error)?))
             }
         }
     }
+}
+
+// Why a text is no TOML, in one line.
+fn reason_of(alloc: Global, error: &Error) -> Result<Text, NoMemory> {
+    let told = format!(in alloc; "{error}")?;
+    let mut line = String::new(alloc);
+    for part in told.as_str().lines() {
+        if !line.is_empty() {
+            line.push_str(": ")?;
+        }
+        line.push_str(part)?;
+    }
+    Text::copy_of(alloc, line.as_str())
 }
 
 fn add_table(alloc: Global, table: &Table, given: &mut Given) -> Result<(), SetupFault> {
@@ -50,10 +76,13 @@ fn put_value(
 ) -> Result<(), SetupFault> {
     match field {
         Field::SaveEach => given.put_seconds(seconds_in(value)),
+        Field::KeepDescription => given.put_keeps(value.as_bool()),
+        Field::Settle => given.put_settle(settle_in(value)),
         Field::Signal => put_signals(alloc, given, value),
         Field::Listen | Field::Allow => put_list(alloc, given, field, value),
         Field::Description
         | Field::Store
+        | Field::StoreDamaged
         | Field::OtherRoutes
         | Field::Profile
         | Field::Status
@@ -65,6 +94,11 @@ fn put_value(
 fn seconds_in(value: &Value) -> Option<Seconds> {
     let number = value.as_integer()?;
     Seconds::of_count(u64::try_from(number).ok()?)
+}
+
+fn settle_in(value: &Value) -> Option<Settle> {
+    let number = value.as_integer()?;
+    Settle::of_count(u64::try_from(number).ok()?)
 }
 
 fn put_one(

@@ -7,6 +7,9 @@ pub enum Field {
     Listen,
     Store,
     SaveEach,
+    StoreDamaged,
+    KeepDescription,
+    Settle,
     Allow,
     OtherRoutes,
     Profile,
@@ -17,11 +20,14 @@ pub enum Field {
 }
 
 // All of them.
-const FIELDS: [Field; 11] = [
+const FIELDS: [Field; 14] = [
     Field::Description,
     Field::Listen,
     Field::Store,
     Field::SaveEach,
+    Field::StoreDamaged,
+    Field::KeepDescription,
+    Field::Settle,
     Field::Allow,
     Field::OtherRoutes,
     Field::Profile,
@@ -32,10 +38,13 @@ const FIELDS: [Field; 11] = [
 ];
 
 // Those that an option sets.
-const OPTIONS: [Field; 9] = [
+const OPTIONS: [Field; 12] = [
     Field::Listen,
     Field::Store,
     Field::SaveEach,
+    Field::StoreDamaged,
+    Field::KeepDescription,
+    Field::Settle,
     Field::Allow,
     Field::OtherRoutes,
     Field::Profile,
@@ -79,6 +88,9 @@ impl Field {
             Field::Listen => "--listen",
             Field::Store => "--store",
             Field::SaveEach => "--save-each",
+            Field::StoreDamaged => "--store-damaged",
+            Field::KeepDescription => "--keep-description",
+            Field::Settle => "--settle",
             Field::Allow => "--allow",
             Field::OtherRoutes => "--other-routes",
             Field::Profile => "--profile",
@@ -95,6 +107,9 @@ impl Field {
             Field::Listen => "listen",
             Field::Store => "store",
             Field::SaveEach => "save_each",
+            Field::StoreDamaged => "store_damaged",
+            Field::KeepDescription => "keep_description",
+            Field::Settle => "settle",
             Field::Allow => "allow",
             Field::OtherRoutes => "other_routes",
             Field::Profile => "profile",
@@ -113,6 +128,10 @@ impl Field {
                 "takes an address: localhost, an IPv4 address or an IPv6 address in brackets, a colon, and a port from 1 to 65535",
             Field::Store => "takes the name of the file that keeps persistent symbols",
             Field::SaveEach => "takes a number of seconds from 1 to 86400",
+            Field::StoreDamaged =>
+                "takes begin: copy a damaged store, and serve without what it lost",
+            Field::KeepDescription => "takes true or false",
+            Field::Settle => "takes a number of seconds from 0 to 3600",
             Field::Allow =>
                 "takes a net, or a list of them: an IP address, or one with a slash and the number of bits that count",
             Field::OtherRoutes => "takes read or write, what each machine without a route may do",
@@ -133,6 +152,9 @@ impl Field {
             Field::Description
             | Field::Store
             | Field::SaveEach
+            | Field::StoreDamaged
+            | Field::KeepDescription
+            | Field::Settle
             | Field::OtherRoutes
             | Field::Profile
             | Field::Status

@@ -1,14 +1,16 @@
 //! What is given by words or by a configuration.
 
-ghost use Rattle.std.specs.Prelude.{◌≡◌, ◌↔◌, ◌++◌, ◌∷◌, [], Some, None, IsSome, IsNone, IfOk, OnOk, length, ◌<◌, ◌≤◌};
+ghost use Rattle.std.specs.Prelude.{◌≡◌, ◌≢◌, ◌⊎◌, ◌++◌, ◌∷◌, ℕ, [], Some, None, true, false, IsSome, IfOk, OnOk, IsErr, decimal, length, ◌<◌, ◌≤◌};
 ghost use Rattle.daemon_words.specs.Said.{Puts, nothing_said};
-ghost use Rattle.daemon_words.specs.Setups.{SetsUp, said_or, listen_or};
+ghost use Rattle.daemon_words.specs.Setups.{SetsUp, lacks_store, said_or, listen_or, settle_or};
+ghost use Rattle.daemon_words.specs.YesNo.{begins_in, truth_in};
 
 use crate::address::is_address;
 use crate::defaults::{DEFAULT_LISTEN, signals_of_serve};
 use crate::joined_texts::joined;
+use crate::yes_no::{begins_by_word, truth_of_word};
 use crate::{
-    Field, IpNet, LogForm, OthersWord, ProfileWord, Seconds, Setup, SetupFault, SignalTable,
+    Field, IpNet, LogForm, OthersWord, ProfileWord, Seconds, Settle, Setup, SetupFault, SignalTable,
 };
 use ads_base::{ListOf, NoMemory};
 use cli_words::{Text, TextList};
@@ -22,6 +24,9 @@ pub struct Given {
     listen: TextList,
     store: Option<Text>,
     save_each: Option<Seconds>,
+    begins: bool,
+    keeps: Option<bool>,
+    settle: Option<Settle>,
     allow: ListOf<IpNet>,
     others: Option<OthersWord>,
     profile: Option<ProfileWord>,
@@ -42,6 +47,9 @@ impl Model for Given {
       listen = g.listen;
       store = g.store;
       save_each = g.save_each;
+      begins = g.begins;
+      keeps = g.keeps;
+      settle = g.settle;
       allow = g.allow;
       others = g.others;
       profile = g.profile;
@@ -64,6 +72,9 @@ impl Given {
             listen: ListOf::new(alloc),
             store: None,
             save_each: None,
+            begins: false,
+            keeps: None,
+            settle: None,
             allow: ListOf::new(alloc),
             others: None,
             profile: None,
@@ -85,13 +96,16 @@ impl Given {
             Field::Description => put_name(alloc, &mut self.description, field, text),
             Field::Listen => self.put_address(alloc, text),
             Field::Store => put_name(alloc, &mut self.store, field, text),
-            Field::SaveEach => self.put_seconds_text(text),
+            Field::SaveEach => self.put_seconds_text(alloc, text),
+            Field::StoreDamaged => self.put_damaged(alloc, text),
+            Field::KeepDescription => self.put_keeps_text(alloc, text),
+            Field::Settle => self.put_settle_text(alloc, text),
             Field::Allow => self.put_net(alloc, text),
-            Field::OtherRoutes => self.put_others(text),
-            Field::Profile => self.put_profile(text),
+            Field::OtherRoutes => self.put_others(alloc, text),
+            Field::Profile => self.put_profile(alloc, text),
             Field::Signal => Err(SetupFault::Wrong(field)),
             Field::Status => put_name(alloc, &mut self.status, field, text),
-            Field::Log => self.put_log(text),
+            Field::Log => self.put_log(alloc, text),
             Field::StopFile => put_name(alloc, &mut self.stop_file, field, text),
         }
     }
@@ -109,6 +123,40 @@ impl Given {
             return Err(SetupFault::Wrong(Field::SaveEach));
         }
         self.save_each = seconds;
+        Ok(())
+    }
+
+    /// Whether accepted descriptions are kept is set; None where what was said is neither true nor false.
+    pub fn put_keeps(&mut self, keeps: Option<bool>) -> Result<(), SetupFault>
+        ensures none { OnOk result (self.old.keeps ≡ None) }
+        ensures some { OnOk result (IsSome keeps) }
+        ensures put { OnOk result (self.new ≡ record self.old { keeps = keeps }) }
+        ensures refused { IsErr result → (IsSome self.old.keeps) ⊎ (keeps ≡ None) }
+    {
+        if self.keeps.is_some() {
+            return Err(SetupFault::Twice(Field::KeepDescription));
+        }
+        if keeps.is_none() {
+            return Err(SetupFault::Wrong(Field::KeepDescription));
+        }
+        self.keeps = keeps;
+        Ok(())
+    }
+
+    /// How long a changed description is to stand is set; None where what was said is no such number.
+    pub fn put_settle(&mut self, settle: Option<Settle>) -> Result<(), SetupFault>
+        ensures none { OnOk result (self.old.settle ≡ None) }
+        ensures some { OnOk result (IsSome settle) }
+        ensures put { OnOk result (self.new ≡ record self.old { settle = settle }) }
+        ensures refused { IsErr result → (IsSome self.old.settle) ⊎ (settle ≡ None) }
+    {
+        if self.settle.is_some() {
+            return Err(SetupFault::Twice(Field::Settle));
+        }
+        if settle.is_none() {
+            return Err(SetupFault::Wrong(Field::Settle));
+        }
+        self.settle = settle;
         Ok(())
     }
 
@@ -130,6 +178,9 @@ impl Given {
             Field::Listen => self.listen.len() != 0,
             Field::Store => self.store.is_some(),
             Field::SaveEach => self.save_each.is_some(),
+            Field::StoreDamaged => self.begins,
+            Field::KeepDescription => self.keeps.is_some(),
+            Field::Settle => self.settle.is_some(),
             Field::Allow => self.allow.len() != 0,
             Field::OtherRoutes => self.others.is_some(),
             Field::Profile => self.profile.is_some(),
@@ -140,17 +191,43 @@ impl Given {
         }
     }
 
+    /// Whether accepted descriptions are to be kept.
+    pub fn keeps(&self) -> bool
+        ensures { result ≡ said_or false self.now.keeps }
+    {
+        self.keeps.unwrap_or(false)
+    }
+
     /// The setup for the plant that this file describes, or the one that was given; what was not given is as usual.
     pub fn setup(self, alloc: Global, file: &str) -> Result<Setup, SetupFault>
         ensures fields { IfOk result (SetsUp self file.now) }
     {
-        if self.save_each.is_some() && self.store.is_none() {
-            return Err(SetupFault::SaveEachAlone);
+        if let Some(field) = self.lacks_store() {
+            return Err(SetupFault::NeedsStore(field));
         }
         match self.completed(alloc, file) {
             Ok(setup) => Ok(setup),
             Err(NoMemory) => Err(SetupFault::Memory),
         }
+    }
+
+    // What was said of a store, where none is named.
+    fn lacks_store(&self) -> Option<Field>
+        ensures { result ≡ lacks_store self.now }
+    {
+        if self.store.is_some() {
+            return None;
+        }
+        if self.save_each.is_some() {
+            return Some(Field::SaveEach);
+        }
+        if self.begins {
+            return Some(Field::StoreDamaged);
+        }
+        if self.keeps == Some(true) {
+            return Some(Field::KeepDescription);
+        }
+        None
     }
 
     fn completed(self, alloc: Global, file: &str) -> Result<Setup, NoMemory>
@@ -161,6 +238,9 @@ impl Given {
             listen,
             store,
             save_each,
+            begins,
+            keeps,
+            settle,
             allow,
             others,
             profile,
@@ -175,6 +255,9 @@ impl Given {
             listen: joined_or(alloc, &listen, DEFAULT_LISTEN)?,
             store,
             save_each: seconds.count,
+            begins_damaged: begins,
+            keeps_description: keeps.unwrap_or(false),
+            settle: settle_count(settle),
             allow,
             others,
             profile: profile.unwrap_or(ProfileWord::Wide),
@@ -190,7 +273,7 @@ impl Given {
         ensures { OnOk result (self.new ≡ record self.old { listen = self.old.listen ++ text.now ∷ [] }) }
     {
         if !is_address(text) {
-            return Err(SetupFault::Wrong(Field::Listen));
+            return wrong(alloc, Field::Listen, text);
         }
         if self.listen.len() >= 16 {
             return Err(SetupFault::TooMany(Field::Listen));
@@ -200,7 +283,7 @@ impl Given {
         Ok(())
     }
 
-    fn put_seconds_text(&mut self, text: &str) -> Result<(), SetupFault>
+    fn put_seconds_text(&mut self, alloc: Global, text: &str) -> Result<(), SetupFault>
         ensures { OnOk result (Puts Field.SaveEach text.now self.old self.new) }
     {
         if self.save_each.is_some() {
@@ -211,11 +294,52 @@ impl Given {
                 self.save_each = Some(seconds);
                 Ok(())
             }
-            None => Err(SetupFault::Wrong(Field::SaveEach)),
+            None => wrong(alloc, Field::SaveEach, text),
         }
     }
 
-    fn put_others(&mut self, text: &str) -> Result<(), SetupFault>
+    fn put_damaged(&mut self, alloc: Global, text: &str) -> Result<(), SetupFault>
+        ensures ok { OnOk result (Puts Field.StoreDamaged text.now self.old self.new) }
+        ensures refused { IsErr result → (self.old.begins ≡ true) ⊎ (begins_in text.now ≡ false) }
+    {
+        if self.begins {
+            return Err(SetupFault::Twice(Field::StoreDamaged));
+        }
+        if !begins_by_word(text) {
+            return wrong(alloc, Field::StoreDamaged, text);
+        }
+        self.begins = true;
+        Ok(())
+    }
+
+    fn put_keeps_text(&mut self, alloc: Global, text: &str) -> Result<(), SetupFault>
+        ensures ok { OnOk result (Puts Field.KeepDescription text.now self.old self.new) }
+        ensures refused { IsErr result → (IsSome self.old.keeps) ⊎ (truth_in text.now ≡ None) }
+    {
+        let keeps = truth_of_word(text);
+        if keeps.is_none() && self.keeps.is_none() {
+            return wrong(alloc, Field::KeepDescription, text);
+        }
+        self.put_keeps(keeps)
+    }
+
+    fn put_settle_text(&mut self, alloc: Global, text: &str) -> Result<(), SetupFault>
+        ensures ok { OnOk result (Puts Field.Settle text.now self.old self.new) }
+        ensures refused { IsErr result → (IsSome self.old.settle) ⊎ ((n : ℕ) → n ≤ 3600 → text.now ≢ decimal n) }
+    {
+        if self.settle.is_some() {
+            return Err(SetupFault::Twice(Field::Settle));
+        }
+        match Settle::of_text(text) {
+            Some(settle) => {
+                self.settle = Some(settle);
+                Ok(())
+            }
+            None => wrong(alloc, Field::Settle, text),
+        }
+    }
+
+    fn put_others(&mut self, alloc: Global, text: &str) -> Result<(), SetupFault>
         ensures { OnOk result (Puts Field.OtherRoutes text.now self.old self.new) }
     {
         if self.others.is_some() {
@@ -226,11 +350,11 @@ impl Given {
                 self.others = Some(others);
                 Ok(())
             }
-            None => Err(SetupFault::Wrong(Field::OtherRoutes)),
+            None => wrong(alloc, Field::OtherRoutes, text),
         }
     }
 
-    fn put_profile(&mut self, text: &str) -> Result<(), SetupFault>
+    fn put_profile(&mut self, alloc: Global, text: &str) -> Result<(), SetupFault>
         ensures { OnOk result (Puts Field.Profile text.now self.old self.new) }
     {
         if self.profile.is_some() {
@@ -241,11 +365,11 @@ impl Given {
                 self.profile = Some(profile);
                 Ok(())
             }
-            None => Err(SetupFault::Wrong(Field::Profile)),
+            None => wrong(alloc, Field::Profile, text),
         }
     }
 
-    fn put_log(&mut self, text: &str) -> Result<(), SetupFault>
+    fn put_log(&mut self, alloc: Global, text: &str) -> Result<(), SetupFault>
         ensures { OnOk result (Puts Field.Log text.now self.old self.new) }
     {
         if self.log.is_some() {
@@ -256,7 +380,7 @@ impl Given {
                 self.log = Some(form);
                 Ok(())
             }
-            None => Err(SetupFault::Wrong(Field::Log)),
+            None => wrong(alloc, Field::Log, text),
         }
     }
 
@@ -265,7 +389,7 @@ impl Given {
         ensures { OnOk result (Puts Field.Allow text.now self.old self.new) }
     {
         match IpNet::of_text(text) {
-            None => Err(SetupFault::Wrong(Field::Allow)),
+            None => wrong(alloc, Field::Allow, text),
             Some(net) => self.add_net(alloc, net),
         }
     }
@@ -278,6 +402,23 @@ impl Given {
         }
         self.allow.push(alloc, net)?;
         Ok(())
+    }
+}
+
+// That a field does not take this text.
+fn wrong(alloc: Global, field: Field, text: &str) -> Result<(), SetupFault>
+    ensures { IsErr result }
+{
+    Err(SetupFault::WrongText(field, Text::copy_of(alloc, text)?))
+}
+
+fn settle_count(settle: Option<Settle>) -> u32
+    ensures count { result ≡ settle_or settle }
+    ensures hour { result ≤ 3600 }
+{
+    match settle {
+        Some(settle) => settle.count,
+        None => 0,
     }
 }
 

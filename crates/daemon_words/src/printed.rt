@@ -20,12 +20,16 @@ pub fn setup_text(alloc: Global, setup: &Setup) -> Result<Octets, NoMemory> {
     )?;
     put_line(alloc, &mut text, "profile", setup.profile.word())?;
     put_store(alloc, &mut text, setup)?;
+    put_description(alloc, &mut text, setup)?;
     put_signals(alloc, &mut text, setup.signals.as_slice())?;
     put_maybe(alloc, &mut text, "status", &setup.status, "none")?;
     put_line(alloc, &mut text, "log", setup.log.word())?;
     put_maybe(alloc, &mut text, "stop_file", &setup.stop_file, "none")?;
     Ok(text)
 }
+
+const NO_SETTLE: &str =
+    "0: a changed description is taken as it is found, so write a new file beside it and rename it into place";
 
 fn put_line(alloc: Global, text: &mut Octets, key: &str, value: &str) -> Result<(), NoMemory> {
     let line = format!(in alloc; "{key} {value}\n")?;
@@ -73,10 +77,39 @@ fn put_store(alloc: Global, text: &mut Octets, setup: &Setup) -> Result<(), NoMe
             put_line(alloc, text, "store", name.as_str())?;
             let seconds = setup.save_each;
             let line = format!(in alloc; "save_each {seconds}\n")?;
-            text.put(alloc, line.as_bytes())
+            text.put(alloc, line.as_bytes())?;
+            put_line(
+                alloc,
+                text,
+                "store_damaged",
+                damaged_words(setup.begins_damaged),
+            )
         }
         None => put_line(alloc, text, "store", "none"),
     }
+}
+
+// What becomes of a damaged store.
+fn damaged_words(begins: bool) -> &'static str {
+    if begins {
+        "begin: it is copied, and served without what it lost"
+    } else {
+        "none: it ends the daemon"
+    }
+}
+
+// What becomes of changed and of refused descriptions.
+fn put_description(alloc: Global, text: &mut Octets, setup: &Setup) -> Result<(), NoMemory> {
+    match setup.kept_name(alloc)? {
+        Some(name) => put_line(alloc, text, "keep_description true:", name.as_str())?,
+        None => put_line(alloc, text, "keep_description", "false")?,
+    }
+    let seconds = setup.settle;
+    if seconds == 0 {
+        return put_line(alloc, text, "settle", NO_SETTLE);
+    }
+    let line = format!(in alloc; "settle {seconds}\n")?;
+    text.put(alloc, line.as_bytes())
 }
 
 // The signals with their numbers, a line each.

@@ -1,10 +1,12 @@
 //! What a daemon is to do.
 
-ghost use Rattle.std.specs.Prelude.{◌≡◌, ◌<◌, ◌≤◌, ◌*◌, length};
+ghost use Rattle.std.specs.Prelude.{◌≡◌, ◌<◌, ◌≤◌, ◌*◌, ◌++◌, length, codes, IfOk};
+ghost use Rattle.daemon_words.specs.KeptNames.{kept_name};
 
 use crate::{IpNet, LogForm, OthersWord, ProfileWord, SignalTable};
-use ads_base::ListOf;
+use ads_base::{ListOf, NoMemory};
 use cli_words::Text;
+use std::alloc::Global;
 
 /// What a daemon is to do.
 #[derive(Drop)]
@@ -17,6 +19,12 @@ pub struct Setup {
     pub store: Option<Text>,
     /// How many seconds lie between two looks at what is to be saved: 1 to 86,400.
     pub save_each: u32,
+    /// A damaged store is copied and begun anew, where it would end the daemon else.
+    pub begins_damaged: bool,
+    /// Each accepted description is kept beside the store, and served where a later start finds none that is accepted.
+    pub keeps_description: bool,
+    /// How many seconds a changed description is to stand unchanged before it is taken: 0 to 3,600.
+    pub settle: u32,
     /// Who may connect, at most 256 nets; everybody where there is none.
     pub allow: ListOf<IpNet>,
     /// What each machine without a route may do; without this it may not connect.
@@ -33,6 +41,7 @@ pub struct Setup {
     pub stop_file: Option<Text>,
     ghost least: { 0 < save_each },
     ghost most: { save_each ≤ 86400 },
+    ghost hour: { settle ≤ 3600 },
     ghost nets: { length allow ≤ 256 },
     ghost some: { 0 < length signals },
     ghost few: { length signals ≤ 1024 },
@@ -47,4 +56,23 @@ impl Setup {
     {
         100 * u64::from(self.save_each)
     }
+
+    /// The file in which accepted descriptions are kept: the store's name with `.description` behind it; None where they are not.
+    pub fn kept_name(&self, alloc: Global) -> Result<Option<Text>, NoMemory>
+        ensures { IfOk result (λ name. name ≡ kept_name self.now.keeps_description self.now.store) }
+    {
+        match &self.store {
+            Some(store) if self.keeps_description => Ok(Some(with_ending(alloc, store)?)),
+            _ => Ok(None),
+        }
+    }
+}
+
+fn with_ending(alloc: Global, store: &Text) -> Result<Text, NoMemory>
+    ensures { IfOk result (λ name. name ≡ store.now ++ codes ".description") }
+{
+    let mut name = String::new(alloc);
+    name.push_str(store.as_str())?;
+    name.push_str(".description")?;
+    Text::copy_of(alloc, name.as_str())
 }

@@ -1,7 +1,11 @@
 // The page: follows the stream of changes, and keeps the table, the plot and the form.
 
+import { Alarms } from "/alarms.js";
 import { Forms } from "/form.js";
+import { language, t, translate } from "/lang.js";
+import { Log } from "/log.js";
 import { Plot } from "/plot.js";
+import { Recipes } from "/recipe.js";
 import { Rows } from "/rows.js";
 import { clock, counted } from "/words.js";
 
@@ -13,17 +17,26 @@ const SILENT = 25000, THEMES = ["", "light", "dark"];
 let ahead = 0, source = null, heard = Date.now(), table = { g: 0, o: 0 }, state = null, ours = true, wasLive = null, timer = null;
 const moment = () => Date.now() + ahead;
 
-const plot = new Plot($("plot"), moment, (it) => {
-  rows.choose(null);
-  if (it.row && document.activeElement === document.body) it.row.focus();
-  else if (it.row) it.row.focus({ preventScroll: true });
-});
-const rows = new Rows({ rows: $("rows"), count: $("count"), empty: $("empty"), more: $("more") }, (it, row) => {
-  if (!row.classList.contains("plotted")) return;
-  if (plot.of === it) return plot.close();
-  rows.choose(it.key);
-  plot.open(it);
+const plot = new Plot($("plot"), moment, {
+  chosen: (keys) => rows.choose(keys),
+  full: (most) => tell(t("A plot has at most {0} values.", most), "news", 4000),
+  closed: (it) => {
+    rows.choose([]);
+    if (it.row) it.row.focus(document.activeElement === document.body ? {} : { preventScroll: true });
+  },
+}, Boolean(meta("history")));
+const rows = new Rows({ rows: $("rows"), count: $("count"), empty: $("empty"), more: $("more") }, (it, row, beside) => {
+  if (row.classList.contains("plotted")) plot.choose(it, beside);
 }, moment);
+translate();
+document.documentElement.style.setProperty("--old", JSON.stringify(t("old")));
+let name = t("Live values"), alarmsThere = 0;
+const alarms = new Alarms({
+  section: $("alarms"), list: $("alarm-list"), all: $("alarms-all"), bell: $("bell"), count: $("bell-count"), rest: $("alarms-rest"),
+  none: $("alarms-none"), old: $("past"), oldRows: $("past-list"), oldTitle: $("past-title"), fault: $("alarms-fault"),
+}, meta("token"), moment, (there) => { alarmsThere = there; titled(); });
+const log = new Log($("log"), $("log-rows"));
+const recipes = new Recipes($("recipes"), $("recipe-list"), meta("token"));
 const forms = new Forms($("forms"), $("form-list"), meta("token"));
 
 // The stream.
@@ -36,6 +49,9 @@ function listen() {
   on("table", tabled);
   on("values", changed);
   on("state", stated);
+  on("alarms", (said) => alarms.take(said));
+  on("log", (said) => log.take(said));
+  on("logged", (said) => log.add(said));
   on("beat", () => {});
   source.onerror = () => {
     alone(true);
@@ -67,20 +83,26 @@ function tabled(said) {
   table = said;
   rows.take(said);
   forms.take(said, rows.leaves);
-  const name = said.ports.map(([, own]) => own).filter(Boolean).join(", ") || "Live values";
+  recipes.take(said, rows.top);
+  name = said.ports.map(([, own]) => own).filter(Boolean).join(", ") || t("Live values");
   $("title").textContent = name;
-  document.title = name + " – live values";
+  $("sections").hidden = !rows.grouped;
+  titled();
   if (before.g && said.g !== before.g) news(said, before);
   stated(said.state);
-  plot.moved(plot.of ? rows.find(plot.of.key) : null);
+  plot.moved((key) => rows.find(key));
+}
+
+function titled() {
+  document.title = (alarmsThere ? `\u{1F514} ${alarmsThere} · ` : "") + name + " – " + t("live values");
 }
 
 function news(said, before) {
   if (said.state.version === before.state.version || !before.state.live || !state || !state.live) return;
   const own = new Set(said.symbols.map((it) => it.port + " " + it.n)), old = new Set(before.symbols.map((it) => it.port + " " + it.n));
   const came = [...own].filter((key) => !old.has(key)).length, went = [...old].filter((key) => !own.has(key)).length;
-  const moved = `${counted(came, "symbol", "symbols")} came, ${counted(went, "symbol", "symbols")} went.`;
-  tell(`The server has a new description, version ${said.state.version}: ${moved}`, "news", 10000);
+  const moved = t("{0} came, {1} went.", counted(came, "symbol", "symbols"), counted(went, "symbol", "symbols"));
+  tell(t("The server has a new description, version {0}: {1}", said.state.version, moved), "news", 10000);
 }
 
 function changed(said) {
@@ -88,7 +110,7 @@ function changed(said) {
   table.o = said.o;
   ahead = Math.max(ahead, said.m - Date.now());
   rows.change(said.c, said.m);
-  if (plot.of) for (const [leaf, value] of said.c) if (leaf === plot.of.leaf) plot.add(said.m, value);
+  if (plot.of) for (const [leaf, value] of said.c) plot.add(said.m, leaf, value);
   picture();
 }
 
@@ -101,6 +123,7 @@ function picture() {
     rows.paint(performance.now());
     plot.paint();
     forms.paint();
+    recipes.paint();
   });
 }
 setInterval(picture, 250);
@@ -110,11 +133,11 @@ setInterval(() => rows.ages(), 1000);
 
 function stated(said) {
   state = said;
-  $("where").textContent = `${said.net} at ${said.to}` + (said.version === null ? "" : ` · version ${said.version}`);
+  $("where").textContent = t("{0} at {1}", said.net, said.to) + (said.version === null ? "" : " · " + t("version {0}", said.version));
   $("notices").hidden = !said.notices.length;
   $("notices").replaceChildren(...said.notices.map((text) => Object.assign(document.createElement("li"), { textContent: text })));
   if (wasLive && !said.live) plot.gap(moment());
-  if (wasLive === false && said.live) tell("The server is back.", "good", 6000);
+  if (wasLive === false && said.live) tell(t("The server is back."), "good", 6000);
   if (said.live || table.g) wasLive = said.live;
   bar();
 }
@@ -135,10 +158,10 @@ function tell(text, kind, milliseconds) {
 function bar() {
   const live = ours && state && state.live;
   let text = "", kind = "bad";
-  if (!ours) text = "This page's own program does not answer. The values below are the last ones; the page keeps trying.";
+  if (!ours) text = t("This page's own program does not answer. The values below are the last ones; the page keeps trying.");
   else if (state && !state.live) {
-    text = table.g ? `The server has been gone since ${clock(state.since)}: ${state.why}. The values below are the last ones; the page keeps trying.`
-      : `The server can't be asked: ${state.why}. The page keeps trying.`;
+    text = table.g ? t("The server has been gone since {0}: {1}. The values below are the last ones; the page keeps trying.", clock(state.since), state.why)
+      : t("The server can't be asked: {0}. The page keeps trying.", state.why);
   } else if (message) ({ text, kind } = message);
   const it = $("bar");
   if (it.textContent !== text) it.textContent = text;
@@ -146,14 +169,16 @@ function bar() {
   it.hidden = !text;
   document.body.classList.toggle("stale", !live && Boolean(table.g));
   $("pill").className = "pill " + (live ? "live" : state || !ours ? "gone" : "wait");
-  const word = live ? "live" : state || !ours ? "no connection" : "connecting";
+  const word = t(live ? "live" : state || !ours ? "no connection" : "connecting");
+  forms.enable(live);
+  recipes.enable(live);
   if ($("pill-text").textContent !== word) $("pill-text").textContent = word;
 }
 
 // What is chosen with keys and buttons.
 
 const isPressed = (id) => $(id).getAttribute("aria-pressed") === "true";
-const filtered = () => rows.filter($("filter").value, isPressed("moving"), isPressed("unfold"));
+const filtered = () => rows.filter($("filter").value, isPressed("moving"), isPressed("unfold"), isPressed("sections"));
 $("filter").addEventListener("input", filtered);
 $("filter").addEventListener("keydown", (event) => {
   if (event.key === "Escape") {
@@ -164,7 +189,7 @@ $("filter").addEventListener("keydown", (event) => {
     event.preventDefault();
   }
 });
-for (const id of ["moving", "unfold"]) {
+for (const id of ["moving", "unfold", "sections"]) {
   $(id).addEventListener("click", () => {
     $(id).setAttribute("aria-pressed", isPressed(id) ? "false" : "true");
     filtered();
@@ -183,7 +208,7 @@ document.addEventListener("keydown", (event) => {
 function themed(name) {
   if (name) document.documentElement.dataset.theme = name;
   else delete document.documentElement.dataset.theme;
-  $("theme").setAttribute("aria-label", "Colours: " + { "": "as the system has them", light: "light", dark: "dark" }[name]);
+  $("theme").setAttribute("aria-label", t({ "": "Colours: as the system has them", light: "Colours: light", dark: "Colours: dark" }[name]));
   $("theme").title = $("theme").getAttribute("aria-label");
 }
 function keptTheme(name) {

@@ -1,141 +1,48 @@
-// The plot of one value: its last minutes, drawn in this page.
+// The plot of up to six values, drawn in this page.
 
-import { clock, drawn, make, numeric, shown } from "/words.js";
+import { axis, limitsOf, scaleOf, traced } from "/draw.js";
+import { locale, t } from "/lang.js";
+import { bitOf, clock, day, drawn, grouped, make, numeric, shown, withUnit } from "/words.js";
 
-const MINUTES = [1, 5, 10], ABOVE = 12, BELOW = 26, RIGHT = 14, DRAW = 100;
+const ABOVE = 20, BELOW = 26, EDGE = 14, DRAW = 100, MOST = 6, MOST_POINTS = 20000;
+// Minutes that are drawn: those that the page's program has itself, and those of a database; and the milliseconds between two of their marks.
+const OWN = [1, 5, 10], KEPT = [60, 480, 1440, 10080];
+const STEPS = { 1: 15000, 5: 60000, 10: 120000, 60: 600000, 480: 3600000, 1440: 14400000, 10080: 86400000 };
 
-function niceStep(span, count) {
-  const raw = span / count, power = 10 ** Math.floor(Math.log10(raw)), part = raw / power;
-  return (part <= 1 ? 1 : part <= 2 ? 2 : part <= 5 ? 5 : 10) * power;
+function spanText(minutes) {
+  return minutes < 60 ? minutes + " min" : minutes < 1440 ? minutes / 60 + " h" : minutes / 1440 + " d";
 }
 
-function ticksOf(low, high, count, whole) {
-  let step = niceStep(high - low, count);
-  if (whole) step = Math.max(1, Math.round(step));
-  const found = [];
-  for (let at = Math.ceil(low / step) * step; at <= high + step / 1e6 && found.length < 20; at += step) found.push(Number(at.toPrecision(12)));
-  return found;
-}
-
-function compact(value) {
-  const size = Math.abs(value);
-  if (size >= 1e6 || (size > 0 && size < 1e-3)) return value.toExponential(2).replace(/\.?0+e/, "e").replace("e+", "e");
-  return String(Number(value.toPrecision(6)));
-}
-
-export class Plot {
-  constructor(panel, moment, closed) {
-    this.panel = panel; this.moment = moment; this.closed = closed;
-    this.of = null; this.times = []; this.values = []; this.minutes = 5; this.picked = false; this.at = null; this.drawnAt = 0; this.asked = 0;
-    panel.addEventListener("keydown", (event) => { if (event.key === "Escape") this.close(); });
-    new ResizeObserver(() => this.draw()).observe(panel);
+// One value of the plot, with its points, its colour and its axis.
+class Trend {
+  constructor(of, colour, side) {
+    this.of = of; this.colour = colour; this.side = side; this.times = []; this.values = []; this.asked = 0;
+    this.why = "";
   }
 
-  async open(it) {
-    this.of = it; this.times = []; this.values = []; this.at = null; this.said = null;
-    this.build(it);
-    this.panel.hidden = false;
-    document.body.classList.add("plotting");
-    await this.load();
-  }
-
-  async load() {
-    const it = this.of, asked = this.asked += 1, fresh = this.times.length;
-    try {
-      const answer = await fetch("/history.json?name=" + encodeURIComponent(it.path) + "&port=" + it.symbol.port);
-      const said = answer.ok ? await answer.json() : { times: [], values: [] };
-      if (asked !== this.asked || this.of !== it) return;
-      const newer = this.times.slice(fresh), last = said.times.length ? said.times[said.times.length - 1] : 0;
-      const rest = newer.findIndex((moment) => moment > last);
-      this.values = said.values.map(numeric).concat(rest < 0 ? [] : this.values.slice(fresh + rest));
-      this.times = said.times.concat(rest < 0 ? [] : newer.slice(rest));
-    } catch { /* the bar says that the page's program is gone; what comes is drawn */ }
-    this.said = null;
-    if (!this.picked && this.times.length) this.choose(MINUTES.find((count) => count >= 5 || this.moment() - this.times[0] < 60000 * count));
-    this.draw();
-  }
-
-  // The same name in a new table, or nothing where it is gone.
-  moved(it) {
-    if (!this.of) return;
-    if (!it || it.type !== this.of.type) return this.close();
-    this.of = it;
-    this.load();
+  number(value) {
+    return numeric(this.of.bit === undefined || value === null ? value : bitOf(value, this.of.bit));
   }
 
   add(moment, value) {
     this.times.push(moment);
-    this.values.push(numeric(value));
-    if (this.times.length > 20000) { this.times.splice(0, 5000); this.values.splice(0, 5000); }
+    this.values.push(value === null ? null : this.number(value));
+    if (this.times.length > MOST_POINTS) { this.times.splice(0, 5000); this.values.splice(0, 5000); }
   }
 
-  // The values are not known from here on.
-  gap(moment) {
-    if (this.of) this.add(moment, null);
-  }
-
-  close() {
-    if (!this.of) return;
-    const it = this.of;
-    this.of = null;
-    this.asked += 1;
-    this.panel.hidden = true;
-    this.panel.replaceChildren();
-    document.body.classList.remove("plotting");
-    this.closed(it);
-  }
-
-  build(it) {
-    const shut = make("button", { type: "button", class: "quiet shut", "aria-label": "Close the plot" }, "×");
-    shut.addEventListener("click", () => this.close());
-    this.title = make("h2", { id: "plot-title", text: it.path });
-    this.now = make("p", { class: "plot-now" });
-    this.choice = make("div", { class: "minutes", role: "radiogroup", "aria-label": "How much is drawn" });
-    for (const count of MINUTES) {
-      const is = count === this.minutes;
-      const button = make("button", { type: "button", role: "radio", "aria-checked": String(is), tabindex: is ? "0" : "-1", text: count + " min" });
-      button.addEventListener("click", () => this.pick(count));
-      button.addEventListener("keydown", (event) => this.step(event, count));
-      this.choice.append(button);
-    }
-    this.svg = drawn("svg", { role: "img", tabindex: "0", class: "chart", focusable: "true" });
-    this.svg.addEventListener("pointermove", (event) => this.pointed(event.clientX));
-    this.svg.addEventListener("pointerleave", () => this.point(null));
-    this.svg.addEventListener("keydown", (event) => this.stepped(event));
-    this.facts = make("dl", { class: "facts" });
-    this.panel.setAttribute("aria-labelledby", "plot-title");
-    const head = make("div", { class: "plot-head" }, make("div", { class: "plot-name" }, this.title, this.now), shut);
-    this.panel.replaceChildren(head, this.choice, this.svg, this.facts, this.details(it));
-    this.draw();
-  }
-
-  details(it) {
-    const found = [["Type", it.type], ["Group, offset", `${it.symbol.group}, ${it.symbol.at + it.at}`], ["Bytes", String(it.kind.s)]];
-    if (it.comment) found.push(["Comment", it.comment]);
-    return make("dl", { class: "details" }, ...found.map(([word, said]) => make("div", {}, make("dt", { text: word }), make("dd", { text: said }))));
-  }
-
-  choose(count) {
-    this.minutes = count;
-    for (const button of this.choice.children) {
-      const is = button.textContent === count + " min";
-      button.setAttribute("aria-checked", is ? "true" : "false");
-      button.tabIndex = is ? 0 : -1;
-      if (is && this.choice.contains(document.activeElement)) button.focus();
-    }
-    this.draw();
-  }
-
-  pick(count) {
-    this.picked = true;
-    this.choose(count);
-  }
-
-  step(event, count) {
-    const by = { ArrowRight: 1, ArrowDown: 1, ArrowLeft: -1, ArrowUp: -1 }[event.key];
-    if (!by) return;
-    event.preventDefault();
-    this.pick(MINUTES[(MINUTES.indexOf(count) + by + MINUTES.length) % MINUTES.length]);
+  async load(minutes) {
+    const own = this.of, asked = this.asked += 1, fresh = this.times.length, name = own.bit === undefined ? own.path : own.parent.path;
+    try {
+      const more = minutes > 10 ? "&minutes=" + minutes : "";
+      const answer = await fetch("/history.json?name=" + encodeURIComponent(name) + "&port=" + own.symbol.port + more);
+      const said = answer.ok ? await answer.json() : { times: [], values: [] };
+      if (asked !== this.asked || this.of !== own) return;
+      this.why = said.why || "";
+      const newer = this.times.slice(fresh), last = said.times.length ? said.times[said.times.length - 1] : 0;
+      const rest = newer.findIndex((moment) => moment > last);
+      this.values = said.values.map((value) => (value === null ? null : this.number(value))).concat(rest < 0 ? [] : this.values.slice(fresh + rest));
+      this.times = said.times.concat(rest < 0 ? [] : newer.slice(rest));
+    } catch { /* the bar says that the page's program is gone; what comes is drawn */ }
   }
 
   // What lies in the window: the points, with the value that stood at its beginning.
@@ -147,91 +54,284 @@ export class Plot {
     return points;
   }
 
-  scale(points, type) {
-    const known = points.map(([, value]) => value).filter((value) => value !== null);
-    let low = known.reduce((a, b) => Math.min(a, b), Infinity), high = known.reduce((a, b) => Math.max(a, b), -Infinity);
-    if (!known.length) [low, high] = [0, 1];
-    if (type.k === "bool") return { low: -0.15, high: 1.15, ticks: [[0, "FALSE"], [1, "TRUE"]], known };
-    if (type.k === "enum") {
-      const all = type.v.filter(([, number]) => number >= low - 1 && number <= high + 1).slice(0, 12).map(([name, number]) => [number, name]);
-      return { low: low - 0.6, high: high + 0.6, ticks: all, known };
+  said(value, unit = true) {
+    const typed = this.of.kind.k === "bool" ? Boolean(value) : value;
+    return unit ? withUnit(this.of.kind, this.of.words, typed) : shown(this.of.kind, typed)[0];
+  }
+}
+
+export class Plot {
+  constructor(panel, moment, events, history) {
+    this.panel = panel; this.moment = moment; this.events = events; this.spans = history ? [...OWN, ...KEPT] : OWN;
+    this.trends = []; this.minutes = 5; this.picked = false; this.at = null; this.drawnAt = 0; this.comparing = false;
+    panel.addEventListener("keydown", (event) => { if (event.key === "Escape") this.close(); });
+    new ResizeObserver(() => this.draw()).observe(panel);
+  }
+
+  get of() {
+    return this.trends.length ? this.trends[0].of : null;
+  }
+
+  keys() {
+    return this.trends.map((trend) => trend.of.key);
+  }
+
+  // Shows a value alone, or beside those that are there; one that is there goes.
+  async choose(it, beside) {
+    const there = this.trends.find((trend) => trend.of.key === it.key);
+    if (there) return this.remove(there);
+    if (!beside && !this.comparing) this.trends = [];
+    if (this.trends.length >= MOST) return this.events.full(MOST);
+    const colour = [0, 1, 2, 3, 4, 5].find((one) => !this.trends.some((trend) => trend.colour === one));
+    const trend = new Trend(it, colour, this.sideOf(it));
+    this.trends.push(trend);
+    this.at = null;
+    this.build();
+    await this.load([trend]);
+    return null;
+  }
+
+  sideOf(it) {
+    const unit = (one) => one.kind.k + " " + ((one.words && one.words.u) || "");
+    return !this.trends.length || this.trends.some((trend) => trend.side === "left" && unit(trend.of) === unit(it)) ? "left" : "right";
+  }
+
+  async load(trends = this.trends) {
+    await Promise.all(trends.map((trend) => trend.load(this.minutes)));
+    this.note.textContent = trends.map((trend) => trend.why).find(Boolean) || "";
+    this.said = null;
+    const first = this.trends[0];
+    if (!this.picked && first && first.times.length && this.minutes <= 10) {
+      this.span(OWN.find((count) => count >= 5 || this.moment() - first.times[0] < 60000 * count));
     }
-    if (low === high) { const room = Math.abs(low) * 0.1 || 1; low -= room; high += room; }
-    const room = (high - low) * 0.06, whole = type.k !== "real";
-    low -= room; high += room;
-    return { low, high, ticks: ticksOf(low, high, 5, whole).map((value) => [value, compact(value)]), known };
+    this.draw();
   }
 
-  // A line in steps: a value stands until the next one. Where many points share a place, the least and the greatest are drawn.
-  path(points, x, y, last) {
-    let said = "", open = false, column = null, low = 0, high = 0, end = 0;
-    const flush = () => {
-      if (column === null) return;
-      if (high > low) said += `V${y(low).toFixed(1)}V${y(high).toFixed(1)}V${y(end).toFixed(1)}`;
-      column = null;
-    };
-    for (const [moment, value] of points) {
-      const at = Math.round(x(moment) * 2) / 2;
-      if (column !== null && at === column && value !== null) {
-        low = Math.min(low, value); high = Math.max(high, value); end = value;
-        continue;
-      }
-      flush();
-      if (open) said += `H${at}`;
-      if (value === null) { open = false; continue; }
-      said += open ? `V${y(value).toFixed(1)}` : `M${at} ${y(value).toFixed(1)}`;
-      open = true; column = at; low = high = end = value;
+  // The same names in a new table, without those that are gone.
+  moved(find) {
+    if (!this.trends.length) return;
+    const before = this.trends;
+    this.trends = before.filter((trend) => {
+      const it = find(trend.of.key);
+      const same = it && it.type === trend.of.type;
+      if (same) trend.of = it;
+      return same;
+    });
+    if (!this.trends.length) return this.ended(before[0].of);
+    this.build();
+    this.load();
+  }
+
+  add(moment, leaf, value) {
+    for (const trend of this.trends) if (trend.of.leaf === leaf) trend.add(moment, value);
+  }
+
+  // The values are not known from here on.
+  gap(moment) {
+    for (const trend of this.trends) trend.add(moment, null);
+  }
+
+  remove(trend) {
+    if (this.trends.length === 1) return this.close();
+    this.trends = this.trends.filter((it) => it !== trend);
+    this.build();
+    return null;
+  }
+
+  close() {
+    if (!this.trends.length) return;
+    const [first] = this.trends;
+    this.trends = [];
+    this.ended(first.of);
+  }
+
+  ended(it) {
+    this.comparing = false;
+    this.panel.hidden = true;
+    this.panel.replaceChildren();
+    document.body.classList.remove("plotting");
+    this.events.closed(it);
+  }
+
+  build() {
+    const one = this.trends.length === 1;
+    const shut = make("button", { type: "button", class: "quiet shut", "aria-label": t("Close the plot") }, "×");
+    shut.addEventListener("click", () => this.close());
+    this.title = make("h2", { id: "plot-title", text: one ? this.of.path : t("{0} values", this.trends.length) });
+    this.now = make("p", { class: "plot-now" });
+    this.svg = drawn("svg", { role: "img", tabindex: "0", class: "chart", focusable: "true" });
+    this.svg.addEventListener("pointermove", (event) => this.pointed(event.clientX));
+    this.svg.addEventListener("pointerleave", () => this.point(null));
+    this.svg.addEventListener("keydown", (event) => this.stepped(event));
+    this.facts = make("dl", { class: "facts" });
+    this.panel.setAttribute("aria-labelledby", "plot-title");
+    const head = make("div", { class: "plot-head" }, make("div", { class: "plot-name" }, this.title, ...(one ? [this.now] : [])), shut);
+    const tools = make("div", { class: "plot-tools" }, this.windows(), this.comparer());
+    this.note = make("p", { class: "alarm-note bad", role: "status" });
+    this.panel.replaceChildren(head, tools, this.svg, this.note, ...(one ? [this.facts, this.details(this.of)] : [this.legend()]));
+    this.panel.hidden = false;
+    document.body.classList.add("plotting");
+    this.said = null;
+    this.events.chosen(this.keys());
+    this.draw();
+  }
+
+  windows() {
+    this.choice = make("div", { class: "minutes", role: "radiogroup", "aria-label": t("How much is drawn") });
+    for (const count of this.spans) {
+      const is = count === this.minutes;
+      const button = make("button", { type: "button", role: "radio", "aria-checked": String(is), tabindex: is ? "0" : "-1", text: spanText(count) });
+      button.addEventListener("click", () => this.pick(count));
+      button.addEventListener("keydown", (event) => this.step(event, count));
+      this.choice.append(button);
     }
-    flush();
-    return said + (open ? `H${x(last).toFixed(1)}` : "");
+    return this.choice;
   }
 
-  draw() {
-    if (!this.of || this.panel.hidden) return;
-    const wide = Math.max(240, this.svg.clientWidth || this.panel.clientWidth - 32), high = this.svg.clientHeight || 240;
-    const last = this.moment(), first = last - this.minutes * 60000;
-    const points = this.inside(first, last), type = this.of.kind, scale = this.scale(points, type);
-    const left = Math.min(120, 16 + 7 * Math.max(3, ...scale.ticks.map(([, text]) => text.length)));
-    const x = (moment) => left + (wide - left - RIGHT) * (moment - first) / (last - first);
-    const y = (value) => ABOVE + (high - ABOVE - BELOW) * (scale.high - value) / (scale.high - scale.low);
-    this.drawnAt = performance.now();
-    this.frame = { y, left, wide, high, first, last, points };
-    this.svg.setAttribute("viewBox", `0 0 ${wide} ${high}`);
-    const path = this.path(points, x, y, last), end = points.length ? points[points.length - 1][1] : null;
-    this.svg.replaceChildren(...this.lines(scale, y, left, wide), ...this.hours(first, last, x), drawn("path", { d: path, class: "line" }),
-      ...(end === null ? [] : [drawn("circle", { cx: x(last), cy: y(end), r: 3.5, class: "end" })]));
-    this.cross();
-    this.tell(scale.known, points);
+  // While it is pressed, a row that is chosen comes beside the others.
+  comparer() {
+    const button = make("button", { type: "button", class: "small-button compare", "aria-pressed": String(this.comparing), text: t("Add values") });
+    button.title = t("While this is pressed, a click on a value adds it to the plot, up to six");
+    button.addEventListener("click", () => {
+      this.comparing = !this.comparing;
+      button.setAttribute("aria-pressed", String(this.comparing));
+    });
+    return button;
   }
 
-  lines(scale, y, left, wide) {
-    return scale.ticks.flatMap(([value, text]) => [
-      drawn("line", { x1: left, x2: wide - RIGHT, y1: y(value), y2: y(value), class: "grid" }),
-      drawn("text", { x: left - 8, y: y(value) + 4, "text-anchor": "end", class: "tick" }, text)]);
+  legend() {
+    const list = make("ul", { class: "legend" });
+    for (const trend of this.trends) {
+      trend.now = make("span", { class: "legend-now" });
+      const side = make("button", { type: "button", class: "small-button", text: t(trend.side === "left" ? "left axis" : "right axis") });
+      side.addEventListener("click", () => { trend.side = trend.side === "left" ? "right" : "left"; this.build(); });
+      const away = make("button", { type: "button", class: "quiet away", "aria-label": t("Take {0} out of the plot", trend.of.path) }, "×");
+      away.addEventListener("click", () => this.remove(trend));
+      const swatch = make("span", { class: `swatch colour${trend.colour}`, "aria-hidden": "true" });
+      list.append(make("li", {}, swatch, make("span", { class: "legend-name", text: trend.of.path }), trend.now, side, away));
+    }
+    return list;
   }
 
-  hours(first, last, x) {
-    const step = { 1: 15000, 5: 60000, 10: 120000 }[this.minutes], found = [];
-    for (let at = Math.ceil(first / step) * step; at <= last; at += step) {
-      if (x(at) > this.frame.wide - 34 || x(at) < this.frame.left + 20) continue;
-      found.push(drawn("line", { x1: x(at), x2: x(at), y1: this.frame.high - BELOW, y2: this.frame.high - BELOW + 5, class: "grid" }),
-        drawn("text", { x: x(at), y: this.frame.high - 6, "text-anchor": "middle", class: "tick" }, clock(at)));
+  details(it) {
+    const found = [[t("Type"), it.type], [t("Group, offset"), `${it.symbol.group}, ${it.symbol.at + it.at}`], [t("Bytes"), String(it.kind.s)]];
+    if (it.comment) found.push([t("Comment"), it.comment]);
+    return make("dl", { class: "details" }, ...found.map(([word, said]) => make("div", {}, make("dt", { text: word }), make("dd", { text: said }))));
+  }
+
+  span(count) {
+    this.minutes = count;
+    for (const button of this.choice.children) {
+      const is = button.textContent === spanText(count);
+      button.setAttribute("aria-checked", is ? "true" : "false");
+      button.tabIndex = is ? 0 : -1;
+      if (is && this.choice.contains(document.activeElement)) button.focus();
+    }
+    this.draw();
+  }
+
+  pick(count) {
+    const more = count > 10 || this.minutes > 10;
+    this.picked = true;
+    this.span(count);
+    if (more) this.load();
+  }
+
+  step(event, count) {
+    const by = { ArrowRight: 1, ArrowDown: 1, ArrowLeft: -1, ArrowUp: -1 }[event.key];
+    if (!by) return;
+    event.preventDefault();
+    this.pick(this.spans[(this.spans.indexOf(count) + by + this.spans.length) % this.spans.length]);
+  }
+
+  // The scales of the two axes, of which one may have no values.
+  scales(first, last) {
+    const found = {};
+    for (const trend of this.trends) {
+      trend.points = trend.inside(first, last);
+      trend.known = trend.points.map(([, value]) => value).filter((value) => value !== null);
+      trend.limits = limitsOf(trend.of.words, trend.known);
+    }
+    for (const side of ["left", "right"]) {
+      const own = this.trends.filter((trend) => trend.side === side);
+      const marks = this.trends.length === 1 ? own.flatMap((trend) => trend.limits.map(([, value]) => value)) : [];
+      if (own.length) found[side] = scaleOf(own.map((trend) => trend.of.kind), own.flatMap((trend) => trend.known), marks);
     }
     return found;
   }
 
-  tell(known, points) {
-    const said = (value) => shown(this.of.kind, this.of.kind.k === "bool" ? Boolean(value) : value)[0];
-    const [main, small] = shown(this.of.kind, this.of.value);
-    this.now.textContent = main + (small ? "  " + small : "");
-    const facts = known.length ? [["least", said(known.reduce((a, b) => Math.min(a, b)))], ["greatest", said(known.reduce((a, b) => Math.max(a, b)))],
-      ["changes", Math.max(0, points.length - 1).toLocaleString("en-US")]] : [["", "nothing known yet"]];
-    this.facts.replaceChildren(...facts.map(([word, text]) => make("div", {}, make("dt", { text: word }), make("dd", { text }))));
-    if (!this.said || performance.now() - this.said > 5000) {
-      this.said = performance.now();
-      const behind = facts.map(([word, text]) => `, ${word} ${text}`).join("");
-      this.svg.setAttribute("aria-label", `${this.of.path} in the last ${this.minutes} min: now ${main}${behind}`);
+  draw() {
+    if (!this.trends.length || this.panel.hidden) return;
+    const wide = Math.max(240, this.svg.clientWidth || this.panel.clientWidth - 32), high = this.svg.clientHeight || 240;
+    const last = this.moment(), first = last - this.minutes * 60000, scales = this.scales(first, last);
+    const room = (side) => (scales[side] ? Math.min(120, 16 + 7 * Math.max(3, ...scales[side].ticks.map(([, text]) => text.length))) : EDGE);
+    const left = room("left"), right = wide - room("right");
+    const x = (moment) => left + (right - left) * (moment - first) / (last - first);
+    const heights = Object.fromEntries(Object.entries(scales).map(([side, scale]) =>
+      [side, (value) => ABOVE + (high - ABOVE - BELOW) * (scale.high - value) / (scale.high - scale.low)]));
+    this.drawnAt = performance.now();
+    this.frame = { heights, left, right, wide, high, first, last };
+    this.svg.setAttribute("viewBox", `0 0 ${wide} ${high}`);
+    const axes = Object.keys(scales).flatMap((side) => [...axis(scales[side], heights[side], [left, right], side), ...this.unitsAt(side, left, right)]);
+    this.svg.replaceChildren(...axes, ...this.hours(first, last, x), ...this.trends.flatMap((trend) => this.traces(trend, x, heights[trend.side])));
+    this.cross();
+    this.tell();
+  }
+
+  // The unit of an axis, where its values have one and the same.
+  unitsAt(side, left, right) {
+    const units = new Set(this.trends.filter((trend) => trend.side === side).map((trend) => (trend.of.words && trend.of.words.u) || ""));
+    const [unit] = units;
+    if (units.size !== 1 || !unit) return [];
+    const place = side === "left" ? { x: 2, "text-anchor": "start" } : { x: this.frame.wide - 2, "text-anchor": "end" };
+    return [drawn("text", { ...place, y: 11, class: "tick unit-at" }, unit)];
+  }
+
+  traces(trend, x, y) {
+    const { left, right, last } = this.frame, { line, band } = traced(trend.points, x, y, last);
+    const end = trend.points.length ? trend.points[trend.points.length - 1][1] : null, colour = `colour${trend.colour}`;
+    const limits = this.trends.length > 1 ? [] : trend.limits.flatMap(([name, value]) => [
+      drawn("line", { x1: left, x2: right, y1: y(value), y2: y(value), class: `limit ${name}` }),
+      drawn("text", { x: right - 4, y: y(value) - 4, "text-anchor": "end", class: "limit-text" }, `${name} ${trend.said(value)}`)]);
+    return [...limits, ...(band ? [drawn("path", { d: band, class: `band ${colour}` })] : []), drawn("path", { d: line, class: `line ${colour}` }),
+      ...(end === null ? [] : [drawn("circle", { cx: x(last), cy: y(end), r: 3.5, class: `end ${colour}` })])];
+  }
+
+  hours(first, last, x) {
+    const step = STEPS[this.minutes], found = [], shift = new Date().getTimezoneOffset() * 60000;
+    const said = (at) => (this.minutes <= 10 ? clock(at) : this.minutes <= 1440 ? new Date(at).toLocaleTimeString(locale, { hour: "2-digit", minute: "2-digit" }) : day(at));
+    for (let at = Math.ceil((first - shift) / step) * step + shift; at <= last; at += step) {
+      if (x(at) > this.frame.right - 20 || x(at) < this.frame.left + 20) continue;
+      found.push(drawn("line", { x1: x(at), x2: x(at), y1: this.frame.high - BELOW, y2: this.frame.high - BELOW + 5, class: "grid" }),
+        drawn("text", { x: x(at), y: this.frame.high - 6, "text-anchor": "middle", class: "tick" }, said(at)));
     }
+    return found;
+  }
+
+  tell() {
+    const now = (trend) => {
+      const [main, small] = [withUnit(trend.of.kind, trend.of.words, trend.of.value), shown(trend.of.kind, trend.of.value)[1]];
+      return main + (small ? "  " + small : "");
+    };
+    if (this.trends.length > 1) {
+      for (const trend of this.trends) if (trend.now.textContent !== now(trend)) trend.now.textContent = now(trend);
+      this.aria(t("{0} in the last {1}", this.trends.map((trend) => trend.of.path).join(", "), spanText(this.minutes)));
+      return;
+    }
+    const [trend] = this.trends, { known, points } = trend;
+    this.now.textContent = now(trend);
+    const facts = known.length ? [[t("least"), trend.said(known.reduce((a, b) => Math.min(a, b)))],
+      [t("greatest"), trend.said(known.reduce((a, b) => Math.max(a, b)))], [t("changes"), grouped(Math.max(0, points.length - 1))]] : [["", t("nothing known yet")]];
+    this.facts.replaceChildren(...facts.map(([word, text]) => make("div", {}, make("dt", { text: word }), make("dd", { text }))));
+    const behind = facts.map(([word, text]) => `, ${word} ${text}`).join("");
+    this.aria(t("{0} in the last {1}: now {2}", trend.of.path, spanText(this.minutes), shown(trend.of.kind, trend.of.value)[0]) + behind);
+  }
+
+  // The plot in words, which are not said anew with each picture.
+  aria(text) {
+    if (this.said && performance.now() - this.said < 5000) return;
+    this.said = performance.now();
+    this.svg.setAttribute("aria-label", text);
   }
 
   pointed(clientX) {
@@ -248,27 +348,34 @@ export class Plot {
     const by = { ArrowLeft: -10, ArrowRight: 10 }[event.key];
     if (!by || !this.frame) return;
     event.preventDefault();
-    const from = this.at === null ? this.frame.wide - RIGHT : this.at;
-    this.point(Math.min(this.frame.wide - RIGHT, Math.max(this.frame.left, from + by)));
+    const from = this.at === null ? this.frame.right : this.at;
+    this.point(Math.min(this.frame.right, Math.max(this.frame.left, from + by)));
   }
 
-  // The value at the pointer.
+  // The values at the pointer.
   cross() {
-    const { y, left, wide, high, first, last, points } = this.frame;
-    if (this.at === null || this.at < left || this.at > wide - RIGHT) return;
-    const moment = first + (last - first) * (this.at - left) / (wide - left - RIGHT);
-    let found = null;
-    for (const point of points) if (point[0] <= moment) found = point;
-    if (!found || found[1] === null) return;
-    const value = shown(this.of.kind, this.of.kind.k === "bool" ? Boolean(found[1]) : found[1])[0], text = `${value}  at ${clock(moment)}`;
+    const { heights, left, right, wide, high, first, last } = this.frame;
+    if (this.at === null || this.at < left || this.at > right) return;
+    const moment = first + (last - first) * (this.at - left) / (right - left), found = [];
+    for (const trend of this.trends) {
+      const point = trend.points.findLast((it) => it[0] <= moment);
+      if (point && point[1] !== null) found.push([trend, point[1]]);
+    }
+    if (!found.length) return;
     const [by, anchor] = this.at > wide / 2 ? [-8, "end"] : [8, "start"];
-    const label = drawn("text", { x: this.at + by, y: ABOVE + 10, "text-anchor": anchor, class: "cross-text" }, text);
+    const text = (trend, value) => (found.length === 1 ? t("{0}  at {1}", trend.said(value), this.when(moment)) : trend.said(value));
     this.svg.append(drawn("line", { x1: this.at, x2: this.at, y1: ABOVE, y2: high - BELOW, class: "cross" }),
-      drawn("circle", { cx: this.at, cy: y(found[1]), r: 3.5, class: "end" }), label);
+      ...found.flatMap(([trend, value], row) => [drawn("circle", { cx: this.at, cy: heights[trend.side](value), r: 3.5, class: `end colour${trend.colour}` }),
+        drawn("text", { x: this.at + by, y: ABOVE + 10 + 16 * row, "text-anchor": anchor, class: `cross-text colour${trend.colour}` }, text(trend, value))]),
+      ...(found.length > 1 ? [drawn("text", { x: this.at + by, y: ABOVE + 10 + 16 * found.length, "text-anchor": anchor, class: "cross-text" }, this.when(moment))] : []));
+  }
+
+  when(moment) {
+    return this.minutes > 1440 ? day(moment) + " " + clock(moment) : clock(moment);
   }
 
   // Called once a picture: drawn again ten times a second at most.
   paint() {
-    if (this.of && performance.now() - this.drawnAt > DRAW) this.draw();
+    if (this.trends.length && performance.now() - this.drawnAt > DRAW * (this.minutes > 10 ? 20 : 1)) this.draw();
   }
 }

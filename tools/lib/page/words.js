@@ -1,5 +1,7 @@
 // How values, moments and counts are written.
 
+import { locale, t } from "/lang.js";
+
 const TEXT_ODD = /[\u0000-\u001f\u007f-\u009f$']/g;
 
 export function make(tag, attributes = {}, ...inside) {
@@ -36,6 +38,11 @@ export function span(count) {
   return said;
 }
 
+// A value with its unit, as it is told in a sentence or at an axis.
+export function withUnit(type, words, value) {
+  return shown(type, value)[0] + (words && words.u ? "\u00a0" + words.u : "");
+}
+
 // A value as it is shown: what stands first, and what stands behind it in small letters.
 export function shown(type, value) {
   if (value === null || value === undefined) return ["…", ""];
@@ -46,10 +53,15 @@ export function shown(type, value) {
     case "bits": return [String(value), "16#" + BigInt(value).toString(16).toUpperCase().padStart(2 * type.s, "0")];
     case "enum": {
       const found = type.v.find(([, number]) => String(number) === String(value));
-      return found ? [found[0], String(value)] : [String(value), "no value of it"];
+      return found ? [found[0], String(value)] : [String(value), t("no value of it")];
     }
     default: return [String(value), ""];
   }
+}
+
+// A bit of a whole number.
+export function bitOf(value, number) {
+  return ((BigInt(value) >> BigInt(number)) & 1n) === 1n;
 }
 
 // A value as a number for a plot; null where it is none.
@@ -66,7 +78,7 @@ export function isPlotted(type) {
 export function age(moment, now) {
   if (!moment) return "–";
   const seconds = Math.max(0, (now - moment) / 1000);
-  if (seconds < 1) return "now";
+  if (seconds < 1) return t("now");
   if (seconds < 60) return Math.floor(seconds) + " s";
   if (seconds < 3600) return Math.floor(seconds / 60) + " min";
   if (seconds < 86400) return Math.floor(seconds / 3600) + " h";
@@ -74,9 +86,31 @@ export function age(moment, now) {
 }
 
 export function clock(moment) {
-  return new Date(moment).toLocaleTimeString("en-GB");
+  return new Date(moment).toLocaleTimeString(locale);
+}
+
+export function day(moment) {
+  return new Date(moment).toLocaleDateString(locale, { day: "numeric", month: "short" });
+}
+
+export function grouped(count) {
+  return count.toLocaleString(locale);
 }
 
 export function counted(count, one, many) {
-  return count.toLocaleString("en-US") + " " + (count === 1 ? one : many);
+  return grouped(count) + " " + t(count === 1 ? one : many);
+}
+
+// What this page's own program answers to a request that changes something.
+export async function ask(path, token, body) {
+  try {
+    const headers = { "Content-Type": "application/json", "X-Token": token };
+    const answer = await fetch(path, { method: "POST", headers, body: JSON.stringify(body) });
+    const text = (await answer.text()).trim();
+    let said = { why: text };
+    try { said = JSON.parse(text); } catch { /* a sentence stands there */ }
+    return { ...said, ok: answer.ok, known: true };
+  } catch {
+    return { ok: false, known: false, why: t("this page's program did not answer") };
+  }
 }

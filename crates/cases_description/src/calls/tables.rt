@@ -6,7 +6,7 @@ ghost use Rattle.type_layout.specs.Descriptions.{area_of, port_of, sizes_of};
 ghost use Rattle.type_layout.specs.NamedTypes.{types_of};
 ghost use Rattle.symbol_table.specs.Tables.{IsPlaced, IsTableWith};
 
-use ads_base::{NoMemory, Steps};
+use ads_base::{NoMemory, Octets, Steps};
 use case_plants::{area, description_of, is_in_old_world, moves, place, say_area, say_place};
 use case_sheets::{Answer, Args, Fault};
 use name_paths::Path;
@@ -64,7 +64,7 @@ fn of_table(
     let table = Table::build(alloc, port, types)?;
     match call {
         "find" => find(&table, types, args, answer),
-        "find_all" => find_all(&table, types, args, answer),
+        "find_all" => find_all(alloc, &table, types, args, answer)?,
         "named" => match table.named(alloc, args.octets().as_slice())? {
             Some(number) => answer.tell(u64::from(number)),
             None => answer.say("none"),
@@ -95,25 +95,59 @@ fn find(table: &Table, types: &Types, args: &mut Args<'_>, answer: &mut Answer)
     }
 }
 
-// Paths, all of which are looked up so many times.
-fn find_all(table: &Table, types: &Types, args: &mut Args<'_>, answer: &mut Answer)
+// Paths, which are looked up in turn, so many times all of them: what each leads to.
+fn find_all(
+    alloc: Global,
+    table: &Table,
+    types: &Types,
+    args: &mut Args<'_>,
+    answer: &mut Answer,
+) -> Result<(), Fault>
     requires { IsTableWith (types_of types.now) table.now }
 {
     let times = args.u64();
+    let texts = texts_of(alloc, args)?;
+    for _ in 0..times {
+        look_up_each(table, types, texts.as_slice());
+    }
+    for text in texts.as_slice() {
+        say_found(table, types, text.as_slice(), answer);
+    }
+    Ok(())
+}
+
+// The words that are left.
+fn texts_of(alloc: Global, args: &mut Args<'_>) -> Result<Vec<Octets>, Fault> {
+    let mut texts = Vec::new(alloc);
     for _ in 0..args.rest().len() {
         if !args.has_more() {
             break;
         }
-        let text = args.octets();
+        texts.push(args.octets())?;
+    }
+    Ok(texts)
+}
+
+fn look_up_each(table: &Table, types: &Types, texts: &[Octets])
+    requires { IsTableWith (types_of types.now) table.now }
+{
+    for text in texts {
         if let Some(path) = Path::read(text.as_slice()) {
-            for _ in 0..times {
-                let _ = found(table, types, &path);
-            }
-            match found(table, types, &path) {
-                Some(found) => answer.tell(u64::from(found.place.symbol)),
-                None => answer.say("none"),
-            }
+            let _ = found(table, types, &path);
         }
+    }
+}
+
+fn say_found(table: &Table, types: &Types, text: &[u8], answer: &mut Answer)
+    requires { IsTableWith (types_of types.now) table.now }
+{
+    let Some(path) = Path::read(text) else {
+        answer.say("no path");
+        return;
+    };
+    match found(table, types, &path) {
+        Some(found) => answer.tell(u64::from(found.place.symbol)),
+        None => answer.say("none"),
     }
 }
 
