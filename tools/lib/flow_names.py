@@ -75,7 +75,7 @@ def described(stream, port):
         counts = counts_of(stream, port)
         try:
             return described_by(stream, port, counts)
-        except Ended:
+        except (Ended, Refused):
             if counts_of(stream, port) == counts:
                 raise
     return described_by(stream, port, counts_of(stream, port))
