@@ -7,3 +7,4 @@ pub mod RoundLemmas
 pub mod TurnLemmas
 pub mod EndLemmas
 pub mod WantLemmas
+pub mod ShowLemmas

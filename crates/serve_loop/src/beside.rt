@@ -1,0 +1,45 @@
+//! What stands beside a loop: it is shown what is served, and changes nothing of it.
+
+ghost use Rattle.std.specs.Prelude.{◌≡◌, ℕ, ◌+◌, List, [], ◌∷◌, ◌++◌};
+ghost use Rattle.ads_served.specs.Standing.{Standing};
+ghost use Rattle.serve_loop.specs.Looks.{Look, look_at};
+
+use ads_outside::Wire;
+use ads_served::Served;
+use std::alloc::Global;
+
+/// Whether a loop goes on.
+#[derive(Clone, Copy, Debug, PartialEq, Eq)]
+pub enum Go {
+    /// It goes on.
+    On,
+    /// It ends.
+    Stop,
+}
+
+/// What stands beside a loop that serves M, over an outside of its own.
+pub trait Beside<M: Served, O> {
+    /// From a beginning on, over an outside, it was shown these.
+    ghost seen: { Self → O → Self → O → List Look → Type 0 };
+
+    /// So many more may be shown.
+    ghost ready: { ℕ → Self → O → Type 0 };
+
+    /// It ended the loop.
+    ghost stopped: { Self → Type 0 };
+
+    /// A turn with a tick is over.
+    fn ticked<W: Wire>(&mut self, alloc: Global, served: &M, wire: &W, outside: &mut O) -> Go
+        requires ready { ready 1 self.old outside.old }
+        ensures seen { (first : Self) (start : O) (looks : List Look) (x : Standing M.World M.Client)
+            → seen first start self.old outside.old looks → M.serves served.now x
+            → seen first start self.new outside.new (looks ++ look_at (M.body_of x.running.state.world) (W.state wire.now).history ∷ []) }
+        ensures ready { result ≡ Go.On → (n : ℕ) → ready (n + 1) self.old outside.old → ready n self.new outside.new }
+        ensures stopped { result ≡ Go.Stop → stopped self.new };
+
+    /// It begins with nothing shown.
+    ghost begins: { (a : Self) (n : ℕ) (o : O) → ready n a o → seen a o a o [] };
+
+    /// Where so many may be shown, one less may.
+    ghost fewer: { (a : Self) (n : ℕ) (o : O) → ready (n + 1) a o → ready n a o };
+}

@@ -1,0 +1,94 @@
+//! The loop beside which something stands.
+
+ghost use Rattle.std.specs.Prelude.{◌≡◌, ◌≤◌, ◌+◌, ℕ, List};
+ghost use Rattle.ads_outside.specs.declared.end.End.TheVariants as end;
+ghost use Rattle.ads_outside.specs.WireState.{WireHistory};
+ghost use Rattle.serve_loop.specs.Beside.{AfterLoop, AfterTurnBeside};
+ghost use Rattle.serve_loop.specs.Looks.{Look};
+ghost use Rattle.serve_loop.specs.Wanting.{WasWanting};
+
+use crate::turning::turn_with;
+use crate::{Beside, Go, LoopEnd, Turn};
+use ads_outside::{End, Wire};
+use ads_served::Served;
+use std::alloc::Global;
+use std::thread::Threads;
+
+/// How a turn ended, with what stands beside it.
+#[derive(Clone, Copy, Debug, PartialEq, Eq)]
+pub(crate) enum Turned {
+    /// It is over, and the loop goes on.
+    On,
+    /// It is over, and what stands beside it ends the loop.
+    Stopped,
+    /// The wire has no more events.
+    End,
+    /// The wire failed to give an event.
+    LinkFault,
+    /// Memory was wanting.
+    Memory,
+}
+
+/// Serves a wire as `serve` does, and shows what is served behind each turn with a tick.
+pub fn serve_beside<T: Threads + Sync, W: Wire, M: Served, O, A: Beside<M, O>>(
+    rt: &T,
+    alloc: Global,
+    served: &mut M,
+    wire: &mut W,
+    beside: &mut A,
+    outside: &mut O,
+    limit: u64,
+) -> LoopEnd
+    requires ready { A.ready limit beside.old outside.old }
+    ensures serve { AfterLoop result M.body_of M.steps M.noted (M.serves served.old) (M.serves served.new) (W.state wire.old) (W.state wire.new)
+        limit (λ looks. A.seen beside.old outside.old beside.new outside.new looks) }
+    ensures kept { W.kept wire.new ≡ W.kept wire.old }
+    ensures later { (W.state wire.old).faults ≤ (W.state wire.new).faults }
+    ensures wanted { (W.state wire.old).wants ≤ (W.state wire.new).wants }
+    ensures memory { result ≡ LoopEnd.Ended end.Memory → WasWanting (M.has_failed served.new) (W.state wire.old) (W.state wire.new) }
+    ensures stopped { result ≡ LoopEnd.Stopped → A.stopped beside.new }
+{
+    let mut numbers = Vec::new(alloc);
+    for _taken in 0..limit {
+        match turn_beside(rt, alloc, served, wire, beside, outside, &mut numbers) {
+            Turned::On => {}
+            Turned::Stopped => return LoopEnd::Stopped,
+            Turned::End => return LoopEnd::Ended(End::Done),
+            Turned::LinkFault => return LoopEnd::Ended(End::LinkFault),
+            Turned::Memory => return LoopEnd::Ended(End::Memory),
+        }
+    }
+    LoopEnd::Ended(End::Budget)
+}
+
+// One turn; behind one with a tick what is served is shown.
+fn turn_beside<T: Threads + Sync, W: Wire, M: Served, O, A: Beside<M, O>>(
+    rt: &T,
+    alloc: Global,
+    served: &mut M,
+    wire: &mut W,
+    beside: &mut A,
+    outside: &mut O,
+    numbers: &mut Vec<u32>,
+) -> Turned
+    requires ready { A.ready 1 beside.old outside.old }
+    ensures turn { AfterTurnBeside result M.body_of M.steps M.noted (M.serves served.old) (M.serves served.new) (W.state wire.old) (W.state wire.new)
+        (λ (first : A) (start : O). A.seen first start beside.old outside.old) (λ (first : A) (start : O). A.seen first start beside.new outside.new) }
+    ensures ready { result ≡ Turned.On → (n : ℕ) → A.ready (n + 1) beside.old outside.old → A.ready n beside.new outside.new }
+    ensures stopped { result ≡ Turned.Stopped → A.stopped beside.new }
+    ensures kept { W.kept wire.new ≡ W.kept wire.old }
+    ensures later { (W.state wire.old).faults ≤ (W.state wire.new).faults }
+    ensures wanted { (W.state wire.old).wants ≤ (W.state wire.new).wants }
+    ensures memory { result ≡ Turned.Memory → WasWanting (M.has_failed served.new) (W.state wire.old) (W.state wire.new) }
+{
+    match turn_with(rt, alloc, served, wire, numbers) {
+        Turn::Tick => match beside.ticked(alloc, served, wire, outside) {
+            Go::On => Turned::On,
+            Go::Stop => Turned::Stopped,
+        },
+        Turn::Other => Turned::On,
+        Turn::End => Turned::End,
+        Turn::LinkFault => Turned::LinkFault,
+        Turn::Memory => Turned::Memory,
+    }
+}
