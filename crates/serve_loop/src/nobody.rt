@@ -16,6 +16,8 @@ impl<M: Served, O> Beside<M, O> for Nobody {
 
     ghost stopped = { λ _. ⊥ };
 
+    ghost asks = { ⊥ };
+
     fn ticked<W: Wire>(&mut self, _alloc: Global, _served: &M, _wire: &W, _outside: &mut O) -> Go {
         Go::On
     }
