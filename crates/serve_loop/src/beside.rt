@@ -29,6 +29,9 @@ pub trait Beside<M: Served, O> {
     /// It ended the loop.
     ghost stopped: { Self → Type 0 };
 
+    /// It was told that events came to these, in order.
+    ghost told: { Self → List M.Came → Type 0 } = { λ _ _. Unit {0} };
+
     /// It asks that what is served stands for something.
     ghost asks: { Type 0 };
 
@@ -37,16 +40,16 @@ pub trait Beside<M: Served, O> {
         ensures seen { (first : Self) (start outside : O) (looks : List Look)
             → seen first start self.old outside looks → seen first start self.new outside looks }
         ensures ready { (n : ℕ) (outside : O) → ready n self.old outside → ready n self.new outside }
+        ensures told { (before : List M.Came) → told self.old before → told self.new before }
     {
     }
 
     /// An event was taken, and came to this; nothing is offered yet.
-    fn came(&mut self, _alloc: Global, _served: &M, _event: &Event, _came: &M::Came)
+    fn came(&mut self, alloc: Global, served: &M, event: &Event, outcome: &M::Came)
         ensures seen { (first : Self) (start outside : O) (looks : List Look)
             → seen first start self.old outside looks → seen first start self.new outside looks }
         ensures ready { (n : ℕ) (outside : O) → ready n self.old outside → ready n self.new outside }
-    {
-    }
+        ensures told { (before : List M.Came) → told self.old before → told self.new (before ++ outcome.now ∷ []) };
 
     /// A turn with a tick is over.
     fn ticked<W: Wire>(&mut self, alloc: Global, served: &M, wire: &W, outside: &mut O) -> Go
@@ -56,6 +59,7 @@ pub trait Beside<M: Served, O> {
             → seen first start self.old outside.old looks → M.serves served.now x
             → seen first start self.new outside.new (looks ++ look_at (M.body_of x.running.state.world) (W.state wire.now).history ∷ []) }
         ensures ready { result ≡ Go.On → (n : ℕ) → ready (n + 1) self.old outside.old → ready n self.new outside.new }
+        ensures told { (before : List M.Came) → told self.old before → told self.new before }
         ensures stopped { result ≡ Go.Stop → stopped self.new };
 
     /// It begins with nothing shown.

@@ -6,6 +6,7 @@ ghost use Rattle.ads_outside.specs.WireState.{WireHistory};
 ghost use Rattle.serve_loop.specs.Beside.{AfterLoop, AfterTurnBeside};
 ghost use Rattle.serve_loop.specs.Looks.{Look};
 ghost use Rattle.serve_loop.specs.TurnTaken.{StandsForSome, StandsOver};
+ghost use Rattle.serve_loop.specs.Telling.{TellsLoop, TellsTurned};
 ghost use Rattle.serve_loop.specs.Wanting.{WasWanting};
 
 use crate::turn_end::Turn;
@@ -50,6 +51,9 @@ pub fn serve_beside<T: Threads + Sync, W: Wire, M: Served, O, A: Beside<M, O>>(
     ensures wanted { (W.state wire.old).wants ≤ (W.state wire.new).wants }
     ensures memory { result ≡ LoopEnd.Ended end.Memory → WasWanting (M.has_failed served.new) (W.state wire.old) (W.state wire.new) }
     ensures stopped { result ≡ LoopEnd.Stopped → A.stopped beside.new }
+    // It was told what each event came to.
+    ensures told { TellsLoop result M.comes_to M.steps M.noted (M.serves served.old) (W.state wire.old) (W.state wire.new)
+        (A.told beside.old) (A.told beside.new) }
 {
     let mut numbers = Vec::new(alloc);
     for _taken in 0..limit {
@@ -80,6 +84,8 @@ fn turn_beside<T: Threads + Sync, W: Wire, M: Served, O, A: Beside<M, O>>(
         (λ (first : A) (start : O). A.seen first start beside.old outside.old) (λ (first : A) (start : O). A.seen first start beside.new outside.new) }
     ensures ready { result ≡ Turned.On → (n : ℕ) → A.ready (n + 1) beside.old outside.old → A.ready n beside.new outside.new }
     ensures stopped { result ≡ Turned.Stopped → A.stopped beside.new }
+    ensures told { TellsTurned result M.comes_to M.steps M.noted (M.serves served.old) (M.serves served.new)
+        (W.state wire.old).history (W.state wire.new).history (A.told beside.old) (A.told beside.new) }
     ensures kept { W.kept wire.new ≡ W.kept wire.old }
     ensures later { (W.state wire.old).faults ≤ (W.state wire.new).faults }
     ensures wanted { (W.state wire.old).wants ≤ (W.state wire.new).wants }

@@ -1,6 +1,7 @@
 -- A turn that is shown, or not.
 use Rattle.std.proofs.Common.{◌+◌}
 use Rattle.serve_loop.proofs.ShowLemmas.{turn_ticked, turn_other, some_at_turn}
+use Rattle.serve_loop.proofs.TellLemmas.{told_so}
 use Rattle.serve_loop.proofs.beside_loop.turn_beside.Goals as goal
 
 pub ticked-requires-clause-some : goal.ticked-requires-clause-some
@@ -32,3 +33,9 @@ returns-in-LinkFault-clause-turn g c =
 
 pub returns-in-Memory-clause-turn : goal.returns-in-Memory-clause-turn
 returns-in-Memory-clause-turn g c = (c.in-Memory.ensures.turn, c.turn_with.ensures.seen c.args.outside.now)
+
+pub returns-in-On-clause-told : goal.returns-in-On-clause-told
+returns-in-On-clause-told g c = told_so _ _ _ _ _ _ _ _ _ _ _ _ (λ y over. over) c.in-On.ensures.told c.in-Tick.ensures.told
+
+pub returns-in-Stop-clause-told : goal.returns-in-Stop-clause-told
+returns-in-Stop-clause-told g c = told_so _ _ _ _ _ _ _ _ _ _ _ _ (λ y over. over) c.in-Stop.ensures.told c.in-Tick.ensures.told
