@@ -188,18 +188,6 @@ turns_then {W} {C} step e x ms ns first second =
     }
 
 -- what is served then may be seen otherwise
-pub leads_to : {W C : Type 0} (step : EventStep W C) (noted : Noting W C)
-    (old_serves mid_serves new_serves : Standing W C → Type 0) (old new : WireHistory) (n : ℕ) (Are : Running W C → List Move → Type 0)
-    → ((y : Standing W C) → mid_serves y → new_serves y) → Leads step noted old_serves mid_serves old new n Are
-    → Leads step noted old_serves new_serves old new n Are
-leads_to step noted old_serves mid_serves new_serves old new n Are to leads = record {
-  moves = leads.moves;
-  logged = leads.logged;
-  events = leads.events;
-  stands = λ x serves. to (standing_after_all step noted x leads.moves) (leads.stands x serves);
-  are = leads.are;
-}
-
 pub stands_over : {W C : Type 0} (mid_serves new_serves : Standing W C → Type 0) (opened : List ℕ)
     → Stays mid_serves new_serves → (y : Standing W C) → StandsOver mid_serves opened y → StandsOver new_serves opened y
 stands_over mid_serves new_serves opened stays y over = record { stands = stays y over.stands; numbers = over.numbers }
