@@ -1,5 +1,5 @@
 -- An event and what follows it are one turn; turns follow one another.
-use Rattle.std.proofs.Common.{◌≡◌, ℕ, ◌+◌, ◌<◌, ◌≤◌, List, [], ◌∷◌, ◌++◌, length, true, false, refl, sym, ap, ◌∙◌, subst, append-nil, arith}
+use Rattle.std.proofs.Common.{◌≡◌, ℕ, ◌+◌, ◌≤◌, List, [], ◌∷◌, ◌++◌, length, true, false, refl, sym, ap, ◌∙◌, subst, append-nil, arith}
 use Rattle.std.specs.Prelude.{Bool, ◌==◌, not, IsTrue}
 use Rattle.std.specs.List.{flat_map}
 use Rattle.std.proofs.lemmas.Grind.{flat_map-append}
@@ -28,7 +28,7 @@ use Rattle.serve_loop.specs.Leads.{Leads, Breaks}
 use Rattle.serve_loop.specs.Serving.{ServesAll}
 use Rattle.serve_loop.specs.TurnTaken.{StandsOver, ComesBy, IsTurnOf, turn_of_event, TakesEvent, Stays}
 use Rattle.serve_loop.specs.TurnTaken.{BreaksTurn, AfterTurn, AreTurnsOf, TakesTurns}
-use Rattle.serve_loop.proofs.LeadLemmas.{leads_nowhere, leads_then, breaks_nowhere, breaks_then, AreOffers-append, standing-running}
+use Rattle.serve_loop.proofs.LeadLemmas.{breaks_nowhere, AreOffers-append, standing-running}
 use Rattle.serve_loop.proofs.OfferLemmas.{running-append}
 use Rattle.serve_loop.proofs.WantLemmas.{rose_later}
 

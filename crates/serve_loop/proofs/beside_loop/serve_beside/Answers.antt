@@ -1,5 +1,5 @@
 -- One turn behind others, and what is shown of it.
-use Rattle.std.proofs.Common.{refl, ◌∙◌, ℕ, ◌+◌, ◌-◌, ◌≡◌, ◌≤◌, subst, arith, sym}
+use Rattle.std.proofs.Common.{refl, ◌∙◌, ℕ, ◌+◌, ◌-◌, ◌≡◌, subst, arith}
 use Rattle.std.proofs.Math.Nat.{le_refl, le_trans}
 use Rattle.ads_outside.specs.WireAnswers.{Stops}
 use Rattle.serve_loop.specs.Beside.{ShowsTurns}
