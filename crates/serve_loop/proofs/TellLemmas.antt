@@ -9,7 +9,7 @@ use Rattle.ads_outside.specs.WireState.{WireState, WireHistory, history_after, e
 use Rattle.spec_machine.specs.MachineState.{MachineState}
 use Rattle.spec_machine.specs.Moves.{EventStep, state_after_move, state_after}
 use Rattle.spec_machine.specs.Running.{Running}
-use Rattle.ads_served.specs.Standing.{Standing, Noting, standing_after, standing_after_all}
+use Rattle.ads_served.specs.Standing.{Standing, Noting, standing_after_all}
 use Rattle.serve_loop.specs.declared.turn_end.Turn.{Turn}
 use Rattle.serve_loop.specs.declared.turn_end.Turn.TheVariants as turn
 use Rattle.serve_loop.specs.Leads.{Leads, Breaks, serves_any, events_in}

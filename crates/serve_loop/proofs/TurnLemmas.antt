@@ -1,5 +1,5 @@
 -- An event and what follows it are one turn; turns follow one another.
-use Rattle.std.proofs.Common.{◌≡◌, ℕ, ◌+◌, ◌<◌, ◌≤◌, List, [], ◌∷◌, ◌++◌, length, true, false, refl, sym, ap, ◌∙◌, subst, append-nil, arith}
+use Rattle.std.proofs.Common.{◌≡◌, ℕ, ◌+◌, ◌≤◌, List, [], ◌∷◌, ◌++◌, length, true, false, refl, sym, ap, ◌∙◌, subst, append-nil, arith}
 use Rattle.std.specs.Prelude.{Bool, ◌==◌, not, IsTrue}
 use Rattle.std.specs.List.{flat_map}
 use Rattle.std.proofs.lemmas.Grind.{flat_map-append}
@@ -28,7 +28,7 @@ use Rattle.serve_loop.specs.Leads.{Leads, Breaks}
 use Rattle.serve_loop.specs.Serving.{ServesAll}
 use Rattle.serve_loop.specs.TurnTaken.{StandsOver, ComesBy, IsTurnOf, turn_of_event, TakesEvent, Stays}
 use Rattle.serve_loop.specs.TurnTaken.{BreaksTurn, AfterTurn, AreTurnsOf, TakesTurns}
-use Rattle.serve_loop.proofs.LeadLemmas.{leads_nowhere, leads_then, breaks_nowhere, breaks_then, AreOffers-append, standing-running}
+use Rattle.serve_loop.proofs.LeadLemmas.{breaks_nowhere, AreOffers-append, standing-running}
 use Rattle.serve_loop.proofs.OfferLemmas.{running-append}
 use Rattle.serve_loop.proofs.WantLemmas.{rose_later}
 
@@ -188,18 +188,6 @@ turns_then {W} {C} step e x ms ns first second =
     }
 
 -- what is served then may be seen otherwise
-pub leads_to : {W C : Type 0} (step : EventStep W C) (noted : Noting W C)
-    (old_serves mid_serves new_serves : Standing W C → Type 0) (old new : WireHistory) (n : ℕ) (Are : Running W C → List Move → Type 0)
-    → ((y : Standing W C) → mid_serves y → new_serves y) → Leads step noted old_serves mid_serves old new n Are
-    → Leads step noted old_serves new_serves old new n Are
-leads_to step noted old_serves mid_serves new_serves old new n Are to leads = record {
-  moves = leads.moves;
-  logged = leads.logged;
-  events = leads.events;
-  stands = λ x serves. to (standing_after_all step noted x leads.moves) (leads.stands x serves);
-  are = leads.are;
-}
-
 pub stands_over : {W C : Type 0} (mid_serves new_serves : Standing W C → Type 0) (opened : List ℕ)
     → Stays mid_serves new_serves → (y : Standing W C) → StandsOver mid_serves opened y → StandsOver new_serves opened y
 stands_over mid_serves new_serves opened stays y over = record { stands = stays y over.stands; numbers = over.numbers }

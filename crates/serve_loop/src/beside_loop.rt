@@ -5,8 +5,8 @@ ghost use Rattle.ads_outside.specs.declared.end.End.TheVariants as end;
 ghost use Rattle.ads_outside.specs.WireState.{WireHistory};
 ghost use Rattle.serve_loop.specs.Beside.{AfterLoop, AfterTurnBeside, ShowsStopped, StopsTurn};
 ghost use Rattle.serve_loop.specs.Looks.{Look, IsBodyOf};
-ghost use Rattle.serve_loop.specs.TurnTaken.{StandsForSome, StandsOver};
 ghost use Rattle.serve_loop.specs.Telling.{TellsLoop, TellsTurned};
+ghost use Rattle.serve_loop.specs.TurnTaken.{StandsForSome, StandsOver};
 ghost use Rattle.serve_loop.specs.Wanting.{WasWanting};
 
 use crate::turn_end::Turn;

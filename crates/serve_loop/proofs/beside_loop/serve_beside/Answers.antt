@@ -1,6 +1,7 @@
 -- One turn behind others, and what is shown of it.
-use Rattle.std.proofs.Common.{refl, ◌∙◌, ℕ, ◌+◌, ◌-◌, ◌≡◌, ◌≤◌, subst, arith, sym}
+use Rattle.std.proofs.Common.{refl, ◌∙◌, ℕ, ◌+◌, ◌-◌, ◌≡◌, subst, arith}
 use Rattle.std.proofs.Math.Nat.{le_refl, le_trans}
+use Rattle.ads_outside.specs.WireAnswers.{Stops}
 use Rattle.serve_loop.specs.Beside.{ShowsTurns}
 use Rattle.serve_loop.proofs.TurnLemmas.{stops_kept, stops_later}
 use Rattle.serve_loop.proofs.ShowLemmas.{shows_none, shows_turn, shows_before, shows_broken, shows_seen, shows_stopped, fewer_many, ready_none, some_after}
@@ -40,12 +41,11 @@ returns-in-End-clause-serve g c =
 
 pub returns-in-LinkFault-clause-serve : goal.returns-in-LinkFault-clause-serve
 returns-in-LinkFault-clause-serve g c =
-    let shows = c.loop-taken.invariant.shows in
-    let kept = stops_kept _ _ _ _ _ _ _ shows.turns in
-    shows_before _ _ _ _ _ _ _ _ _ _ _ _ (shows_seen _ _ _ _ _ _ _ _ _ _ (c.in-LinkFault.ensures.turn.2 _ _) shows)
+    shows_before _ _ _ _ _ _ _ _ _ _ (λ last. Stops (g.W.Wire.state c.args.wire.now) (g.W.Wire.state c.turn_beside.new.wire) last) _
+    (shows_seen _ _ _ _ _ _ _ _ _ _ (c.in-LinkFault.ensures.turn.2 _ _) c.loop-taken.invariant.shows)
     c.loop-taken-test.true c.in-LinkFault.ensures.turn.1
-    (stops_later (g.W.Wire.state c.args.wire.now) (g.W.Wire.state c.loop-taken.wire)
-    (g.W.Wire.state c.turn_beside.new.wire) kept c.loop-taken.invariant.later c.in-LinkFault.ensures.turn.0)
+    (stops_later (g.W.Wire.state c.args.wire.now) (g.W.Wire.state c.loop-taken.wire) (g.W.Wire.state c.turn_beside.new.wire)
+    (stops_kept _ _ _ _ _ _ _ c.loop-taken.invariant.shows.turns) c.loop-taken.invariant.later c.in-LinkFault.ensures.turn.0)
 
 pub returns-in-Memory-clause-serve : goal.returns-in-Memory-clause-serve
 returns-in-Memory-clause-serve g c =
