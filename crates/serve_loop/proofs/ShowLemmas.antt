@@ -158,8 +158,8 @@ shows_more {W} {C} {K} body_of step noted old_serves mid_serves new_serves old m
           ap (λ r. L r new) (standing-running step noted x (ms ++ ns))
           ∙ ap (λ h. L (running_after_all step x.running (ms ++ ns)) h) logged in
           let serves : new_serves y = subst (λ moves. new_serves (standing_after_all step noted x moves)) it.1 (it.0.stands x over).stands in
-          subst (λ moves. Of moves x) (sym it.1) (shown_more body_of step x.running old ms ns takes.event (Old shows.kept) (New goes.more) (shows.shown x over) turn_is
-          takes.leads.events
+          subst (λ moves. Of moves x) (sym it.1) (shown_more body_of step x.running old ms ns takes.event (Old shows.kept) (New goes.more) (shows.shown x over)
+          turn_is takes.leads.events
           (λ looks seen. let P : Look → Type 0 = λ look. New goes.more (looks ++ looks_at_event takes.event look) in
           subst P same (goes.sees looks y seen serves)));
     }

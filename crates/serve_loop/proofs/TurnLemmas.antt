@@ -1,5 +1,5 @@
 -- An event and what follows it are one turn; turns follow one another.
-use Rattle.std.proofs.Common.{◌≡◌, ℕ, ◌+◌, ◌≤◌, List, [], ◌∷◌, ◌++◌, length, true, false, refl, sym, ap, ◌∙◌, subst, append-nil, arith}
+use Rattle.std.proofs.Common.{◌≡◌, ℕ, ◌+◌, ◌<◌, ◌≤◌, List, [], ◌∷◌, ◌++◌, length, true, false, refl, sym, ap, ◌∙◌, subst, append-nil, arith}
 use Rattle.std.specs.Prelude.{Bool, ◌==◌, not, IsTrue}
 use Rattle.std.specs.List.{flat_map}
 use Rattle.std.proofs.lemmas.Grind.{flat_map-append}
@@ -27,8 +27,8 @@ use Rattle.serve_loop.specs.declared.turn_end.Turn.{Turn}
 use Rattle.serve_loop.specs.Leads.{Leads, Breaks}
 use Rattle.serve_loop.specs.Serving.{ServesAll}
 use Rattle.serve_loop.specs.TurnTaken.{StandsOver, ComesBy, IsTurnOf, turn_of_event, TakesEvent, Stays}
-use Rattle.serve_loop.specs.TurnTaken.{BreaksTurn, AfterTurn, AreTurnsOf, TakesTurns}
-use Rattle.serve_loop.proofs.LeadLemmas.{breaks_nowhere, AreOffers-append, standing-running}
+use Rattle.serve_loop.specs.TurnTaken.{BreaksTurn, AfterTurn, AreTurnsOf, TakesTurns, EndsBefore}
+use Rattle.serve_loop.proofs.LeadLemmas.{leads_then, breaks_nowhere, AreOffers-append, standing-running}
 use Rattle.serve_loop.proofs.OfferLemmas.{running-append}
 use Rattle.serve_loop.proofs.WantLemmas.{rose_later}
 
@@ -188,6 +188,18 @@ turns_then {W} {C} step e x ms ns first second =
     }
 
 -- what is served then may be seen otherwise
+pub leads_to : {W C : Type 0} (step : EventStep W C) (noted : Noting W C)
+    (old_serves mid_serves new_serves : Standing W C → Type 0) (old new : WireHistory) (n : ℕ) (Are : Running W C → List Move → Type 0)
+    → ((y : Standing W C) → mid_serves y → new_serves y) → Leads step noted old_serves mid_serves old new n Are
+    → Leads step noted old_serves new_serves old new n Are
+leads_to step noted old_serves mid_serves new_serves old new n Are to leads = record {
+  moves = leads.moves;
+  logged = leads.logged;
+  events = leads.events;
+  stands = λ x serves. to (standing_after_all step noted x leads.moves) (leads.stands x serves);
+  are = leads.are;
+}
+
 pub stands_over : {W C : Type 0} (mid_serves new_serves : Standing W C → Type 0) (opened : List ℕ)
     → Stays mid_serves new_serves → (y : Standing W C) → StandsOver mid_serves opened y → StandsOver new_serves opened y
 stands_over mid_serves new_serves opened stays y over = record { stands = stays y over.stands; numbers = over.numbers }
@@ -216,6 +228,30 @@ stops_later old mid new same later stops = record {
   same = stops.same;
   stopped = (let P : ℕ → Type 0 = λ n. Rose n new.history.stops in subst P same stops.stopped);
   faulted = rose_later old.faults mid.faults new.faults later stops.faulted;
+}
+
+-- one more turn of the loop
+pub one_more : {W C : Type 0} (step : EventStep W C) (noted : Noting W C)
+    (old_serves mid_serves new_serves : Standing W C → Type 0) (old mid new : WireHistory) (count : ℕ) (tells : Turn)
+    → TakesTurns step noted old_serves mid_serves old mid count → TakesEvent step noted mid_serves new_serves mid new tells
+    → TakesTurns step noted old_serves new_serves old new (count + 1)
+one_more step noted old_serves mid_serves new_serves old mid new count tells turns takes =
+    leads_then step noted (StandsOver old_serves old.opened) (StandsOver mid_serves mid.opened) (StandsOver new_serves new.opened) old mid new count 1
+    (AreTurnsOf step) (IsTurnOf step takes.event) (AreTurnsOf step) (turns_then step takes.event) turns takes.leads
+
+-- what is served stays, and then this came of the wire
+pub ends_before : {W C : Type 0} (step : EventStep W C) (noted : Noting W C)
+    (old_serves mid_serves new_serves : Standing W C → Type 0) (old mid : WireHistory) (count limit : ℕ) (Then : WireHistory → Type 0)
+    → TakesTurns step noted old_serves mid_serves old mid count → count < limit
+    → Stays mid_serves new_serves → Then mid → EndsBefore step noted old_serves new_serves old limit Then
+ends_before step noted old_serves mid_serves new_serves old mid count limit Then turns fewer stays then_ = record {
+  last = mid;
+  count = count;
+  fewer = fewer;
+  turns = leads_to step noted (StandsOver old_serves old.opened) (StandsOver mid_serves mid.opened)
+      (StandsOver new_serves mid.opened) old mid count (AreTurnsOf step)
+      (stands_over mid_serves new_serves mid.opened stays) turns;
+  then_ = then_;
 }
 
 -- turns raise no count of stops
