@@ -26,7 +26,7 @@ use std::thread::Threads;
 /// A machine over connections: events go in, frames for each connection come out.
 pub trait Served {
     /// What an event comes to.
-    type Came;
+    type Came: Drop;
 
     /// Its world, and what it keeps for a client.
     ghost World: { Type 0 };

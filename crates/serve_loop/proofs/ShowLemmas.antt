@@ -1,7 +1,8 @@
 -- What is shown of turns one after another.
 use Rattle.std.proofs.Common.{◌≡◌, ℕ, zero, suc, ◌+◌, ◌<◌, ◌≤◌, List, [], ◌∷◌, ◌++◌, refl, sym, ap, ◌∙◌, subst, append_assoc, append-nil, arith}
-use Rattle.std.specs.List.{flat_map}
+use Rattle.std.specs.List.{All, flat_map}
 use Rattle.std.proofs.lemmas.Grind.{flat_map-append}
+use Rattle.std.proofs.lemmas.List.Elements.{All-append, All-cons, All-nil}
 use Rattle.ads_outside.specs.declared.event.Event.{Event}
 use Rattle.ads_outside.specs.declared.event.Event.TheVariants as event
 use Rattle.ads_outside.specs.declared.moves.Move.{Move}
@@ -18,7 +19,7 @@ use Rattle.serve_loop.specs.declared.turn_end.Turn.TheVariants as turn
 use Rattle.serve_loop.specs.Beside.{ShownOf, ShowsTurn, ShowsTurns, ShowsBefore, ShowsBroken}
 use Rattle.serve_loop.specs.Leads.{serves_any, events_in}
 use Rattle.serve_loop.specs.Looks.{Look, look_at, looks_at_event, looks_of_turns}
-use Rattle.serve_loop.specs.TurnTaken.{StandsOver, IsTurnOf, TakesEvent, TakesTurns, AreTurnsOf, Stays, BreaksTurn, turn_of_event}
+use Rattle.serve_loop.specs.TurnTaken.{StandsOver, StandsForSome, IsTurnOf, TakesEvent, TakesTurns, AreTurnsOf, Stays, BreaksTurn, turn_of_event}
 use Rattle.serve_loop.proofs.LeadLemmas.{events-append, history-append, standing-append, standing-running, AreOffers-append}
 use Rattle.serve_loop.proofs.TurnLemmas.{stands_over, turns_none, turns_then}
 
@@ -71,11 +72,12 @@ look_behind-append {W} {C} body_of step s h ms ns =
 -- one turn more is shown
 pub shown_more : {W C : Type 0} (body_of : W → List ℕ) (step : EventStep W C) (x : Running W C) (h : WireHistory) (ms ns : List Move) (e : Event)
     (Old New : List Look → Type 0)
-    → ShownOf body_of step x h ms Old → IsTurnOf step e (running_after_all step x ms) ns
+    → ShownOf body_of step x h ms Old → IsTurnOf step e (running_after_all step x ms) ns → events_in ns ≡ 1
     → ((looks : List Look) → Old looks → New (looks ++ looks_at_event e (look_behind body_of step x.state h (ms ++ ns))))
     → ShownOf body_of step x h (ms ++ ns) New
 unfolding looks_of_turns
-shown_more {W} {C} body_of step x h ms ns e Old New first second goes =
+shown_more {W} {C} body_of step x h ms ns e Old New first second one goes =
+    let One : LogTurn → Type 0 = λ turn. events_in (moves_of_turn turn) ≡ 1 in
     let t : LogTurn = record { event = e; served = second.served } in
     let looks = looks_of_turns body_of step x.state h first.turns in
     let K : List Move → List Move → List Look = λ ps qs. looks ++ (looks_at_event e (look_behind body_of step (state_after step x.state ps)
@@ -92,6 +94,7 @@ shown_more {W} {C} body_of step x h ms ns e Old New first second goes =
       are = ap (λ moves. moves ++ ns) first.are
           ∙ (ap (λ moves. flat_map moves_of_turn first.turns ++ moves) (second.are ∙ sym (append-nil (moves_of_turn t)))
           ∙ sym (flat_map-append moves_of_turn first.turns (t ∷ [])));
+      one = All-append One first.turns (t ∷ []) first.one (All-cons One t [] (subst (λ moves. events_in moves ≡ 1) second.are one) (All-nil One));
       seen = subst New (sym is) (goes looks first.seen);
     }
 
@@ -101,7 +104,7 @@ pub shows_none : {W C : Type 0} (body_of : W → List ℕ) (step : EventStep W C
 unfolding looks_of_turns standing_after_all history_after
 shows_none body_of step noted serves h Seen begins = record {
   turns = record { moves = []; logged = refl; events = refl; stands = λ x over. over; are = λ x over. turns_none step x.running };
-  shown = λ x over. record { turns = []; are = refl; seen = begins };
+  shown = λ x over. record { turns = []; are = refl; one = All-nil (λ t. events_in (moves_of_turn t) ≡ 1); seen = begins };
 }
 
 -- turns, and one more
@@ -111,19 +114,21 @@ joined : {W C : Type 0} (step : EventStep W C) (noted : Noting W C) (old_serves 
     → (both : TakesTurns step noted old_serves new_serves old new (count + 1)) × (both.moves ≡ turns.moves ++ takes.leads.moves)
 joined {W} {C} step noted old_serves mid_serves new_serves old mid new count tells turns takes =
     let ms = turns.moves in
-    let ns = takes.leads.moves in
-    (record {
-      moves = ms ++ ns;
-      events = events-append ms ns ∙ (ap (λ k. k + events_in ns) turns.events ∙ ap (λ k. count + k) takes.leads.events);
-      logged = takes.leads.logged ∙ (ap (λ h. history_after h ns) turns.logged ∙ sym (history-append old ms ns));
-      stands = λ x over.
-          let P : Standing W C → Type 0 = λ y. StandsOver new_serves new.opened y in
-          subst P (sym (standing-append step noted x ms ns)) (takes.leads.stands (standing_after_all step noted x ms) (turns.stands x over));
-      are = λ x over.
-          let R : Running W C → Type 0 = λ r. IsTurnOf step takes.event r ns in
-          turns_then step takes.event x.running ms ns (turns.are x over)
-          (subst R (standing-running step noted x ms) (takes.leads.are (standing_after_all step noted x ms) (turns.stands x over)));
-    }, refl)
+    let ns = takes.leads.moves in (
+      record {
+        moves = ms ++ ns;
+        events = events-append ms ns ∙ (ap (λ k. k + events_in ns) turns.events ∙ ap (λ k. count + k) takes.leads.events);
+        logged = takes.leads.logged ∙ (ap (λ h. history_after h ns) turns.logged ∙ sym (history-append old ms ns));
+        stands = λ x over.
+            let P : Standing W C → Type 0 = λ y. StandsOver new_serves new.opened y in
+            subst P (sym (standing-append step noted x ms ns)) (takes.leads.stands (standing_after_all step noted x ms) (turns.stands x over));
+        are = λ x over.
+            let R : Running W C → Type 0 = λ r. IsTurnOf step takes.event r ns in
+            turns_then step takes.event x.running ms ns (turns.are x over)
+            (subst R (standing-running step noted x ms) (takes.leads.are (standing_after_all step noted x ms) (turns.stands x over)));
+      },
+      refl,
+    )
 
 -- one turn more, of whatever kind
 pub shows_more : {W C : Type 0} (body_of : W → List ℕ) (step : EventStep W C) (noted : Noting W C)
@@ -145,16 +150,17 @@ shows_more {W} {C} body_of step noted old_serves mid_serves new_serves old mid n
           let z = standing_after_all step noted x ms in
           let R : Running W C → Type 0 = λ r. IsTurnOf step takes.event r ns in
           let turn_is : IsTurnOf step takes.event (running_after_all step x.running ms) ns =
-              subst R (standing-running step noted x ms) (takes.leads.are z (shows.turns.stands x over)) in
+          subst R (standing-running step noted x ms) (takes.leads.are z (shows.turns.stands x over)) in
           let L : Running W C → WireHistory → Look = λ r h. look_at (body_of r.state.world) h in
           let logged : new ≡ history_after old (ms ++ ns) = subst (λ moves. new ≡ history_after old moves) it.1 it.0.logged in
           let same : look_at (body_of y.running.state.world) new ≡ look_behind body_of step x.running.state old (ms ++ ns) =
-              ap (λ r. L r new) (standing-running step noted x (ms ++ ns))
-              ∙ ap (λ h. L (running_after_all step x.running (ms ++ ns)) h) logged in
+          ap (λ r. L r new) (standing-running step noted x (ms ++ ns))
+          ∙ ap (λ h. L (running_after_all step x.running (ms ++ ns)) h) logged in
           let serves : new_serves y = subst (λ moves. new_serves (standing_after_all step noted x moves)) it.1 (it.0.stands x over).stands in
           subst (λ moves. Of moves x) (sym it.1) (shown_more body_of step x.running old ms ns takes.event Old New (shows.shown x over) turn_is
+          takes.leads.events
           (λ looks seen. let P : Look → Type 0 = λ look. New (looks ++ looks_at_event takes.event look) in
-              subst P same (goes looks y seen serves)));
+          subst P same (goes looks y seen serves)));
     }
 
 -- what is served stays, and then this came of the wire
@@ -188,8 +194,13 @@ shows_broken {W} {C} body_of step noted old_serves mid_serves old mid new count 
   last = mid;
   count = count;
   shows = record {
-    turns = record { moves = shows.turns.moves; logged = shows.turns.logged; events = shows.turns.events;
-        stands = λ x over. record { stands = tt; numbers = (shows.turns.stands x over).numbers }; are = shows.turns.are };
+    turns = record {
+      moves = shows.turns.moves;
+      logged = shows.turns.logged;
+      events = shows.turns.events;
+      stands = λ x over. record { stands = tt; numbers = (shows.turns.stands x over).numbers };
+      are = shows.turns.are;
+    };
     shown = shows.shown;
   };
   later = broken.breaks.moves;
@@ -247,10 +258,25 @@ pub shows_seen : {W C : Type 0} (body_of : W → List ℕ) (step : EventStep W C
     → ShowsTurns body_of step noted old_serves new_serves old new count Old → ShowsTurns body_of step noted old_serves new_serves old new count New
 shows_seen body_of step noted old_serves new_serves old new count Old New so shows = record {
   turns = shows.turns;
-  shown = λ x over. record { turns = (shows.shown x over).turns; are = (shows.shown x over).are; seen = so _ (shows.shown x over).seen };
+  shown = λ x over.
+      let all = shows.shown x over in
+      record { turns = all.turns; are = all.are; one = all.one; seen = so _ all.seen };
 }
 
 -- where so many may be shown, fewer may
 pub fewer_many : {P : ℕ → Type 0} → ((n : ℕ) → P (n + 1) → P n) → (k m : ℕ) → P (k + m) → P m
 fewer_many {P} one zero m p = subst P (omega arith) p
 fewer_many {P} one (suc k) m p = fewer_many {P = P} one k m (one (k + m) (subst P (omega arith) p))
+
+-- it stands for something after some turns, and after one more
+pub some_after : {W C : Type 0} (body_of : W → List ℕ) (step : EventStep W C) (noted : Noting W C) (old_serves new_serves : Standing W C → Type 0)
+    (old new : WireHistory) (count : ℕ) (Seen : List Look → Type 0) → ShowsTurns body_of step noted old_serves new_serves old new count Seen
+    → StandsForSome (StandsOver old_serves old.opened) → StandsForSome (StandsOver new_serves new.opened)
+some_after body_of step noted old_serves new_serves old new count Seen shows some =
+    record { standing = standing_after_all step noted some.standing shows.turns.moves; stands = shows.turns.stands some.standing some.stands }
+
+pub some_at_turn : {W C : Type 0} (step : EventStep W C) (noted : Noting W C) (old_serves new_serves : Standing W C → Type 0)
+    (old new : WireHistory) (tells : Turn) → TakesEvent step noted old_serves new_serves old new tells
+    → StandsForSome (StandsOver old_serves old.opened) → StandsForSome new_serves
+some_at_turn step noted old_serves new_serves old new tells takes some =
+    record { standing = standing_after_all step noted some.standing takes.leads.moves; stands = (takes.leads.stands some.standing some.stands).stands }

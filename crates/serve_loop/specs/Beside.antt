@@ -1,6 +1,6 @@
 -- What a loop leads to beside which something stands: its turns, and what was shown of them.
 use Rattle.std.specs.Prelude.{◌≡◌, ℕ, ◌+◌, ◌<◌, ◌≤◌, List, ◌++◌}
-use Rattle.std.specs.List.{flat_map}
+use Rattle.std.specs.List.{All, flat_map}
 use Rattle.ads_outside.specs.declared.end.End.{End}
 use Rattle.ads_outside.specs.declared.end.End.TheVariants as end
 use Rattle.ads_outside.specs.declared.moves.Move.{Move}
@@ -25,6 +25,8 @@ pub record ShownOf {W C : Type 0} (body_of : W → List ℕ) (step : EventStep W
     (ms : List Move) (Seen : List Look → Type 0) : Type 0 where
   pub turns : List LogTurn
   pub are : ms ≡ flat_map moves_of_turn turns
+  -- each with one event
+  pub one : All (λ t. events_in (moves_of_turn t) ≡ 1) turns
   pub seen : Seen (looks_of_turns body_of step x.state old turns)
 
 -- so many turns were taken, and what was shown of them

@@ -3,6 +3,7 @@
 ghost use Rattle.std.specs.Prelude.{◌≡◌, ℕ, ◌+◌, List, [], ◌∷◌, ◌++◌};
 ghost use Rattle.ads_served.specs.Standing.{Standing};
 ghost use Rattle.serve_loop.specs.Looks.{Look, look_at};
+ghost use Rattle.serve_loop.specs.TurnTaken.{StandsForSome};
 
 use ads_outside::Wire;
 use ads_served::Served;
@@ -28,8 +29,12 @@ pub trait Beside<M: Served, O> {
     /// It ended the loop.
     ghost stopped: { Self → Type 0 };
 
+    /// It asks that what is served stands for something.
+    ghost asks: { Type 0 };
+
     /// A turn with a tick is over.
     fn ticked<W: Wire>(&mut self, alloc: Global, served: &M, wire: &W, outside: &mut O) -> Go
+        requires some { asks → StandsForSome (M.serves served.now) }
         requires ready { ready 1 self.old outside.old }
         ensures seen { (first : Self) (start : O) (looks : List Look) (x : Standing M.World M.Client)
             → seen first start self.old outside.old looks → M.serves served.now x

@@ -5,6 +5,7 @@ ghost use Rattle.ads_outside.specs.declared.end.End.TheVariants as end;
 ghost use Rattle.ads_outside.specs.WireState.{WireHistory};
 ghost use Rattle.serve_loop.specs.Beside.{AfterLoop, AfterTurnBeside};
 ghost use Rattle.serve_loop.specs.Looks.{Look};
+ghost use Rattle.serve_loop.specs.TurnTaken.{StandsForSome, StandsOver};
 ghost use Rattle.serve_loop.specs.Wanting.{WasWanting};
 
 use crate::turning::turn_with;
@@ -39,6 +40,7 @@ pub fn serve_beside<T: Threads + Sync, W: Wire, M: Served, O, A: Beside<M, O>>(
     outside: &mut O,
     limit: u64,
 ) -> LoopEnd
+    requires some { A.asks → StandsForSome (StandsOver (M.serves served.old) (W.state wire.old).history.opened) }
     requires ready { A.ready limit beside.old outside.old }
     ensures serve { AfterLoop result M.body_of M.steps M.noted (M.serves served.old) (M.serves served.new) (W.state wire.old) (W.state wire.new)
         limit (λ looks. A.seen beside.old outside.old beside.new outside.new looks) }
@@ -71,6 +73,7 @@ fn turn_beside<T: Threads + Sync, W: Wire, M: Served, O, A: Beside<M, O>>(
     outside: &mut O,
     numbers: &mut Vec<u32>,
 ) -> Turned
+    requires some { A.asks → StandsForSome (StandsOver (M.serves served.old) (W.state wire.old).history.opened) }
     requires ready { A.ready 1 beside.old outside.old }
     ensures turn { AfterTurnBeside result M.body_of M.steps M.noted (M.serves served.old) (M.serves served.new) (W.state wire.old) (W.state wire.new)
         (λ (first : A) (start : O). A.seen first start beside.old outside.old) (λ (first : A) (start : O). A.seen first start beside.new outside.new) }

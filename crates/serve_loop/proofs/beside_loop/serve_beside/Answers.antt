@@ -3,7 +3,7 @@ use Rattle.std.proofs.Common.{refl, ◌∙◌, ℕ, ◌+◌, ◌-◌, ◌≡◌,
 use Rattle.std.proofs.Math.Nat.{le_refl, le_trans}
 use Rattle.serve_loop.specs.Beside.{ShowsTurns}
 use Rattle.serve_loop.proofs.TurnLemmas.{stops_kept, stops_later}
-use Rattle.serve_loop.proofs.ShowLemmas.{shows_none, shows_turn, shows_before, shows_broken, shows_seen, fewer_many}
+use Rattle.serve_loop.proofs.ShowLemmas.{shows_none, shows_turn, shows_before, shows_broken, shows_seen, fewer_many, some_after}
 use Rattle.serve_loop.proofs.WantLemmas.{wanting_later}
 use Rattle.serve_loop.proofs.beside_loop.serve_beside.Goals as goal
 
@@ -16,6 +16,10 @@ loop-taken-init g c = record {
   wanted = le_refl _;
 }
 
+pub turn_beside-requires-clause-some : goal.turn_beside-requires-clause-some
+turn_beside-requires-clause-some g c κs within = λ asks.
+    some_after _ _ _ _ _ _ _ _ _ c.loop-taken.invariant.shows (c.requires.some asks)
+
 pub turn_beside-requires-clause-ready : goal.turn_beside-requires-clause-ready
 turn_beside-requires-clause-ready g c κs within =
     let Ready : ℕ → Type 0 = λ n. g.A.Beside.ready n c.loop-taken.beside c.loop-taken.outside in
@@ -23,9 +27,11 @@ turn_beside-requires-clause-ready g c κs within =
     (subst Ready (omega (arith, c.loop-taken-test.true)) c.loop-taken.invariant.ready)
 
 pub returns-in-Stopped-clause-serve : goal.returns-in-Stopped-clause-serve
-returns-in-Stopped-clause-serve g c =
-    (c.loop-taken._taken + 1, omega (arith, c.loop-taken-test.true),
-    shows_turn _ _ _ _ _ _ _ _ _ _ _ _ _ _ c.loop-taken.invariant.shows c.in-Stopped.ensures.turn)
+returns-in-Stopped-clause-serve g c = (
+  c.loop-taken._taken + 1,
+  omega (arith, c.loop-taken-test.true),
+  shows_turn _ _ _ _ _ _ _ _ _ _ _ _ _ _ c.loop-taken.invariant.shows c.in-Stopped.ensures.turn,
+)
 
 pub returns-in-End-clause-serve : goal.returns-in-End-clause-serve
 returns-in-End-clause-serve g c =
