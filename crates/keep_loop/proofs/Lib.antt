@@ -8,9 +8,10 @@ mod QuietLemmas
 pub mod MarkLemmas
 mod AlsoLemmas
 pub mod EndLemmas
-mod WantLemmas
 mod BegunLemmas
 mod LookLemmas
 mod OnLemmas
 mod OnMarkLemmas
 pub mod ShownLemmas
+mod SaverLemmas
+mod RunLemmas

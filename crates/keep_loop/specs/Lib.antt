@@ -7,3 +7,5 @@ pub mod KeepingOn
 pub mod Marking
 pub mod Looking
 pub mod Shown
+pub mod Saver
+pub mod SaverLaws

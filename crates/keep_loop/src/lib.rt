@@ -13,6 +13,7 @@ mod run_end;
 mod save_counts;
 mod save_end;
 mod save_notes;
+mod saves_or_stops;
 mod saving;
 
 pub use keep_end::KeepEnd;
