@@ -16,7 +16,7 @@ use Rattle.spec_machine.proofs.Changes.{state_after-append}
 use Rattle.ads_served.specs.Standing.{Standing, Noting, running_after_all, standing_after_all}
 use Rattle.serve_loop.specs.declared.turn_end.Turn.{Turn}
 use Rattle.serve_loop.specs.declared.turn_end.Turn.TheVariants as turn
-use Rattle.serve_loop.specs.Beside.{ShownOf, ShowsTurn, ShowsTurns, ShowsBefore, ShowsBroken}
+use Rattle.serve_loop.specs.Beside.{ShownOf, ShowsTurn, ShowsTurns, ShowsBefore, ShowsBroken, StaysSeen}
 use Rattle.serve_loop.specs.Leads.{serves_any, events_in}
 use Rattle.serve_loop.specs.Looks.{Look, look_at, looks_at_event, looks_of_turns}
 use Rattle.serve_loop.specs.TurnTaken.{StandsOver, StandsForSome, IsTurnOf, TakesEvent, TakesTurns, AreTurnsOf, Stays, BreaksTurn, turn_of_event}
@@ -229,16 +229,16 @@ turn_ticked {W} {C} {A} {O} body_of step noted old_serves new_serves old new Old
 }
 
 pub turn_other : {W C A O : Type 0} (body_of : W → List ℕ) (step : EventStep W C) (noted : Noting W C)
-    (old_serves new_serves : Standing W C → Type 0) (old new : WireHistory) (Seen : A → O → List Look → Type 0)
-    → TakesEvent step noted old_serves new_serves old new turn.Other
-    → ShowsTurn body_of step noted old_serves new_serves old new Seen Seen
-turn_other {W} {C} {A} {O} body_of step noted old_serves new_serves old new Seen takes = record {
+    (old_serves new_serves : Standing W C → Type 0) (old new : WireHistory) (Old New : A → O → List Look → Type 0)
+    → TakesEvent step noted old_serves new_serves old new turn.Other → StaysSeen Old New
+    → ShowsTurn body_of step noted old_serves new_serves old new Old New
+turn_other {W} {C} {A} {O} body_of step noted old_serves new_serves old new Old New takes stays = record {
   tells = turn.Other;
   takes = takes;
   shows = λ first start looks y seen serves.
-      let P : List Look → Type 0 = λ more. Seen first start (looks ++ more) in
+      let P : List Look → Type 0 = λ more. New first start (looks ++ more) in
       subst P (sym (other_looks takes.event (look_at (body_of y.running.state.world) new) takes.kind))
-      (subst (λ l. Seen first start l) (sym (append-nil looks)) seen);
+      (subst (λ l. New first start l) (sym (append-nil looks)) (stays first start looks seen));
 }
 
 -- turns, and one more

@@ -27,7 +27,7 @@ use Rattle.serve_loop.specs.declared.turn_end.Turn.{Turn}
 use Rattle.serve_loop.specs.Leads.{Leads, Breaks}
 use Rattle.serve_loop.specs.Serving.{ServesAll}
 use Rattle.serve_loop.specs.TurnTaken.{StandsOver, ComesBy, IsTurnOf, turn_of_event, TakesEvent, Stays}
-use Rattle.serve_loop.specs.TurnTaken.{BreaksTurn, AfterTurn, AreTurnsOf, TakesTurns, EndsBefore}
+use Rattle.serve_loop.specs.TurnTaken.{BreaksTurn, AfterTurn, AreTurnsOf, TakesTurns}
 use Rattle.serve_loop.proofs.LeadLemmas.{leads_nowhere, leads_then, breaks_nowhere, breaks_then, AreOffers-append, standing-running}
 use Rattle.serve_loop.proofs.OfferLemmas.{running-append}
 use Rattle.serve_loop.proofs.WantLemmas.{rose_later}
@@ -227,49 +227,6 @@ stops_later old mid new same later stops = record {
   same = stops.same;
   stopped = (let P : ℕ → Type 0 = λ n. Rose n new.history.stops in subst P same stops.stopped);
   faulted = rose_later old.faults mid.faults new.faults later stops.faulted;
-}
-
--- one more turn of the loop
-pub one_more : {W C : Type 0} (step : EventStep W C) (noted : Noting W C)
-    (old_serves mid_serves new_serves : Standing W C → Type 0) (old mid new : WireHistory) (count : ℕ) (tells : Turn)
-    → TakesTurns step noted old_serves mid_serves old mid count → TakesEvent step noted mid_serves new_serves mid new tells
-    → TakesTurns step noted old_serves new_serves old new (count + 1)
-one_more step noted old_serves mid_serves new_serves old mid new count tells turns takes =
-    leads_then step noted (StandsOver old_serves old.opened) (StandsOver mid_serves mid.opened) (StandsOver new_serves new.opened) old mid new count 1
-    (AreTurnsOf step) (IsTurnOf step takes.event) (AreTurnsOf step) (turns_then step takes.event) turns takes.leads
-
--- the loop begins
-pub no_turn : {W C : Type 0} (step : EventStep W C) (noted : Noting W C) (serves : Standing W C → Type 0) (h : WireHistory)
-    → TakesTurns step noted serves serves h h 0
-no_turn step noted serves h =
-    leads_nowhere step noted (StandsOver serves h.opened) (StandsOver serves h.opened) h h
-    (AreTurnsOf step) refl (λ x over. over) (λ x over. turns_none step x.running)
-
--- what is served stays, and then this came of the wire
-pub ends_before : {W C : Type 0} (step : EventStep W C) (noted : Noting W C)
-    (old_serves mid_serves new_serves : Standing W C → Type 0) (old mid : WireHistory) (count limit : ℕ) (Then : WireHistory → Type 0)
-    → TakesTurns step noted old_serves mid_serves old mid count → count < limit
-    → Stays mid_serves new_serves → Then mid → EndsBefore step noted old_serves new_serves old limit Then
-ends_before step noted old_serves mid_serves new_serves old mid count limit Then turns fewer stays then_ = record {
-  last = mid;
-  count = count;
-  fewer = fewer;
-  turns = leads_to step noted (StandsOver old_serves old.opened) (StandsOver mid_serves mid.opened)
-      (StandsOver new_serves mid.opened) old mid count (AreTurnsOf step)
-      (stands_over mid_serves new_serves mid.opened stays) turns;
-  then_ = then_;
-}
-
--- memory was wanting behind some turns
-pub breaks_turns : {W C : Type 0} (step : EventStep W C) (noted : Noting W C)
-    (old_serves mid_serves : Standing W C → Type 0) (old mid new : WireHistory) (count limit : ℕ)
-    → TakesTurns step noted old_serves mid_serves old mid count → count < limit
-    → BreaksTurn step noted mid_serves mid new 1 → BreaksTurn step noted old_serves old new limit
-breaks_turns step noted old_serves mid_serves old mid new count limit turns fewer breaks = record {
-  count = count + breaks.count;
-  within = omega (arith, breaks.within);
-  breaks = breaks_then step noted (StandsOver old_serves old.opened) (StandsOver mid_serves mid.opened)
-      old mid new count breaks.count (AreTurnsOf step) (λ x ms are. are.offers) turns breaks.breaks;
 }
 
 -- turns raise no count of stops

@@ -5,7 +5,7 @@ ghost use Rattle.ads_served.specs.Standing.{Standing};
 ghost use Rattle.serve_loop.specs.Looks.{Look, look_at};
 ghost use Rattle.serve_loop.specs.TurnTaken.{StandsForSome};
 
-use ads_outside::Wire;
+use ads_outside::{Event, Wire};
 use ads_served::Served;
 use std::alloc::Global;
 
@@ -31,6 +31,22 @@ pub trait Beside<M: Served, O> {
 
     /// It asks that what is served stands for something.
     ghost asks: { Type 0 };
+
+    /// An event is given, and is not taken yet.
+    fn comes(&mut self, _alloc: Global, _served: &M, _event: &Event)
+        ensures seen { (first : Self) (start outside : O) (looks : List Look)
+            → seen first start self.old outside looks → seen first start self.new outside looks }
+        ensures ready { (n : ℕ) (outside : O) → ready n self.old outside → ready n self.new outside }
+    {
+    }
+
+    /// An event was taken, and came to this; nothing is offered yet.
+    fn came(&mut self, _alloc: Global, _served: &M, _event: &Event, _came: &M::Came)
+        ensures seen { (first : Self) (start outside : O) (looks : List Look)
+            → seen first start self.old outside looks → seen first start self.new outside looks }
+        ensures ready { (n : ℕ) (outside : O) → ready n self.old outside → ready n self.new outside }
+    {
+    }
 
     /// A turn with a tick is over.
     fn ticked<W: Wire>(&mut self, alloc: Global, served: &M, wire: &W, outside: &mut O) -> Go

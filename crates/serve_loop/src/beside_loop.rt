@@ -8,8 +8,9 @@ ghost use Rattle.serve_loop.specs.Looks.{Look};
 ghost use Rattle.serve_loop.specs.TurnTaken.{StandsForSome, StandsOver};
 ghost use Rattle.serve_loop.specs.Wanting.{WasWanting};
 
+use crate::turn_end::Turn;
 use crate::turning::turn_with;
-use crate::{Beside, Go, LoopEnd, Turn};
+use crate::{Beside, Go, LoopEnd};
 use ads_outside::{End, Wire};
 use ads_served::Served;
 use std::alloc::Global;
@@ -84,7 +85,7 @@ fn turn_beside<T: Threads + Sync, W: Wire, M: Served, O, A: Beside<M, O>>(
     ensures wanted { (W.state wire.old).wants ≤ (W.state wire.new).wants }
     ensures memory { result ≡ Turned.Memory → WasWanting (M.has_failed served.new) (W.state wire.old) (W.state wire.new) }
 {
-    match turn_with(rt, alloc, served, wire, numbers) {
+    match turn_with::<T, W, M, O, A>(rt, alloc, served, wire, beside, numbers) {
         Turn::Tick => match beside.ticked(alloc, served, wire, outside) {
             Go::On => Turned::On,
             Go::Stop => Turned::Stopped,
