@@ -10,6 +10,7 @@ use Rattle.spec_machine.specs.Connection.{Connection, connection_of}
 use Rattle.spec_machine.specs.MachineState.{MachineState, Exchange, exchange_of, after_exchange}
 use Rattle.spec_machine.specs.Moves.{EventStep, with_gone, with_took, state_after_move, state_after}
 use Rattle.spec_machine.specs.Running.{Running}
+use Rattle.spec_machine.specs.Turns.{LogTurn, moves_of_turn}
 use Rattle.serve_loop.specs.Leads.{events_in}
 use Rattle.serve_loop.specs.TurnTaken.{IsTurnOf}
 use Rattle.keep_loop.specs.Bodies.{BodyOf, bodies_at_event, bodies_at_move, bodies_at_ticks, bodies_of_run}
@@ -73,6 +74,11 @@ unfolding bodies_at_ticks state_after state_after_move
 one_event body_of step e ms s none =
     ap (λ l. bodies_at_event e (body_of (step s e).world) ++ l) (no_bodies body_of step ms (step s e) none)
     ∙ (append-nil (bodies_at_event e (body_of (step s e).world)) ∙ ap (λ w. bodies_at_event e (body_of w)) (sym (same_world step ms (step s e) none)))
+
+-- the same of a turn with one event
+pub turn_shown : {W C : Type 0} (body_of : BodyOf W) (step : EventStep W C) (t : LogTurn) (s : MachineState W C) → events_in (moves_of_turn t) ≡ 1
+    → bodies_at_ticks body_of step s (moves_of_turn t) ≡ bodies_at_event t.event (body_of (state_after step s (moves_of_turn t)).world)
+turn_shown body_of step t s one = one_event body_of step t.event (flat_map (λ moves. moves) t.served) s (omega (arith, one))
 
 -- the bodies of a turn: what its event is looked at for, at the end of the turn
 pub turn_bodies : {W C : Type 0} (body_of : BodyOf W) (step : EventStep W C) (e : Event) (x : Running W C) (ms : List Move)

@@ -13,3 +13,4 @@ mod BegunLemmas
 mod LookLemmas
 mod OnLemmas
 mod OnMarkLemmas
+pub mod ShownLemmas

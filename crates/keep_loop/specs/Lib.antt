@@ -6,3 +6,4 @@ pub mod Wanting
 pub mod KeepingOn
 pub mod Marking
 pub mod Looking
+pub mod Shown

@@ -12,14 +12,15 @@ ghost use Rattle.keep_loop.specs.Saving.{StandsForSome};
 
 use crate::reopened::Reopened;
 use crate::saving::save_body;
-use crate::{Persistent, SaveEnd, SaveNotes};
+use crate::{SaveEnd, SaveNotes};
 use ads_base::NoMemory;
+use ads_served::Served;
 use persist_store::{Disk, Store, StoreOpen};
 use std::alloc::Global;
 
 /// Opens the store again where an earlier save shut it, saves the body of what is served where it differs from the store's
 /// or nothing stands, and tells what became of it.
-pub(crate) fn look<M: Persistent, D: Disk, N: SaveNotes>(
+pub(crate) fn look<M: Served, D: Disk, N: SaveNotes>(
     alloc: Global,
     served: &M,
     store: &mut Store,
@@ -44,7 +45,7 @@ pub(crate) fn look<M: Persistent, D: Disk, N: SaveNotes>(
 }
 
 // The same, untold.
-fn look_again<M: Persistent, D: Disk>(
+fn look_again<M: Served, D: Disk>(
     alloc: Global,
     served: &M,
     store: &mut Store,

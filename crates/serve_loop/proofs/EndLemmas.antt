@@ -25,8 +25,8 @@ use Rattle.serve_loop.proofs.LeadLemmas.{events-append, history-append}
 use Rattle.serve_loop.proofs.TurnLemmas.{stops-after, ends-after}
 
 -- what a loop leads to beside which nobody stands
-pub served_alone : {W C : Type 0} (body_of : W → List ℕ) (step : EventStep W C) (noted : Noting W C) (old_serves new_serves : Standing W C → Type 0)
-    (old new : WireState) (limit : ℕ) (Seen : List Look → Type 0) (r : End)
+pub served_alone : {W C K : Type 0} (body_of : W → List ℕ) (step : EventStep W C) (noted : Noting W C) (old_serves new_serves : Standing W C → Type 0)
+    (old new : WireState) (limit : ℕ) (Seen : K → List Look → Type 0) (r : End)
     → AfterLoop (loop.Ended r) body_of step noted old_serves new_serves old new limit Seen
     → AfterServe r step noted old_serves new_serves old new limit
 served_alone body_of step noted old_serves new_serves old new limit Seen end.Done after =

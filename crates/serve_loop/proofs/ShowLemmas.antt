@@ -16,9 +16,9 @@ use Rattle.spec_machine.proofs.Changes.{state_after-append}
 use Rattle.ads_served.specs.Standing.{Standing, Noting, running_after_all, standing_after_all}
 use Rattle.serve_loop.specs.declared.turn_end.Turn.{Turn}
 use Rattle.serve_loop.specs.declared.turn_end.Turn.TheVariants as turn
-use Rattle.serve_loop.specs.Beside.{ShownOf, ShowsTurn, ShowsTurns, ShowsBefore, ShowsBroken, StaysSeen}
+use Rattle.serve_loop.specs.Beside.{ShownOf, ShowsEvent, ShowsTurn, ShowsTurns, ShowsBefore, ShowsBroken, StaysSeen, StopsTurn, ShowsStopped}
 use Rattle.serve_loop.specs.Leads.{serves_any, events_in}
-use Rattle.serve_loop.specs.Looks.{Look, look_at, looks_at_event, looks_of_turns}
+use Rattle.serve_loop.specs.Looks.{Look, look_at, looks_at_event, looks_of_turns, SeesMore}
 use Rattle.serve_loop.specs.TurnTaken.{StandsOver, StandsForSome, IsTurnOf, TakesEvent, TakesTurns, AreTurnsOf, Stays, BreaksTurn, turn_of_event}
 use Rattle.serve_loop.proofs.LeadLemmas.{events-append, history-append, standing-append, standing-running, AreOffers-append}
 use Rattle.serve_loop.proofs.TurnLemmas.{stands_over, turns_none, turns_then}
@@ -99,12 +99,13 @@ shown_more {W} {C} body_of step x h ms ns e Old New first second one goes =
     }
 
 -- no turn was taken, and nothing is shown
-pub shows_none : {W C : Type 0} (body_of : W → List ℕ) (step : EventStep W C) (noted : Noting W C) (serves : Standing W C → Type 0) (h : WireHistory)
-    (Seen : List Look → Type 0) → Seen [] → ShowsTurns body_of step noted serves serves h h 0 Seen
+pub shows_none : {W C K : Type 0} (body_of : W → List ℕ) (step : EventStep W C) (noted : Noting W C) (serves : Standing W C → Type 0) (h : WireHistory)
+    (Seen : K → List Look → Type 0) → (kept : K) × Seen kept [] → ShowsTurns body_of step noted serves serves h h 0 Seen
 unfolding looks_of_turns standing_after_all history_after
 shows_none body_of step noted serves h Seen begins = record {
   turns = record { moves = []; logged = refl; events = refl; stands = λ x over. over; are = λ x over. turns_none step x.running };
-  shown = λ x over. record { turns = []; are = refl; one = All-nil (λ t. events_in (moves_of_turn t) ≡ 1); seen = begins };
+  kept = begins.0;
+  shown = λ x over. record { turns = []; are = refl; one = All-nil (λ t. events_in (moves_of_turn t) ≡ 1); seen = begins.1 };
 }
 
 -- turns, and one more
@@ -131,20 +132,20 @@ joined {W} {C} step noted old_serves mid_serves new_serves old mid new count tel
     )
 
 -- one turn more, of whatever kind
-pub shows_more : {W C : Type 0} (body_of : W → List ℕ) (step : EventStep W C) (noted : Noting W C)
+pub shows_more : {W C K : Type 0} (body_of : W → List ℕ) (step : EventStep W C) (noted : Noting W C)
     (old_serves mid_serves new_serves : Standing W C → Type 0) (old mid new : WireHistory) (count : ℕ) (tells : Turn)
-    (Old New : List Look → Type 0) → ShowsTurns body_of step noted old_serves mid_serves old mid count Old
+    (Old New : K → List Look → Type 0) → (shows : ShowsTurns body_of step noted old_serves mid_serves old mid count Old)
     → (takes : TakesEvent step noted mid_serves new_serves mid new tells)
-    → ((looks : List Look) (y : Standing W C) → Old looks → new_serves y
-    → New (looks ++ looks_at_event takes.event (look_at (body_of y.running.state.world) new)))
+    → ShowsEvent body_of new_serves new takes.event (Old shows.kept) New
     → ShowsTurns body_of step noted old_serves new_serves old new (count + 1) New
-shows_more {W} {C} body_of step noted old_serves mid_serves new_serves old mid new count tells Old New shows takes goes =
+shows_more {W} {C} {K} body_of step noted old_serves mid_serves new_serves old mid new count tells Old New shows takes goes =
     let it = joined step noted old_serves mid_serves new_serves old mid new count tells shows.turns takes in
     let ms = shows.turns.moves in
     let ns = takes.leads.moves in
-    let Of : List Move → Standing W C → Type 0 = λ moves x. ShownOf body_of step x.running old moves New in
+    let Of : List Move → Standing W C → Type 0 = λ moves x. ShownOf body_of step x.running old moves (New goes.more) in
     record {
       turns = it.0;
+      kept = goes.more;
       shown = λ x over.
           let y = standing_after_all step noted x (ms ++ ns) in
           let z = standing_after_all step noted x ms in
@@ -157,16 +158,16 @@ shows_more {W} {C} body_of step noted old_serves mid_serves new_serves old mid n
           ap (λ r. L r new) (standing-running step noted x (ms ++ ns))
           ∙ ap (λ h. L (running_after_all step x.running (ms ++ ns)) h) logged in
           let serves : new_serves y = subst (λ moves. new_serves (standing_after_all step noted x moves)) it.1 (it.0.stands x over).stands in
-          subst (λ moves. Of moves x) (sym it.1) (shown_more body_of step x.running old ms ns takes.event Old New (shows.shown x over) turn_is
+          subst (λ moves. Of moves x) (sym it.1) (shown_more body_of step x.running old ms ns takes.event (Old shows.kept) (New goes.more) (shows.shown x over) turn_is
           takes.leads.events
-          (λ looks seen. let P : Look → Type 0 = λ look. New (looks ++ looks_at_event takes.event look) in
-          subst P same (goes looks y seen serves)));
+          (λ looks seen. let P : Look → Type 0 = λ look. New goes.more (looks ++ looks_at_event takes.event look) in
+          subst P same (goes.sees looks y seen serves)));
     }
 
 -- what is served stays, and then this came of the wire
-pub shows_before : {W C : Type 0} (body_of : W → List ℕ) (step : EventStep W C) (noted : Noting W C)
+pub shows_before : {W C K : Type 0} (body_of : W → List ℕ) (step : EventStep W C) (noted : Noting W C)
     (old_serves mid_serves new_serves : Standing W C → Type 0) (old mid : WireHistory) (count limit : ℕ) (Then : WireHistory → Type 0)
-    (Seen : List Look → Type 0) → ShowsTurns body_of step noted old_serves mid_serves old mid count Seen → count < limit
+    (Seen : K → List Look → Type 0) → ShowsTurns body_of step noted old_serves mid_serves old mid count Seen → count < limit
     → Stays mid_serves new_serves → Then mid → ShowsBefore body_of step noted old_serves new_serves old limit Then Seen
 shows_before body_of step noted old_serves mid_serves new_serves old mid count limit Then Seen shows fewer stays then_ = record {
   last = mid;
@@ -180,17 +181,18 @@ shows_before body_of step noted old_serves mid_serves new_serves old mid count l
       stands = λ x over. stands_over mid_serves new_serves mid.opened stays _ (shows.turns.stands x over);
       are = shows.turns.are;
     };
+    kept = shows.kept;
     shown = shows.shown;
   };
   then_ = then_;
 }
 
 -- memory was wanting behind some turns
-pub shows_broken : {W C : Type 0} (body_of : W → List ℕ) (step : EventStep W C) (noted : Noting W C)
-    (old_serves mid_serves : Standing W C → Type 0) (old mid new : WireHistory) (count limit : ℕ) (Seen : List Look → Type 0)
+pub shows_broken : {W C K : Type 0} (body_of : W → List ℕ) (step : EventStep W C) (noted : Noting W C)
+    (old_serves mid_serves : Standing W C → Type 0) (old mid new : WireHistory) (count limit : ℕ) (Seen : K → List Look → Type 0)
     → ShowsTurns body_of step noted old_serves mid_serves old mid count Seen → count < limit
     → BreaksTurn step noted mid_serves mid new 1 → ShowsBroken body_of step noted old_serves old new limit Seen
-shows_broken {W} {C} body_of step noted old_serves mid_serves old mid new count limit Seen shows fewer broken = record {
+shows_broken {W} {C} {K} body_of step noted old_serves mid_serves old mid new count limit Seen shows fewer broken = record {
   last = mid;
   count = count;
   shows = record {
@@ -201,10 +203,12 @@ shows_broken {W} {C} body_of step noted old_serves mid_serves old mid new count 
       stands = λ x over. record { stands = tt; numbers = (shows.turns.stands x over).numbers };
       are = shows.turns.are;
     };
+    kept = shows.kept;
     shown = shows.shown;
   };
   later = broken.breaks.moves;
   logged = broken.breaks.logged;
+  few = (let same : events_in broken.breaks.moves ≡ broken.count = broken.breaks.events in omega (arith, broken.within, same));
   most = (let same : events_in broken.breaks.moves ≡ broken.count = broken.breaks.events in omega (arith, fewer, broken.within, same));
   offers = λ x over.
       let P : Running W C → Type 0 = λ r. AreOffers step r.state broken.breaks.moves in
@@ -214,53 +218,82 @@ shows_broken {W} {C} body_of step noted old_serves mid_serves old mid new count 
 }
 
 -- a turn with a tick, and any other
-pub turn_ticked : {W C A O : Type 0} (body_of : W → List ℕ) (step : EventStep W C) (noted : Noting W C)
-    (old_serves new_serves : Standing W C → Type 0) (old new : WireHistory) (Old New : A → O → List Look → Type 0)
-    → TakesEvent step noted old_serves new_serves old new turn.Tick
-    → ((first : A) (start : O) (looks : List Look) (y : Standing W C) → Old first start looks → new_serves y
-    → New first start (looks ++ look_at (body_of y.running.state.world) new ∷ []))
+pub turn_ticked : {W C A O K : Type 0} (body_of : W → List ℕ) (step : EventStep W C) (noted : Noting W C)
+    (old_serves new_serves : Standing W C → Type 0) (old new : WireHistory) (Old Mid New : A → O → K → List Look → Type 0)
+    → TakesEvent step noted old_serves new_serves old new turn.Tick → StaysSeen Old Mid
+    → ((first : A) (start : O) (kept : K) → SeesMore body_of new_serves new (Mid first start kept) (New first start))
     → ShowsTurn body_of step noted old_serves new_serves old new Old New
-turn_ticked {W} {C} {A} {O} body_of step noted old_serves new_serves old new Old New takes goes = record {
+turn_ticked {W} {C} {A} {O} {K} body_of step noted old_serves new_serves old new Old Mid New takes stays goes = record {
   tells = turn.Tick;
   takes = takes;
-  shows = λ first start looks y seen serves.
-      let P : List Look → Type 0 = λ more. New first start (looks ++ more) in
-      subst P (sym (tick_looks takes.event (look_at (body_of y.running.state.world) new) takes.kind)) (goes first start looks y seen serves);
+  shows = λ first start kept.
+      let one = goes first start kept in
+      record {
+        more = one.more;
+        sees = λ looks y seen serves.
+            let P : List Look → Type 0 = λ more. New first start one.more (looks ++ more) in
+            subst P (sym (tick_looks takes.event (look_at (body_of y.running.state.world) new) takes.kind))
+            (one.sees looks y (stays first start kept looks seen) serves);
+      };
 }
 
-pub turn_other : {W C A O : Type 0} (body_of : W → List ℕ) (step : EventStep W C) (noted : Noting W C)
-    (old_serves new_serves : Standing W C → Type 0) (old new : WireHistory) (Old New : A → O → List Look → Type 0)
+pub turn_other : {W C A O K : Type 0} (body_of : W → List ℕ) (step : EventStep W C) (noted : Noting W C)
+    (old_serves new_serves : Standing W C → Type 0) (old new : WireHistory) (Old New : A → O → K → List Look → Type 0)
     → TakesEvent step noted old_serves new_serves old new turn.Other → StaysSeen Old New
     → ShowsTurn body_of step noted old_serves new_serves old new Old New
-turn_other {W} {C} {A} {O} body_of step noted old_serves new_serves old new Old New takes stays = record {
+turn_other {W} {C} {A} {O} {K} body_of step noted old_serves new_serves old new Old New takes stays = record {
   tells = turn.Other;
   takes = takes;
-  shows = λ first start looks y seen serves.
-      let P : List Look → Type 0 = λ more. New first start (looks ++ more) in
-      subst P (sym (other_looks takes.event (look_at (body_of y.running.state.world) new) takes.kind))
-      (subst (λ l. New first start l) (sym (append-nil looks)) (stays first start looks seen));
+  shows = λ first start kept. record {
+    more = kept;
+    sees = λ looks y seen serves.
+        let P : List Look → Type 0 = λ more. New first start kept (looks ++ more) in
+        subst P (sym (other_looks takes.event (look_at (body_of y.running.state.world) new) takes.kind))
+        (subst (λ l. New first start kept l) (sym (append-nil looks)) (stays first start kept looks seen));
+  };
 }
 
 -- turns, and one more
-pub shows_turn : {W C A O : Type 0} (body_of : W → List ℕ) (step : EventStep W C) (noted : Noting W C)
+pub shows_turn : {W C A O K : Type 0} (body_of : W → List ℕ) (step : EventStep W C) (noted : Noting W C)
     (old_serves mid_serves new_serves : Standing W C → Type 0) (old mid new : WireHistory) (count : ℕ)
-    (Old New : A → O → List Look → Type 0) (first : A) (start : O)
+    (Old New : A → O → K → List Look → Type 0) (first : A) (start : O)
     → ShowsTurns body_of step noted old_serves mid_serves old mid count (Old first start)
     → ShowsTurn body_of step noted mid_serves new_serves mid new Old New
     → ShowsTurns body_of step noted old_serves new_serves old new (count + 1) (New first start)
 shows_turn body_of step noted old_serves mid_serves new_serves old mid new count Old New first start shows one =
     shows_more body_of step noted old_serves mid_serves new_serves old mid new count one.tells (Old first start) (New first start) shows one.takes
-    (λ looks y seen serves. one.shows first start looks y seen serves)
+    (one.shows first start shows.kept)
 
 -- what was seen may be told otherwise
-pub shows_seen : {W C : Type 0} (body_of : W → List ℕ) (step : EventStep W C) (noted : Noting W C) (old_serves new_serves : Standing W C → Type 0)
-    (old new : WireHistory) (count : ℕ) (Old New : List Look → Type 0) → ((looks : List Look) → Old looks → New looks)
+pub shows_seen : {W C K : Type 0} (body_of : W → List ℕ) (step : EventStep W C) (noted : Noting W C) (old_serves new_serves : Standing W C → Type 0)
+    (old new : WireHistory) (count : ℕ) (Old New : K → List Look → Type 0) → ((kept : K) (looks : List Look) → Old kept looks → New kept looks)
     → ShowsTurns body_of step noted old_serves new_serves old new count Old → ShowsTurns body_of step noted old_serves new_serves old new count New
 shows_seen body_of step noted old_serves new_serves old new count Old New so shows = record {
   turns = shows.turns;
+  kept = shows.kept;
   shown = λ x over.
       let all = shows.shown x over in
-      record { turns = all.turns; are = all.are; one = all.one; seen = so _ all.seen };
+      record { turns = all.turns; are = all.are; one = all.one; seen = so shows.kept _ all.seen };
+}
+
+-- what stood beside the loop ended it behind some turns and one more
+pub shows_stopped : {W C A O K M : Type 0} (body_of : W → List ℕ) (step : EventStep W C) (noted : Noting W C) (serves : M → Standing W C → Type 0)
+    (old_serves new_serves : Standing W C → Type 0) (old mid new : WireHistory) (count limit : ℕ) (served : M) (there : O)
+    (Old : A → O → K → List Look → Type 0) (Mid : A → O → A → O → K → List Look → Type 0) (Stops : A → O → Type 0) (first : A) (start : O)
+    → ShowsTurns body_of step noted old_serves (serves served) old mid count (Old first start) → count < limit
+    → StopsTurn step noted (serves served) new_serves mid new Old (λ (b : A) (a : A) (o : O). Mid a o b there) (λ (b : A). Stops b there)
+    → ShowsStopped body_of step noted serves old_serves new_serves old new limit (λ (b : A) (o : O). Mid first start b o) Stops
+shows_stopped body_of step noted serves old_serves new_serves old mid new count limit served there Old Mid Stops first start shows fewer stops = record {
+  served = served;
+  beside = stops.beside;
+  outside = there;
+  last = mid;
+  count = count;
+  fewer = fewer;
+  shows = shows_seen body_of step noted old_serves (serves served) old mid count (Old first start) (Mid first start stops.beside there)
+      (λ kept looks seen. stops.stays first start kept looks seen) shows;
+  takes = stops.takes;
+  stops = stops.stops;
 }
 
 -- where so many may be shown, fewer may
@@ -269,8 +302,8 @@ fewer_many {P} one zero m p = subst P (omega arith) p
 fewer_many {P} one (suc k) m p = fewer_many {P = P} one k m (one (k + m) (subst P (omega arith) p))
 
 -- it stands for something after some turns, and after one more
-pub some_after : {W C : Type 0} (body_of : W → List ℕ) (step : EventStep W C) (noted : Noting W C) (old_serves new_serves : Standing W C → Type 0)
-    (old new : WireHistory) (count : ℕ) (Seen : List Look → Type 0) → ShowsTurns body_of step noted old_serves new_serves old new count Seen
+pub some_after : {W C K : Type 0} (body_of : W → List ℕ) (step : EventStep W C) (noted : Noting W C) (old_serves new_serves : Standing W C → Type 0)
+    (old new : WireHistory) (count : ℕ) (Seen : K → List Look → Type 0) → ShowsTurns body_of step noted old_serves new_serves old new count Seen
     → StandsForSome (StandsOver old_serves old.opened) → StandsForSome (StandsOver new_serves new.opened)
 some_after body_of step noted old_serves new_serves old new count Seen shows some =
     record { standing = standing_after_all step noted some.standing shows.turns.moves; stands = shows.turns.stands some.standing some.stands }
@@ -280,3 +313,9 @@ pub some_at_turn : {W C : Type 0} (step : EventStep W C) (noted : Noting W C) (o
     → StandsForSome (StandsOver old_serves old.opened) → StandsForSome new_serves
 some_at_turn step noted old_serves new_serves old new tells takes some =
     record { standing = standing_after_all step noted some.standing takes.leads.moves; stands = (takes.leads.stands some.standing some.stands).stands }
+
+-- a turn is over: where so many might be shown before it, none may now
+pub ready_none : (Old New : ℕ → Type 0) → ((n : ℕ) → New (n + 1) → New n) → (n : ℕ) → 0 < n → Old n → ((m : ℕ) → Old (m + 1) → New m) → New 0
+ready_none Old New fewer zero some ready goes = absurd (omega (arith, some))
+ready_none Old New fewer (suc n) some ready goes =
+    fewer_many {P = New} fewer n 0 (subst New (omega arith) (goes n (subst Old (omega arith) ready)))

@@ -1,8 +1,7 @@
 //! What stands beside a loop: it is shown what is served, and changes nothing of it.
 
-ghost use Rattle.std.specs.Prelude.{◌≡◌, ℕ, ◌+◌, List, [], ◌∷◌, ◌++◌};
-ghost use Rattle.ads_served.specs.Standing.{Standing};
-ghost use Rattle.serve_loop.specs.Looks.{Look, look_at};
+ghost use Rattle.std.specs.Prelude.{◌≡◌, ℕ, ◌+◌, List, []};
+ghost use Rattle.serve_loop.specs.Looks.{Look, IsBodyOf, SeesMore};
 ghost use Rattle.serve_loop.specs.TurnTaken.{StandsForSome};
 
 use ads_outside::{Event, Wire};
@@ -20,46 +19,47 @@ pub enum Go {
 
 /// What stands beside a loop that serves M, over an outside of its own.
 pub trait Beside<M: Served, O> {
-    /// From a beginning on, over an outside, it was shown these.
-    ghost seen: { Self → O → Self → O → List Look → Type 0 };
+    /// What is kept of what was shown, whatever is served.
+    ghost Kept: { Type 0 };
+
+    /// From a beginning on, over an outside, it was shown these, of which it kept this.
+    ghost seen: { Self → O → Self → O → Kept → List Look → Type 0 };
 
     /// So many more may be shown.
     ghost ready: { ℕ → Self → O → Type 0 };
 
-    /// It ended the loop.
-    ghost stopped: { Self → Type 0 };
+    /// It was shown a body that is one of these, and ended the loop.
+    ghost stopped: { Self → O → Self → O → (List ℕ → Type 0) → Type 0 };
 
     /// It asks that what is served stands for something.
     ghost asks: { Type 0 };
 
     /// An event is given, and is not taken yet.
     fn comes(&mut self, _alloc: Global, _served: &M, _event: &Event)
-        ensures seen { (first : Self) (start outside : O) (looks : List Look)
-            → seen first start self.old outside looks → seen first start self.new outside looks }
+        ensures seen { (first : Self) (start outside : O) (kept : Kept) (looks : List Look)
+            → seen first start self.old outside kept looks → seen first start self.new outside kept looks }
         ensures ready { (n : ℕ) (outside : O) → ready n self.old outside → ready n self.new outside }
-    {
-    }
+    {}
 
     /// An event was taken, and came to this; nothing is offered yet.
     fn came(&mut self, _alloc: Global, _served: &M, _event: &Event, _came: &M::Came)
-        ensures seen { (first : Self) (start outside : O) (looks : List Look)
-            → seen first start self.old outside looks → seen first start self.new outside looks }
+        ensures seen { (first : Self) (start outside : O) (kept : Kept) (looks : List Look)
+            → seen first start self.old outside kept looks → seen first start self.new outside kept looks }
         ensures ready { (n : ℕ) (outside : O) → ready n self.old outside → ready n self.new outside }
-    {
-    }
+    {}
 
     /// A turn with a tick is over.
     fn ticked<W: Wire>(&mut self, alloc: Global, served: &M, wire: &W, outside: &mut O) -> Go
         requires some { asks → StandsForSome (M.serves served.now) }
         requires ready { ready 1 self.old outside.old }
-        ensures seen { (first : Self) (start : O) (looks : List Look) (x : Standing M.World M.Client)
-            → seen first start self.old outside.old looks → M.serves served.now x
-            → seen first start self.new outside.new (looks ++ look_at (M.body_of x.running.state.world) (W.state wire.now).history ∷ []) }
+        ensures seen { result ≡ Go.On → (first : Self) (start : O) (kept : Kept) → SeesMore M.body_of (M.serves served.now)
+            (W.state wire.now).history (seen first start self.old outside.old kept) (seen first start self.new outside.new) }
         ensures ready { result ≡ Go.On → (n : ℕ) → ready (n + 1) self.old outside.old → ready n self.new outside.new }
-        ensures stopped { result ≡ Go.Stop → stopped self.new };
+        ensures stopped { result ≡ Go.Stop
+            → stopped self.old outside.old self.new outside.new (IsBodyOf M.body_of (M.serves served.now)) };
 
     /// It begins with nothing shown.
-    ghost begins: { (a : Self) (n : ℕ) (o : O) → ready n a o → seen a o a o [] };
+    ghost begins: { (a : Self) (n : ℕ) (o : O) → ready n a o → (kept : Kept) × seen a o a o kept [] };
 
     /// Where so many may be shown, one less may.
     ghost fewer: { (a : Self) (n : ℕ) (o : O) → ready (n + 1) a o → ready n a o };

@@ -1,10 +1,10 @@
 //! The loop beside which something stands.
 
-ghost use Rattle.std.specs.Prelude.{◌≡◌, ◌≤◌, ◌+◌, ℕ, List};
+ghost use Rattle.std.specs.Prelude.{◌≡◌, ◌≢◌, ◌≤◌, ◌+◌, ℕ, List};
 ghost use Rattle.ads_outside.specs.declared.end.End.TheVariants as end;
 ghost use Rattle.ads_outside.specs.WireState.{WireHistory};
-ghost use Rattle.serve_loop.specs.Beside.{AfterLoop, AfterTurnBeside};
-ghost use Rattle.serve_loop.specs.Looks.{Look};
+ghost use Rattle.serve_loop.specs.Beside.{AfterLoop, AfterTurnBeside, ShowsStopped, StopsTurn};
+ghost use Rattle.serve_loop.specs.Looks.{Look, IsBodyOf};
 ghost use Rattle.serve_loop.specs.TurnTaken.{StandsForSome, StandsOver};
 ghost use Rattle.serve_loop.specs.Wanting.{WasWanting};
 
@@ -44,12 +44,15 @@ pub fn serve_beside<T: Threads + Sync, W: Wire, M: Served, O, A: Beside<M, O>>(
     requires some { A.asks → StandsForSome (StandsOver (M.serves served.old) (W.state wire.old).history.opened) }
     requires ready { A.ready limit beside.old outside.old }
     ensures serve { AfterLoop result M.body_of M.steps M.noted (M.serves served.old) (M.serves served.new) (W.state wire.old) (W.state wire.new)
-        limit (λ looks. A.seen beside.old outside.old beside.new outside.new looks) }
+        limit (A.seen beside.old outside.old beside.new outside.new) }
+    ensures stopped { result ≡ LoopEnd.Stopped → ShowsStopped M.body_of M.steps M.noted M.serves (M.serves served.old) (M.serves served.new)
+        (W.state wire.old).history (W.state wire.new).history limit (λ (mid : A) (there : O). A.seen beside.old outside.old mid there)
+        (λ (mid : A) (there : O). A.stopped mid there beside.new outside.new (IsBodyOf M.body_of (M.serves served.new))) }
+    ensures ready { result ≢ LoopEnd.Stopped → A.ready 0 beside.new outside.new }
     ensures kept { W.kept wire.new ≡ W.kept wire.old }
     ensures later { (W.state wire.old).faults ≤ (W.state wire.new).faults }
     ensures wanted { (W.state wire.old).wants ≤ (W.state wire.new).wants }
     ensures memory { result ≡ LoopEnd.Ended end.Memory → WasWanting (M.has_failed served.new) (W.state wire.old) (W.state wire.new) }
-    ensures stopped { result ≡ LoopEnd.Stopped → A.stopped beside.new }
 {
     let mut numbers = Vec::new(alloc);
     for _taken in 0..limit {
@@ -78,8 +81,11 @@ fn turn_beside<T: Threads + Sync, W: Wire, M: Served, O, A: Beside<M, O>>(
     requires ready { A.ready 1 beside.old outside.old }
     ensures turn { AfterTurnBeside result M.body_of M.steps M.noted (M.serves served.old) (M.serves served.new) (W.state wire.old) (W.state wire.new)
         (λ (first : A) (start : O). A.seen first start beside.old outside.old) (λ (first : A) (start : O). A.seen first start beside.new outside.new) }
-    ensures ready { result ≡ Turned.On → (n : ℕ) → A.ready (n + 1) beside.old outside.old → A.ready n beside.new outside.new }
-    ensures stopped { result ≡ Turned.Stopped → A.stopped beside.new }
+    ensures stopped { result ≡ Turned.Stopped → StopsTurn M.steps M.noted (M.serves served.old) (M.serves served.new)
+        (W.state wire.old).history (W.state wire.new).history (λ (first : A) (start : O). A.seen first start beside.old outside.old)
+        (λ (mid : A) (first : A) (start : O). A.seen first start mid outside.old)
+        (λ (mid : A). A.stopped mid outside.old beside.new outside.new (IsBodyOf M.body_of (M.serves served.new))) }
+    ensures ready { result ≢ Turned.Stopped → (n : ℕ) → A.ready (n + 1) beside.old outside.old → A.ready n beside.new outside.new }
     ensures kept { W.kept wire.new ≡ W.kept wire.old }
     ensures later { (W.state wire.old).faults ≤ (W.state wire.new).faults }
     ensures wanted { (W.state wire.old).wants ≤ (W.state wire.new).wants }

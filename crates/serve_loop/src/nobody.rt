@@ -10,11 +10,13 @@ use std::alloc::Global;
 pub struct Nobody;
 
 impl<M: Served, O> Beside<M, O> for Nobody {
-    ghost seen = { λ _ _ _ _ _. Unit {0} };
+    ghost Kept = { Unit {0} };
+
+    ghost seen = { λ _ _ _ _ _ _. Unit {0} };
 
     ghost ready = { λ _ _ _. Unit {0} };
 
-    ghost stopped = { λ _. ⊥ };
+    ghost stopped = { λ _ _ _ _ _. ⊥ };
 
     ghost asks = { ⊥ };
 
@@ -22,7 +24,7 @@ impl<M: Served, O> Beside<M, O> for Nobody {
         Go::On
     }
 
-    ghost begins = { λ _ _ _ _. tt };
+    ghost begins = { λ _ _ _ _. (tt, tt) };
 
     ghost fewer = { λ _ _ _ _. tt };
 }

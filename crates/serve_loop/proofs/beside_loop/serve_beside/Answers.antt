@@ -3,7 +3,7 @@ use Rattle.std.proofs.Common.{refl, ◌∙◌, ℕ, ◌+◌, ◌-◌, ◌≡◌,
 use Rattle.std.proofs.Math.Nat.{le_refl, le_trans}
 use Rattle.serve_loop.specs.Beside.{ShowsTurns}
 use Rattle.serve_loop.proofs.TurnLemmas.{stops_kept, stops_later}
-use Rattle.serve_loop.proofs.ShowLemmas.{shows_none, shows_turn, shows_before, shows_broken, shows_seen, fewer_many, some_after}
+use Rattle.serve_loop.proofs.ShowLemmas.{shows_none, shows_turn, shows_before, shows_broken, shows_seen, shows_stopped, fewer_many, ready_none, some_after}
 use Rattle.serve_loop.proofs.WantLemmas.{wanting_later}
 use Rattle.serve_loop.proofs.beside_loop.serve_beside.Goals as goal
 
@@ -26,12 +26,10 @@ turn_beside-requires-clause-ready g c κs within =
     fewer_many {P = Ready} (λ n ready. g.met.A.Beside.fewer _ n _ ready) (c.args.limit - c.loop-taken._taken - 1) 1
     (subst Ready (omega (arith, c.loop-taken-test.true)) c.loop-taken.invariant.ready)
 
-pub returns-in-Stopped-clause-serve : goal.returns-in-Stopped-clause-serve
-returns-in-Stopped-clause-serve g c = (
-  c.loop-taken._taken + 1,
-  omega (arith, c.loop-taken-test.true),
-  shows_turn _ _ _ _ _ _ _ _ _ _ _ _ _ _ c.loop-taken.invariant.shows c.in-Stopped.ensures.turn,
-)
+pub returns-in-Stopped-clause-stopped : goal.returns-in-Stopped-clause-stopped
+returns-in-Stopped-clause-stopped g c = λ is.
+    shows_stopped _ _ _ _ _ _ _ _ _ _ _ _ _ _ g.A.Beside.seen _ _ _ c.loop-taken.invariant.shows c.loop-taken-test.true
+    (c.in-Stopped.ensures.stopped refl)
 
 pub returns-in-End-clause-serve : goal.returns-in-End-clause-serve
 returns-in-End-clause-serve g c =
@@ -60,7 +58,7 @@ returns-in-Memory-clause-memory g c = λ is.
 pub loop-taken-preserved : goal.loop-taken-preserved
 loop-taken-preserved g c = record {
   shows = shows_turn _ _ _ _ _ _ _ _ _ _ _ _ _ _ c.loop-taken.invariant.shows c.in-On.ensures.turn;
-  ready = c.in-On.ensures.ready refl (c.args.limit - (c.loop-taken._taken + 1))
+  ready = c.turn_beside.ensures.ready (λ is. cc) (c.args.limit - (c.loop-taken._taken + 1))
       (subst (λ n. g.A.Beside.ready n c.loop-taken.beside c.loop-taken.outside) (omega (arith, c.loop-taken-test.true)) c.loop-taken.invariant.ready);
   kept = c.turn_beside.ensures.kept ∙ c.loop-taken.invariant.kept;
   later = le_trans c.loop-taken.invariant.later c.turn_beside.ensures.later;
@@ -72,4 +70,28 @@ returns-clause-serve g c =
     let is : c.loop-taken._taken ≡ c.args.limit = omega (arith, c.loop-taken-test.false, c.loop-taken.auto._taken-end) in
     subst (λ n. ShowsTurns g.M.Served.body_of g.M.Served.steps g.M.Served.noted (g.M.Served.serves c.args.served.now) (g.M.Served.serves c.loop-taken.served)
     (g.W.Wire.state c.args.wire.now).history (g.W.Wire.state c.loop-taken.wire).history n
-    (λ looks. g.A.Beside.seen c.args.beside.now c.args.outside.now c.loop-taken.beside c.loop-taken.outside looks)) is c.loop-taken.invariant.shows
+    (g.A.Beside.seen c.args.beside.now c.args.outside.now c.loop-taken.beside c.loop-taken.outside)) is c.loop-taken.invariant.shows
+
+pub returns-in-End-clause-ready : goal.returns-in-End-clause-ready
+returns-in-End-clause-ready g c = λ is.
+    ready_none (λ n. g.A.Beside.ready n c.loop-taken.beside c.loop-taken.outside) (λ n. g.A.Beside.ready n c.turn_beside.new.beside c.turn_beside.new.outside)
+    (λ n ready. g.met.A.Beside.fewer _ n _ ready) (c.args.limit - c.loop-taken._taken) (omega (arith, c.loop-taken-test.true)) c.loop-taken.invariant.ready
+    (c.turn_beside.ensures.ready (λ is. cc))
+
+pub returns-in-LinkFault-clause-ready : goal.returns-in-LinkFault-clause-ready
+returns-in-LinkFault-clause-ready g c = λ is.
+    ready_none (λ n. g.A.Beside.ready n c.loop-taken.beside c.loop-taken.outside) (λ n. g.A.Beside.ready n c.turn_beside.new.beside c.turn_beside.new.outside)
+    (λ n ready. g.met.A.Beside.fewer _ n _ ready) (c.args.limit - c.loop-taken._taken) (omega (arith, c.loop-taken-test.true)) c.loop-taken.invariant.ready
+    (c.turn_beside.ensures.ready (λ is. cc))
+
+pub returns-in-Memory-clause-ready : goal.returns-in-Memory-clause-ready
+returns-in-Memory-clause-ready g c = λ is.
+    ready_none (λ n. g.A.Beside.ready n c.loop-taken.beside c.loop-taken.outside) (λ n. g.A.Beside.ready n c.turn_beside.new.beside c.turn_beside.new.outside)
+    (λ n ready. g.met.A.Beside.fewer _ n _ ready) (c.args.limit - c.loop-taken._taken) (omega (arith, c.loop-taken-test.true)) c.loop-taken.invariant.ready
+    (c.turn_beside.ensures.ready (λ is. cc))
+
+pub returns-clause-ready : goal.returns-clause-ready
+returns-clause-ready g c = λ is.
+    let Ready : ℕ → Type 0 = λ n. g.A.Beside.ready n c.loop-taken.beside c.loop-taken.outside in
+    fewer_many {P = Ready} (λ n ready. g.met.A.Beside.fewer _ n _ ready) (c.args.limit - c.loop-taken._taken) 0
+    (subst Ready (omega arith) c.loop-taken.invariant.ready)

@@ -7,7 +7,7 @@ abbrev pub invariant-loop-taken : goal.invariant-loop-taken
 invariant-loop-taken g l = record {
   shows : ShowsTurns g.M.Served.body_of g.M.Served.steps g.M.Served.noted (g.M.Served.serves l.initial.served) (g.M.Served.serves l.served)
       (g.W.Wire.state l.initial.wire).history (g.W.Wire.state l.wire).history l._taken
-      (λ looks. g.A.Beside.seen l.initial.beside l.initial.outside l.beside l.outside looks);
+      (g.A.Beside.seen l.initial.beside l.initial.outside l.beside l.outside);
   ready : g.A.Beside.ready (l.limit - l._taken) l.beside l.outside;
   kept : g.W.Wire.kept l.wire ≡ g.W.Wire.kept l.initial.wire;
   later : (g.W.Wire.state l.initial.wire).faults ≤ (g.W.Wire.state l.wire).faults;

@@ -1,5 +1,5 @@
 -- A turn that is shown, or not.
-use Rattle.std.proofs.Common.{◌+◌}
+use Rattle.std.proofs.Common.{◌+◌, refl}
 use Rattle.serve_loop.proofs.ShowLemmas.{turn_ticked, turn_other, some_at_turn}
 use Rattle.serve_loop.proofs.beside_loop.turn_beside.Goals as goal
 
@@ -8,13 +8,15 @@ ticked-requires-clause-some g c = λ asks. some_at_turn _ _ _ _ _ _ _ c.in-Tick.
 
 pub returns-in-On-clause-turn : goal.returns-in-On-clause-turn
 returns-in-On-clause-turn g c =
-    turn_ticked _ _ _ _ _ _ _ _ _ c.in-Tick.ensures.turn (λ first start looks y seen serves.
-    c.in-On.ensures.seen first start looks y (c.turn_with.ensures.seen c.args.outside.now first start looks seen) serves)
+    turn_ticked _ _ _ _ _ _ _ _ _ _ c.in-Tick.ensures.turn (c.turn_with.ensures.seen c.args.outside.now) (c.in-On.ensures.seen refl)
 
-pub returns-in-Stop-clause-turn : goal.returns-in-Stop-clause-turn
-returns-in-Stop-clause-turn g c =
-    turn_ticked _ _ _ _ _ _ _ _ _ c.in-Tick.ensures.turn (λ first start looks y seen serves.
-    c.in-Stop.ensures.seen first start looks y (c.turn_with.ensures.seen c.args.outside.now first start looks seen) serves)
+pub returns-in-Stop-clause-stopped : goal.returns-in-Stop-clause-stopped
+returns-in-Stop-clause-stopped g c = λ is. record {
+  takes = c.in-Tick.ensures.turn;
+  beside = c.turn_with.new.beside;
+  stays = c.turn_with.ensures.seen c.args.outside.now;
+  stops = c.in-Stop.ensures.stopped refl;
+}
 
 pub returns-in-Other-clause-turn : goal.returns-in-Other-clause-turn
 returns-in-Other-clause-turn g c = turn_other _ _ _ _ _ _ _ _ _ c.in-Other.ensures.turn (c.turn_with.ensures.seen c.args.outside.now)
@@ -26,9 +28,21 @@ returns-in-Other-clause-ready g c = λ is n ready.
 pub returns-in-End-clause-turn : goal.returns-in-End-clause-turn
 returns-in-End-clause-turn g c = (c.in-End.ensures.turn.0, c.in-End.ensures.turn.1, c.turn_with.ensures.seen c.args.outside.now)
 
+pub returns-in-End-clause-ready : goal.returns-in-End-clause-ready
+returns-in-End-clause-ready g c = λ is n ready.
+    g.met.A.Beside.fewer _ n _ (c.turn_with.ensures.ready (n + 1) c.args.outside.now ready)
+
 pub returns-in-LinkFault-clause-turn : goal.returns-in-LinkFault-clause-turn
 returns-in-LinkFault-clause-turn g c =
     (c.in-LinkFault.ensures.turn.0, c.in-LinkFault.ensures.turn.1, c.turn_with.ensures.seen c.args.outside.now)
 
+pub returns-in-LinkFault-clause-ready : goal.returns-in-LinkFault-clause-ready
+returns-in-LinkFault-clause-ready g c = λ is n ready.
+    g.met.A.Beside.fewer _ n _ (c.turn_with.ensures.ready (n + 1) c.args.outside.now ready)
+
 pub returns-in-Memory-clause-turn : goal.returns-in-Memory-clause-turn
 returns-in-Memory-clause-turn g c = (c.in-Memory.ensures.turn, c.turn_with.ensures.seen c.args.outside.now)
+
+pub returns-in-Memory-clause-ready : goal.returns-in-Memory-clause-ready
+returns-in-Memory-clause-ready g c = λ is n ready.
+    g.met.A.Beside.fewer _ n _ (c.turn_with.ensures.ready (n + 1) c.args.outside.now ready)
