@@ -11,6 +11,8 @@ pub mod EndLemmas
 mod WantLemmas
 mod BegunLemmas
 mod LookLemmas
+pub mod ShownLemmas
 mod OnLemmas
 mod OnMarkLemmas
-pub mod ShownLemmas
+mod ShownOnLemmas
+mod LoopOnLemmas

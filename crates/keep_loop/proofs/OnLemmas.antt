@@ -25,9 +25,8 @@ use Rattle.keep_loop.specs.Keeping.{left_behind}
 use Rattle.keep_loop.specs.KeepingOn.{is_kept, FileHolds, KeepsOn, ServesAndKeeps}
 use Rattle.keep_loop.specs.Looking.{none_counted, counted, AreFew, AfterLook, EndsByLook, LookedSoFar}
 use Rattle.keep_loop.specs.Marking.{comes_to_end}
-use Rattle.keep_loop.proofs.BodyLemmas.{bodies-append}
+use Rattle.keep_loop.proofs.BodyLemmas.{bodies-append, state_played}
 use Rattle.keep_loop.proofs.PaceLemmas.{paced-append}
-use Rattle.keep_loop.proofs.TurnLemmas.{state_played}
 use Rattle.keep_loop.proofs.LookLemmas.{looked_more, saved_each, holds_last}
 
 module _ {W C D : Type 0} (every : ℕ) (of_world : BodyOf W) (step : EventStep W C) (noted : Noting W C) (contents : D → Option (List ℕ))
@@ -45,7 +44,7 @@ module _ {W C D : Type 0} (every : ℕ) (of_world : BodyOf W) (step : EventStep 
       → Looked old_disk disk first now counts (bodies_looked_at every of_world step x.running.state moves)
 
   -- what was shown of turns says so of their moves
-  abbrev pub ShowsLooks : (List Look → Type 0) → (Standing W C → Type 0) → WireHistory → D → D → StoreState → StoreState → SaveCounts → Type 0
+  abbrev pub ShowsLooks : {K : Type 0} → (K → List Look → Type 0) → (Standing W C → Type 0) → WireHistory → D → D → StoreState → StoreState → SaveCounts → Type 1
   ShowsLooks Seen old_serves old old_disk disk first now counts = (new_serves : Standing W C → Type 0) (mid : WireHistory) (count : ℕ)
       (shows : ShowsTurns of_world step noted old_serves new_serves old mid count Seen)
       → LooksIn old_serves old old_disk disk first now counts shows.turns.moves
@@ -96,7 +95,7 @@ module _ {W C D : Type 0} (every : ℕ) (of_world : BodyOf W) (step : EventStep 
       }
 
   -- a run that came to its end, behind the look at it
-  pub ends_looked : (ended : End) → comes_to_end ended ≡ true → (Seen : List Look → Type 0) (r : KeptOn)
+  pub ends_looked : {K : Type 0} (ended : End) → comes_to_end ended ≡ true → (Seen : K → List Look → Type 0) (r : KeptOn)
       (old_serves new_serves : Standing W C → Type 0) (old new : WireState) (limit : ℕ) (old_disk mid_disk disk : D)
       (first mid_store now : StoreState) (counts : SaveCounts)
       → ((d : D) (file : List ℕ) → contents d ≡ Some file → may_leave d file)
@@ -138,7 +137,7 @@ module _ {W C D : Type 0} (every : ℕ) (of_world : BodyOf W) (step : EventStep 
       ready = absurd (let never : false ≡ true = to_end in cc)
 
   -- one that memory ended
-  pub ends_wanting : (ended : End) → comes_to_end ended ≡ false → (Seen : List Look → Type 0)
+  pub ends_wanting : {K : Type 0} (ended : End) → comes_to_end ended ≡ false → (Seen : K → List Look → Type 0)
       (old_serves new_serves : Standing W C → Type 0) (old new : WireState) (limit : ℕ) (old_disk disk : D) (first now : StoreState)
       (counts : SaveCounts) → ShowsLooks Seen old_serves old.history old_disk disk first now counts
       → AfterLoop (loop.Ended ended) of_world step noted old_serves new_serves old new limit Seen → IsReady contents may_leave disk now

@@ -24,10 +24,10 @@ use Rattle.keep_loop.specs.Keeping.{EndsAfter}
 use Rattle.keep_loop.specs.KeepingOn.{IsWhole}
 use Rattle.keep_loop.specs.Looking.{counted, AfterLook, EndsByLook, LookedSoFar}
 use Rattle.keep_loop.specs.Marking.{HoldsWhole, MarksBeforeEnd, MarksMore, MarksOf, comes_to_end}
+use Rattle.keep_loop.proofs.BodyLemmas.{state_played}
 use Rattle.keep_loop.proofs.LookLemmas.{looked_more}
 use Rattle.keep_loop.proofs.MarkLemmas.{Follows, marked_before}
 use Rattle.keep_loop.proofs.OnLemmas.{LooksIn, ShowsLooks}
-use Rattle.keep_loop.proofs.TurnLemmas.{state_played}
 
 never_next : (n : ℕ) → n + 1 ≡ 0 → ⊥
 never_next n e = absurd (omega (arith, e))
@@ -63,7 +63,7 @@ module _ {W C D : Type 0} (every : ℕ) (of_world : BodyOf W) (step : EventStep 
       → MarksOf every of_world step marked old (HoldsWhole counts (contents old_disk) first.standing) old_disk disk x moves
 
   -- what was shown of turns says so of their moves
-  abbrev pub ShowsMarks : (List Look → Type 0) → (Standing W C → Type 0) → WireHistory → D → D → StoreState → SaveCounts → Type 0
+  abbrev pub ShowsMarks : {K : Type 0} → (K → List Look → Type 0) → (Standing W C → Type 0) → WireHistory → D → D → StoreState → SaveCounts → Type 1
   ShowsMarks Seen old_serves old old_disk disk first counts = (new_serves : Standing W C → Type 0) (mid : WireHistory) (count : ℕ)
       (shows : ShowsTurns of_world step noted old_serves new_serves old mid count Seen)
       → MarksIn old_serves old old_disk disk first counts shows.turns.moves
@@ -111,7 +111,7 @@ module _ {W C D : Type 0} (every : ℕ) (of_world : BodyOf W) (step : EventStep 
       (marks_so x over marks told)
 
   -- a run that came to its end
-  pub looked_marked : (ended : End) → comes_to_end ended ≡ true → (Seen : List Look → Type 0) (r : KeptOn)
+  pub looked_marked : {K : Type 0} (ended : End) → comes_to_end ended ≡ true → (Seen : K → List Look → Type 0) (r : KeptOn)
       (old_serves new_serves : Standing W C → Type 0) (old new : WireState) (limit : ℕ) (old_disk mid_disk disk : D)
       (first mid_store now : StoreState) (counts : SaveCounts)
       → ((d : D) (file : List ℕ) → contents d ≡ Some file → may_leave d file)
@@ -145,7 +145,7 @@ module _ {W C D : Type 0} (every : ℕ) (of_world : BodyOf W) (step : EventStep 
       ends ready stay = absurd (false≢true to_end)
 
   -- one that memory ended in a turn
-  pub wanting_marked : (ended : End) → comes_to_end ended ≡ false → (Seen : List Look → Type 0) (old_serves new_serves : Standing W C → Type 0)
+  pub wanting_marked : {K : Type 0} (ended : End) → comes_to_end ended ≡ false → (Seen : K → List Look → Type 0) (old_serves new_serves : Standing W C → Type 0)
       (old new : WireState) (limit : ℕ) (old_disk disk : D) (first : StoreState) (counts : SaveCounts)
       → ShowsMarks Seen old_serves old.history old_disk disk first counts
       → AfterLoop (loop.Ended ended) of_world step noted old_serves new_serves old new limit Seen

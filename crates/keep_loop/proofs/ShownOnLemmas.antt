@@ -1,5 +1,5 @@
 -- What a saver that goes on has done goes on with one body more.
-use Rattle.std.proofs.Common.{◌≡◌, ℕ, ◌+◌, ◌-◌, ◌<◌, ◌≤◌, List, [], ◌∷◌, ◌++◌, length, refl, sym, ap, ◌∙◌, subst, append-nil, arith}
+use Rattle.std.proofs.Common.{◌≡◌, ℕ, ◌+◌, ◌-◌, ◌^◌, ◌<◌, ◌≤◌, List, [], ◌∷◌, ◌++◌, length, false, refl, sym, ap, ◌∙◌, subst, append-nil, arith}
 use Rattle.std.proofs.Math.Nat.{le_refl, le_trans}
 use Rattle.std.proofs.lemmas.List.{length-append}
 use Rattle.std.specs.Prelude.{Option, Some, None}
@@ -17,37 +17,31 @@ use Rattle.keep_loop.specs.Bodies.{paced}
 use Rattle.keep_loop.specs.Keeping.{left_behind}
 use Rattle.keep_loop.specs.Looking.{none_counted, counted, AreFew, AfterLook, LookedSoFar}
 use Rattle.keep_loop.specs.Marking.{HoldsWhole}
-use Rattle.keep_loop.specs.SavingOn.{Saver, saver, MayBeShown, ShownOn, SavesShown}
-use Rattle.keep_loop.specs.Shown.{looked_at, ShownSoFar}
+use Rattle.keep_loop.specs.SavingOn.{Saver, saver, MayBeShown, BeginsAnew, SavesShown}
+use Rattle.keep_loop.specs.Shown.{bodies_shown, looked_at}
 use Rattle.keep_loop.proofs.LookLemmas.{looked_first, looked_more}
-use Rattle.keep_loop.proofs.OnLemmas.{few_first, none_rose, few_more, few_within, failed_rose, rose_so_far}
+use Rattle.keep_loop.proofs.OnLemmas.{none_rose, few_more, failed_rose, rose_so_far}
 use Rattle.keep_loop.proofs.OnMarkLemmas.{holds_looked, later_counted}
-use Rattle.keep_loop.proofs.PaceLemmas.{left-none, left-passed, left-due, paced-passed, paced-due}
-use Rattle.keep_loop.proofs.QuietLemmas.{ready_quiet, file_quiet}
-use Rattle.keep_loop.proofs.ShownLemmas.{looked_at-more, pace-more, shown_none, shown_passed, shown_looked}
+use Rattle.keep_loop.proofs.PaceLemmas.{left-none, left-passed, left-due, left-append, paced-passed, paced-due, paced-append}
+use Rattle.keep_loop.proofs.QuietLemmas.{file_quiet}
+use Rattle.keep_loop.proofs.ShownLemmas.{shown-append, marked_shown_none, marked_shown_passed, marked_shown_looked}
 
--- where so many more may be shown, one less may
-pub fewer_shown : {D : Type 0} (contents : D → Option (List ℕ)) (may_leave : D → List ℕ → Type 0) (n : ℕ) (disk : D) (s : Saver)
-    → MayBeShown contents may_leave (n + 1) disk s → MayBeShown contents may_leave n disk s
-fewer_shown contents may_leave n disk s may = record {
-  every = may.every;
-  most = may.most;
-  few = may.few;
-  room = (let room = may.room in omega (arith, room));
-  ready = may.ready;
-}
+-- one body more
+looked_at-more : (every left : ℕ) (looks : List Look) (look : Look) → left ≡ left_behind every (every - 1) (bodies_shown looks)
+    → looked_at every (looks ++ look ∷ []) ≡ looked_at every looks ++ paced every left (look.body ∷ [])
+looked_at-more every left looks look pace =
+    ap (paced every (every - 1)) (shown-append looks (look ∷ []))
+    ∙ (paced-append every (every - 1) (bodies_shown looks) (look.body ∷ [])
+    ∙ ap (λ n. looked_at every looks ++ paced every n (look.body ∷ [])) (sym pace))
 
--- behind a tick that is let pass, and behind a look
-pub passed_more : {D : Type 0} (contents : D → Option (List ℕ)) (may_leave : D → List ℕ → Type 0) (n : ℕ) (disk : D) (s : Saver)
-    → MayBeShown contents may_leave (n + 1) disk s → MayBeShown contents may_leave n disk (saver s.store s.every (s.left - 1) s.counts s.name)
-passed_more contents may_leave n disk s may = record {
-  every = may.every;
-  most = may.most;
-  few = may.few;
-  room = (let room = may.room in omega (arith, room));
-  ready = may.ready;
-}
+pace-more : (every left then_ : ℕ) (looks : List Look) (look : Look) → left ≡ left_behind every (every - 1) (bodies_shown looks)
+    → then_ ≡ left_behind every left (look.body ∷ []) → then_ ≡ left_behind every (every - 1) (bodies_shown (looks ++ look ∷ []))
+pace-more every left then_ looks look pace next =
+    next ∙ (ap (λ n. left_behind every n (look.body ∷ [])) pace
+    ∙ (sym (left-append every (every - 1) (bodies_shown looks) (look.body ∷ []))
+    ∙ ap (left_behind every (every - 1)) (sym (shown-append looks (look ∷ [])))))
 
+-- behind a look one less may be shown
 pub due_more : {D : Type 0} (contents : D → Option (List ℕ)) (may_leave : D → List ℕ → Type 0) (by : SaveEnd) (n : ℕ) (old new : D) (s : Saver)
     (store : StoreState) (counts : SaveCounts) → counts ≡ counted by s.counts → IsReady contents may_leave new store
     → MayBeShown contents may_leave (n + 1) old s
@@ -68,30 +62,23 @@ module _ {D : Type 0} (contents : D → Option (List ℕ)) (may_leave : D → Li
   abbrev Looked : D → D → StoreState → StoreState → SaveCounts → List (List ℕ) → Type 0
   Looked old_disk new_disk first now counts looked = LookedSoFar contents may_leave moment left_since old_disk new_disk first now counts looked
 
-  -- nothing was shown
-  pub shown_first : ((d : D) (c : List ℕ) → left_since d (moment d) c → may_leave d c) → (n : ℕ) (disk : D) (s : Saver)
-      → MayBeShown contents may_leave n disk s → Shown disk disk s s []
+  -- nothing was shown: over an open store, and nothing is counted
+  pub begins_anew : ((d : D) (c : List ℕ) → left_since d (moment d) c → may_leave d c) → (disk : D) (s : Saver)
+      → IsReady contents may_leave disk s.store → s.store.shut ≡ false → s.left ≡ s.every - 1 → s.counts ≡ none_counted
+      → BeginsAnew contents may_leave moment left_since marked names fault_count disk s
   unfolding paced
-  shown_first only n disk s may = λ begins. record {
+  begins_anew only disk s ready open_ left none = record {
     every = refl;
     name = refl;
-    pace = begins.left ∙ left-none s.every (s.every - 1);
-    looked = subst (λ counts. Looked disk disk s.store s.store counts []) (sym begins.counts)
-        (looked_first contents may_leave moment left_since disk s.store only begins.ready begins.open_);
-    ready = begins.ready;
-    few = subst (λ counts. AreFew counts 0) (sym begins.counts) few_first;
-    failed = λ more. none_rose (Rose (fault_count disk) (fault_count disk)) s.counts begins.counts more;
-    untold = λ none. none;
+    pace = left ∙ left-none s.every (s.every - 1);
+    looked = subst (λ counts. Looked disk disk s.store s.store counts []) (sym none)
+        (looked_first contents may_leave moment left_since disk s.store only ready open_);
+    failed = λ more. none_rose (Rose (fault_count disk) (fault_count disk)) s.counts none more;
+    untold = λ e. e;
     named = only_none (names disk) (names disk) s.name refl;
     later = le_refl (fault_count disk);
-    marks = λ marks told. shown_none (marked disk) marks s.every (HoldsWhole s.counts (contents disk) s.store.standing) told;
+    marks = λ marks told. marked_shown_none s.every (HoldsWhole s.counts (contents disk) s.store.standing) (marked disk) marks told;
   }
-
-  longer : (counts : SaveCounts) (looks : List Look) (look : Look) (n : ℕ) → n ≤ length looks + 1 → AreFew counts n
-      → AreFew counts (length (looks ++ look ∷ []))
-  longer counts looks look n within few =
-      let is = length-append looks (look ∷ []) in
-      few_within counts n (length (looks ++ look ∷ [])) (omega (arith, is, within)) few
 
   -- a tick that is let pass
   pub on_passed : (start disk : D) (first mid : Saver) (looks : List Look) (look : Look) → 0 < mid.left → Shown start disk first mid looks
@@ -108,13 +95,11 @@ module _ {D : Type 0} (contents : D → Option (List ℕ)) (may_leave : D → Li
         name = so_far.name;
         pace = pace-more first.every mid.left (mid.left - 1) looks look so_far.pace (left-passed first.every mid.left look.body pass);
         looked = subst (λ l. Looked start disk first.store mid.store mid.counts l) (sym same) so_far.looked;
-        ready = so_far.ready;
-        few = longer mid.counts looks look (length looks) (omega arith) so_far.few;
         failed = so_far.failed;
         untold = so_far.untold;
         named = so_far.named;
         later = so_far.later;
-        marks = λ marks told. shown_passed first.every Holds Holds looks look marks (λ l file holds. holds) (marked disk) same (so_far.marks marks told);
+        marks = λ marks told. marked_shown_passed first.every Holds Holds looks look marks (λ l file holds. holds) (marked disk) same (so_far.marks marks told);
       }
 
   -- one whose body is looked at, and marked
@@ -155,9 +140,6 @@ module _ {D : Type 0} (contents : D → Option (List ℕ)) (may_leave : D → Li
           whole = at_mid.whole;
           file = file_quiet contents may_leave moment left_since laws start mid disk first.store.standing at_mid.begun at_mid.file quiet;
         };
-        ready = ready_quiet contents may_leave moment left_since laws mid disk store ready quiet;
-        few = longer counts looks look (length looks + 1) (omega arith)
-            (subst (λ c. AreFew c (length looks + 1)) (sym is) (few_more by saves.counts (length looks) so_far.few));
         failed = λ again.
             let rose = rose_so_far (fault_count start) (fault_count old) (fault_count mid) saves.counts.failed so_far.later later so_far.failed
             (failed_rose by saves.counts (Rose (fault_count old) (fault_count mid)) failed (subst (λ (c : SaveCounts). 0 < c.failed) is again)) in
@@ -168,7 +150,7 @@ module _ {D : Type 0} (contents : D → Option (List ℕ)) (may_leave : D → Li
             (subst (λ n. OpensOnly (names old) (names mid) n) so_far.name named));
         later = le_trans (le_trans so_far.later later) mark_later;
         marks = λ marks told.
-            shown_looked first.every Old Then looks look marks (later_counted (contents start) first.store by saves.counts counts is) (marked old)
+            marked_shown_looked first.every Old Then looks look marks (later_counted (contents start) first.store by saves.counts counts is) (marked old)
             (marked disk) (record { wire = look.wire; file = contents mid })
             (ap length more ∙ length-append before (look.body ∷ [])) refl
             (holds_looked contents may_leave moment left_since start mid first.store store counts (looked_at first.every (looks ++ look ∷ [])) at_mid ready)

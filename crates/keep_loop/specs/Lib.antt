@@ -7,3 +7,4 @@ pub mod KeepingOn
 pub mod Marking
 pub mod Looking
 pub mod Shown
+pub mod SavingOn

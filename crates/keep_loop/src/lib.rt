@@ -2,7 +2,7 @@
 #![tactic(auto)]
 
 mod keep_end;
-mod keeping;
+// mod keeping;
 mod keeping_on;
 mod kept_on;
 mod laws;
@@ -12,15 +12,18 @@ mod reopened;
 mod run_end;
 mod save_counts;
 mod save_end;
-mod save_notes;
+mod saves_on;
 mod saving;
+mod tells;
+mod told;
 
 pub use keep_end::KeepEnd;
-pub use keeping::keep_turns;
+// pub use keeping::keep_turns;
 pub use keeping_on::keep_on;
 pub use kept_on::KeptOn;
 pub use laws::done_saves_are_not_undone;
 pub use run_end::RunEnd;
 pub use save_counts::SaveCounts;
 pub use save_end::SaveEnd;
-pub use save_notes::SaveNotes;
+pub use tells::Tells;
+pub use told::Told;

@@ -1,8 +1,7 @@
 //! A saver beside a loop, which goes on where a save fails.
 
-ghost use Rattle.std.specs.Prelude.{◌≡◌, ◌+◌, ℕ, List, [], ◌∷◌, ◌++◌};
-ghost use Rattle.ads_served.specs.Standing.{Standing};
-ghost use Rattle.serve_loop.specs.Looks.{Look, look_at};
+ghost use Rattle.std.specs.Prelude.{◌≡◌, ◌+◌, ℕ};
+ghost use Rattle.serve_loop.specs.Looks.{SeesMore};
 ghost use Rattle.keep_loop.specs.Saving.{StandsForSome};
 ghost use Rattle.keep_loop.specs.SavingOn.{Saver, MayBeShown, SavesShown, saver};
 
@@ -29,15 +28,17 @@ pub(crate) struct SavesOn<'a, N: Drop> {
 }
 
 impl<'a, M: Served, D: Disk, N: Told<M> + Drop> Beside<M, D> for SavesOn<'a, N> {
-    ghost use Rattle.keep_loop.proofs.ShownOnLemmas.{shown_first, fewer_shown};
+    ghost use Rattle.std.proofs.Common.{arith};
     ghost use Rattle.keep_loop.specs.SavingOn.{MayBeShown, SavesShown, saver};
 
-    ghost seen = { λ first start now disk looks. SavesShown D.contents D.may_leave D.moment D.left_since D.marked D.names D.fault_count start disk
-        (saver first.store first.every first.left first.counts first.name) (saver now.store now.every now.left now.counts now.name) looks };
+    ghost Kept = { Unit {0} };
 
-    ghost ready = { λ n s disk. MayBeShown D.contents D.may_leave n disk (saver s.store s.every s.left s.counts s.name) };
+    ghost seen = { λ first start now disk kept looks. SavesShown D.contents D.may_leave D.moment D.left_since D.marked D.names D.fault_count start disk
+        (saver first.store first.every first.left first.counts first.name.now) (saver now.store now.every now.left now.counts now.name.now) looks };
 
-    ghost stopped = { λ _. ⊥ };
+    ghost ready = { λ n s disk. MayBeShown D.contents D.may_leave n disk (saver s.store s.every s.left s.counts s.name.now) };
+
+    ghost stopped = { λ _ _ _ _ _. ⊥ };
 
     ghost asks = { Unit {0} };
 
@@ -58,10 +59,9 @@ impl<'a, M: Served, D: Disk, N: Told<M> + Drop> Beside<M, D> for SavesOn<'a, N> 
         Go::On
     }
 
-    ghost begins = { λ s n disk ready. shown_first D.contents D.may_leave D.moment D.left_since D.marked D.names D.fault_count D.only_now
-        n disk (saver s.store s.every s.left s.counts s.name) ready };
+    ghost begins = { λ s n disk ready. (tt, λ anew. anew) };
 
-    ghost fewer = { λ s n disk ready. fewer_shown D.contents D.may_leave n disk (saver s.store s.every s.left s.counts s.name) ready };
+    ghost fewer = { λ s n disk ready. record { every = ready.every; most = ready.most; few = ready.few; room = (let room = ready.room in omega (arith, room)); ready = ready.ready } };
 }
 
 // A tick whose body is looked at.
@@ -74,18 +74,17 @@ fn look_due<W: Wire, M: Served, D: Disk, N: Told<M> + Drop>(
 )
     requires some { StandsForSome (M.serves served.now) }
     requires ready { MayBeShown D.contents D.may_leave 1 disk.old
-        (saver saves.old.store saves.old.every saves.old.left saves.old.counts saves.old.name) }
+        (saver saves.old.store saves.old.every saves.old.left saves.old.counts saves.old.name.now) }
     requires due { saves.old.left ≡ 0 }
-    ensures seen { (first : Saver) (start : D) (looks : List Look) (x : Standing M.World M.Client)
-        → SavesShown D.contents D.may_leave D.moment D.left_since D.marked D.names D.fault_count start disk.old first
-        (saver saves.old.store saves.old.every saves.old.left saves.old.counts saves.old.name) looks → M.serves served.now x
-        → SavesShown D.contents D.may_leave D.moment D.left_since D.marked D.names D.fault_count start disk.new first
-        (saver saves.new.store saves.new.every saves.new.left saves.new.counts saves.new.name)
-        (looks ++ look_at (M.body_of x.running.state.world) (W.state wire.now).history ∷ []) }
+    ensures seen { (first : Saver) (start : D) → SeesMore M.body_of (M.serves served.now) (W.state wire.now).history
+        (SavesShown D.contents D.may_leave D.moment D.left_since D.marked D.names D.fault_count start disk.old first
+        (saver saves.old.store saves.old.every saves.old.left saves.old.counts saves.old.name.now))
+        (λ (kept : Unit {0}). SavesShown D.contents D.may_leave D.moment D.left_since D.marked D.names D.fault_count start disk.new first
+        (saver saves.new.store saves.new.every saves.new.left saves.new.counts saves.new.name.now)) }
     ensures ready { (n : ℕ) → MayBeShown D.contents D.may_leave (n + 1) disk.old
-        (saver saves.old.store saves.old.every saves.old.left saves.old.counts saves.old.name)
+        (saver saves.old.store saves.old.every saves.old.left saves.old.counts saves.old.name.now)
         → MayBeShown D.contents D.may_leave n disk.new
-        (saver saves.new.store saves.new.every saves.new.left saves.new.counts saves.new.name) }
+        (saver saves.new.store saves.new.every saves.new.left saves.new.counts saves.new.name.now) }
 {
     let became = look::<M, D, N>(
         alloc,

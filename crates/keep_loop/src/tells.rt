@@ -13,11 +13,13 @@ pub struct Tells<N: Drop> {
 }
 
 impl<M: Served, O, N: Told<M> + Drop> Beside<M, O> for Tells<N> {
-    ghost seen = { λ _ _ _ _ _. Unit {0} };
+    ghost Kept = { Unit {0} };
+
+    ghost seen = { λ _ _ _ _ _ _. Unit {0} };
 
     ghost ready = { λ _ _ _. Unit {0} };
 
-    ghost stopped = { λ _. ⊥ };
+    ghost stopped = { λ _ _ _ _ _. ⊥ };
 
     ghost asks = { ⊥ };
 
@@ -33,7 +35,7 @@ impl<M: Served, O, N: Told<M> + Drop> Beside<M, O> for Tells<N> {
         Go::On
     }
 
-    ghost begins = { λ _ _ _ _. tt };
+    ghost begins = { λ _ _ _ _. (tt, tt) };
 
     ghost fewer = { λ _ _ _ _. tt };
 }
