@@ -2,7 +2,7 @@
 #![tactic(auto)]
 
 mod keep_end;
-// mod keeping;
+mod keeping;
 mod keeping_on;
 mod kept_on;
 mod laws;
@@ -18,7 +18,7 @@ mod tells;
 mod told;
 
 pub use keep_end::KeepEnd;
-// pub use keeping::keep_turns;
+pub use keeping::keep_turns;
 pub use keeping_on::keep_on;
 pub use kept_on::KeptOn;
 pub use laws::done_saves_are_not_undone;
