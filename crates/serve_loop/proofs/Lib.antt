@@ -8,3 +8,4 @@ pub mod TurnLemmas
 pub mod EndLemmas
 pub mod WantLemmas
 pub mod ShowLemmas
+pub mod TellLemmas

@@ -1,6 +1,6 @@
 -- What is shown of turns one after another.
-use Rattle.std.proofs.Common.{◌≡◌, ℕ, zero, suc, ◌+◌, ◌<◌, ◌≤◌, List, [], ◌∷◌, ◌++◌, refl, sym, ap, ◌∙◌, subst, append_assoc, append-nil, arith}
-use Rattle.std.specs.List.{All, flat_map}
+use Rattle.std.proofs.Common.{◌≡◌, ℕ, zero, suc, ◌+◌, ◌<◌, List, [], ◌∷◌, ◌++◌, refl, sym, ap, ◌∙◌, subst, append_assoc, append-nil, arith}
+use Rattle.std.specs.List.{flat_map}
 use Rattle.std.proofs.lemmas.Grind.{flat_map-append}
 use Rattle.std.proofs.lemmas.List.Elements.{All-append, All-cons, All-nil}
 use Rattle.ads_outside.specs.declared.event.Event.{Event}
@@ -17,9 +17,9 @@ use Rattle.ads_served.specs.Standing.{Standing, Noting, running_after_all, stand
 use Rattle.serve_loop.specs.declared.turn_end.Turn.{Turn}
 use Rattle.serve_loop.specs.declared.turn_end.Turn.TheVariants as turn
 use Rattle.serve_loop.specs.Beside.{ShownOf, ShowsEvent, ShowsTurn, ShowsTurns, ShowsBefore, ShowsBroken, StaysSeen, StopsTurn, ShowsStopped}
-use Rattle.serve_loop.specs.Leads.{serves_any, events_in}
+use Rattle.serve_loop.specs.Leads.{events_in}
 use Rattle.serve_loop.specs.Looks.{Look, look_at, looks_at_event, looks_of_turns, SeesMore}
-use Rattle.serve_loop.specs.TurnTaken.{StandsOver, StandsForSome, IsTurnOf, TakesEvent, TakesTurns, AreTurnsOf, Stays, BreaksTurn, turn_of_event}
+use Rattle.serve_loop.specs.TurnTaken.{StandsOver, StandsForSome, IsTurnOf, TakesEvent, TakesTurns, Stays, BreaksTurn, turn_of_event}
 use Rattle.serve_loop.proofs.LeadLemmas.{events-append, history-append, standing-append, standing-running, AreOffers-append}
 use Rattle.serve_loop.proofs.TurnLemmas.{stands_over, turns_none, turns_then}
 
@@ -158,8 +158,8 @@ shows_more {W} {C} {K} body_of step noted old_serves mid_serves new_serves old m
           ap (λ r. L r new) (standing-running step noted x (ms ++ ns))
           ∙ ap (λ h. L (running_after_all step x.running (ms ++ ns)) h) logged in
           let serves : new_serves y = subst (λ moves. new_serves (standing_after_all step noted x moves)) it.1 (it.0.stands x over).stands in
-          subst (λ moves. Of moves x) (sym it.1) (shown_more body_of step x.running old ms ns takes.event (Old shows.kept) (New goes.more) (shows.shown x over) turn_is
-          takes.leads.events
+          subst (λ moves. Of moves x) (sym it.1) (shown_more body_of step x.running old ms ns takes.event (Old shows.kept) (New goes.more) (shows.shown x over)
+          turn_is takes.leads.events
           (λ looks seen. let P : Look → Type 0 = λ look. New goes.more (looks ++ looks_at_event takes.event look) in
           subst P same (goes.sees looks y seen serves)));
     }

@@ -6,3 +6,4 @@ pub mod ToldStreams
 pub mod Wanting
 pub mod Looks
 pub mod Beside
+pub mod Telling

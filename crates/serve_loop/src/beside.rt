@@ -1,6 +1,6 @@
 //! What stands beside a loop: it is shown what is served, and changes nothing of it.
 
-ghost use Rattle.std.specs.Prelude.{◌≡◌, ℕ, ◌+◌, List, []};
+ghost use Rattle.std.specs.Prelude.{◌≡◌, ℕ, ◌+◌, List, [], ◌∷◌, ◌++◌};
 ghost use Rattle.serve_loop.specs.Looks.{Look, IsBodyOf, SeesMore};
 ghost use Rattle.serve_loop.specs.TurnTaken.{StandsForSome};
 
@@ -31,6 +31,9 @@ pub trait Beside<M: Served, O> {
     /// It was shown a body that is one of these, and ended the loop.
     ghost stopped: { Self → O → Self → O → (List ℕ → Type 0) → Type 0 };
 
+    /// It was told that events came to these, in order.
+    ghost told: { Self → List M.Came → Type 0 } = { λ _ _. Unit {0} };
+
     /// It asks that what is served stands for something.
     ghost asks: { Type 0 };
 
@@ -39,14 +42,15 @@ pub trait Beside<M: Served, O> {
         ensures seen { (first : Self) (start outside : O) (kept : Kept) (looks : List Look)
             → seen first start self.old outside kept looks → seen first start self.new outside kept looks }
         ensures ready { (n : ℕ) (outside : O) → ready n self.old outside → ready n self.new outside }
+        ensures told { (before : List M.Came) → told self.old before → told self.new before }
     {}
 
     /// An event was taken, and came to this; nothing is offered yet.
-    fn came(&mut self, _alloc: Global, _served: &M, _event: &Event, _came: &M::Came)
+    fn came(&mut self, alloc: Global, served: &M, event: &Event, outcome: &M::Came)
         ensures seen { (first : Self) (start outside : O) (kept : Kept) (looks : List Look)
             → seen first start self.old outside kept looks → seen first start self.new outside kept looks }
         ensures ready { (n : ℕ) (outside : O) → ready n self.old outside → ready n self.new outside }
-    {}
+        ensures told { (before : List M.Came) → told self.old before → told self.new (before ++ outcome.now ∷ []) };
 
     /// A turn with a tick is over.
     fn ticked<W: Wire>(&mut self, alloc: Global, served: &M, wire: &W, outside: &mut O) -> Go
@@ -55,6 +59,7 @@ pub trait Beside<M: Served, O> {
         ensures seen { result ≡ Go.On → (first : Self) (start : O) (kept : Kept) → SeesMore M.body_of (M.serves served.now)
             (W.state wire.now).history (seen first start self.old outside.old kept) (seen first start self.new outside.new) }
         ensures ready { result ≡ Go.On → (n : ℕ) → ready (n + 1) self.old outside.old → ready n self.new outside.new }
+        ensures told { (before : List M.Came) → told self.old before → told self.new before }
         ensures stopped { result ≡ Go.Stop
             → stopped self.old outside.old self.new outside.new (IsBodyOf M.body_of (M.serves served.now)) };
 

@@ -5,6 +5,7 @@ ghost use Rattle.ads_outside.specs.declared.end.End.TheVariants as end;
 ghost use Rattle.ads_outside.specs.WireState.{WireHistory};
 ghost use Rattle.serve_loop.specs.Beside.{AfterLoop, AfterTurnBeside, ShowsStopped, StopsTurn};
 ghost use Rattle.serve_loop.specs.Looks.{Look, IsBodyOf};
+ghost use Rattle.serve_loop.specs.Telling.{TellsLoop, TellsTurned};
 ghost use Rattle.serve_loop.specs.TurnTaken.{StandsForSome, StandsOver};
 ghost use Rattle.serve_loop.specs.Wanting.{WasWanting};
 
@@ -53,6 +54,9 @@ pub fn serve_beside<T: Threads + Sync, W: Wire, M: Served, O, A: Beside<M, O>>(
     ensures later { (W.state wire.old).faults ≤ (W.state wire.new).faults }
     ensures wanted { (W.state wire.old).wants ≤ (W.state wire.new).wants }
     ensures memory { result ≡ LoopEnd.Ended end.Memory → WasWanting (M.has_failed served.new) (W.state wire.old) (W.state wire.new) }
+    // It was told what each event came to.
+    ensures told { TellsLoop result M.comes_to M.steps M.noted (M.serves served.old) (W.state wire.old) (W.state wire.new)
+        (A.told beside.old) (A.told beside.new) }
 {
     let mut numbers = Vec::new(alloc);
     for _taken in 0..limit {
@@ -86,6 +90,8 @@ fn turn_beside<T: Threads + Sync, W: Wire, M: Served, O, A: Beside<M, O>>(
         (λ (mid : A) (first : A) (start : O). A.seen first start mid outside.old)
         (λ (mid : A). A.stopped mid outside.old beside.new outside.new (IsBodyOf M.body_of (M.serves served.new))) }
     ensures ready { result ≢ Turned.Stopped → (n : ℕ) → A.ready (n + 1) beside.old outside.old → A.ready n beside.new outside.new }
+    ensures told { TellsTurned result M.comes_to M.steps M.noted (M.serves served.old) (M.serves served.new)
+        (W.state wire.old).history (W.state wire.new).history (A.told beside.old) (A.told beside.new) }
     ensures kept { W.kept wire.new ≡ W.kept wire.old }
     ensures later { (W.state wire.old).faults ≤ (W.state wire.new).faults }
     ensures wanted { (W.state wire.old).wants ≤ (W.state wire.new).wants }

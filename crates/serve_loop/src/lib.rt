@@ -16,3 +16,4 @@ pub use beside_loop::serve_beside;
 pub use loop_end::LoopEnd;
 pub use looping::serve;
 pub use nobody::Nobody;
+pub use turn_end::Turn;

@@ -1,7 +1,7 @@
 //! Nobody stands beside a loop.
 
 use crate::{Beside, Go};
-use ads_outside::Wire;
+use ads_outside::{Event, Wire};
 use ads_served::Served;
 use std::alloc::Global;
 
@@ -19,6 +19,8 @@ impl<M: Served, O> Beside<M, O> for Nobody {
     ghost stopped = { λ _ _ _ _ _. ⊥ };
 
     ghost asks = { ⊥ };
+
+    fn came(&mut self, _alloc: Global, _served: &M, _event: &Event, _outcome: &M::Came) {}
 
     fn ticked<W: Wire>(&mut self, _alloc: Global, _served: &M, _wire: &W, _outside: &mut O) -> Go {
         Go::On

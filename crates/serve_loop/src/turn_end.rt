@@ -2,7 +2,7 @@
 
 /// The outcome of one turn of a loop.
 #[derive(Clone, Copy, Debug, PartialEq, Eq)]
-pub(crate) enum Turn {
+pub enum Turn {
     /// The event was a tick, and all connections are served.
     Tick,
     /// It was another event, and all connections are served.

@@ -8,6 +8,7 @@ ghost use Rattle.ads_served.specs.Standing.{Standing, standing_after};
 ghost use Rattle.serve_loop.specs.Beside.{StaysSeen};
 ghost use Rattle.serve_loop.specs.Leads.{Leads, Breaks};
 ghost use Rattle.serve_loop.specs.Serving.{ServesAll};
+ghost use Rattle.serve_loop.specs.Telling.{StaysTold, Hears, HearsOrNot, TellsTurn};
 ghost use Rattle.serve_loop.specs.TurnTaken.{ComesBy, AfterTurn, turn_of_event};
 ghost use Rattle.serve_loop.specs.Wanting.{WasWanting};
 
@@ -39,6 +40,8 @@ pub(crate) fn turn_with<T: Threads + Sync, W: Wire, M: Served, O, A: Beside<M, O
     ensures seen { (outside : O) → StaysSeen (λ (first : A) (start : O). A.seen first start beside.old outside)
         (λ (first : A) (start : O). A.seen first start beside.new outside) }
     ensures ready { (n : ℕ) (outside : O) → A.ready n beside.old outside → A.ready n beside.new outside }
+    ensures told { TellsTurn result M.comes_to M.steps M.noted (M.serves served.old) (M.serves served.new)
+        (W.state wire.old).history (W.state wire.new).history (A.told beside.old) (A.told beside.new) }
 {
     let event = match wire.next() {
         Next::Event(event) => event,
@@ -98,6 +101,9 @@ fn take_event<T: Threads + Sync, W: Wire, M: Served, O, A: Beside<M, O>>(
     ensures seen { (outside : O) → StaysSeen (λ (first : A) (start : O). A.seen first start beside.old outside)
         (λ (first : A) (start : O). A.seen first start beside.new outside) }
     ensures ready { (n : ℕ) (outside : O) → A.ready n beside.old outside → A.ready n beside.new outside }
+    ensures told { OnOk result (Hears M.comes_to (M.serves served.old) event.now (A.told beside.old) (A.told beside.new)) }
+    ensures untold { OnErr result (HearsOrNot M.comes_to (M.serves served.old) event.now
+        (W.state wire.old).history (W.state wire.new).history (A.told beside.old) (A.told beside.new)) }
 {
     step_beside::<T, M, O, A>(rt, alloc, served, beside, event)?;
     served.due(alloc, numbers)?;
@@ -119,6 +125,8 @@ fn step_beside<T: Threads + Sync, M: Served, O, A: Beside<M, O>>(
     ensures seen { (outside : O) → StaysSeen (λ (first : A) (start : O). A.seen first start beside.old outside)
         (λ (first : A) (start : O). A.seen first start beside.new outside) }
     ensures ready { (n : ℕ) (outside : O) → A.ready n beside.old outside → A.ready n beside.new outside }
+    ensures told { OnOk result (Hears M.comes_to (M.serves served.old) event.now (A.told beside.old) (A.told beside.new)) }
+    ensures untold { OnErr result (StaysTold (A.told beside.old) (A.told beside.new)) }
 {
     beside.comes(alloc, served, event);
     let outcome = served.step(rt, alloc, event)?;

@@ -1,6 +1,7 @@
 -- A turn that is shown, or not.
 use Rattle.std.proofs.Common.{◌+◌, refl}
 use Rattle.serve_loop.proofs.ShowLemmas.{turn_ticked, turn_other, some_at_turn}
+use Rattle.serve_loop.proofs.TellLemmas.{told_so}
 use Rattle.serve_loop.proofs.beside_loop.turn_beside.Goals as goal
 
 pub ticked-requires-clause-some : goal.ticked-requires-clause-some
@@ -46,3 +47,9 @@ returns-in-Memory-clause-turn g c = (c.in-Memory.ensures.turn, c.turn_with.ensur
 pub returns-in-Memory-clause-ready : goal.returns-in-Memory-clause-ready
 returns-in-Memory-clause-ready g c = λ is n ready.
     g.met.A.Beside.fewer _ n _ (c.turn_with.ensures.ready (n + 1) c.args.outside.now ready)
+
+pub returns-in-On-clause-told : goal.returns-in-On-clause-told
+returns-in-On-clause-told g c = told_so _ _ _ _ _ _ _ _ _ _ _ _ (λ y over. over) c.in-On.ensures.told c.in-Tick.ensures.told
+
+pub returns-in-Stop-clause-told : goal.returns-in-Stop-clause-told
+returns-in-Stop-clause-told g c = told_so _ _ _ _ _ _ _ _ _ _ _ _ (λ y over. over) c.in-Stop.ensures.told c.in-Tick.ensures.told

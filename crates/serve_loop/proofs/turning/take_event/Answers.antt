@@ -31,3 +31,12 @@ returns-clause-ok g c =
     (λ y comes. c.in_ok-due.ensures.stays y (comes_to _ _ _ (g.M.Served.serves c.step_beside.new.served) _ c.in_ok-step_beside.ensures.follows y comes))
     (λ y ms serves all. all (rw c.as_slice.ensures.value (c.in_ok-due.ensures.due y serves)) (g.met.M.Served.apart c.due.new.self y serves))
     c.in_ok-serve_each.ensures.ok
+
+pub returns-in_err-step_beside-clause-untold : goal.returns-in_err-step_beside-clause-untold
+returns-in_err-step_beside-clause-untold g c = on_err _ (inl (refl, c.in_err-step_beside.ensures.untold))
+
+pub returns-in_err-due-clause-untold : goal.returns-in_err-due-clause-untold
+returns-in_err-due-clause-untold g c = on_err _ (inr c.in_ok-step_beside.ensures.told)
+
+pub returns-in_err-serve_each-clause-untold : goal.returns-in_err-serve_each-clause-untold
+returns-in_err-serve_each-clause-untold g c = on_err _ (inr c.in_ok-step_beside.ensures.told)
