@@ -10,8 +10,10 @@ mod AlsoLemmas
 pub mod EndLemmas
 mod BegunLemmas
 mod LookLemmas
+pub mod ShownLemmas
 mod OnLemmas
 mod OnMarkLemmas
-pub mod ShownLemmas
 mod SaverLemmas
 mod RunLemmas
+mod ShownOnLemmas
+mod LoopOnLemmas

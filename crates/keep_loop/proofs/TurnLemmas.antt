@@ -17,13 +17,9 @@ use Rattle.serve_loop.proofs.LeadLemmas.{standing-append, history-append, events
 use Rattle.serve_loop.proofs.TurnLemmas.{turns_none, turns_then}
 use Rattle.keep_loop.specs.Bodies.{BodyOf, bodies_at_event, bodies_at_ticks, paced, bodies_looked_at, bodies_to_end, saves_in}
 use Rattle.keep_loop.specs.Keeping.{BodiesOf, Keeps, KeepsPaced, left_behind}
-use Rattle.keep_loop.proofs.BodyLemmas.{bodies-append, turn_bodies}
+use Rattle.keep_loop.proofs.BodyLemmas.{bodies-append, state_played, turn_bodies}
 use Rattle.keep_loop.proofs.PaceLemmas.{paced-append, left-append}
 use Rattle.keep_loop.proofs.SaveLemmas.{last_of, saves-append}
-
-pub state_played : {W C : Type 0} (step : EventStep W C) (noted : Noting W C) (x : Standing W C) (ms : List Move)
-    → (standing_after_all step noted x ms).running.state ≡ state_after step x.running.state ms
-state_played {W} {C} step noted x ms = ap (λ (r : Running W C). r.state) (standing-running step noted x ms)
 
 -- what is looked at after a turn of which this is told
 abbrev pub bodies_of_turn : Turn → List ℕ → List (List ℕ)

@@ -9,3 +9,4 @@ pub mod Looking
 pub mod Shown
 pub mod Saver
 pub mod SaverLaws
+pub mod SavingOn

@@ -9,7 +9,7 @@ ghost use Rattle.keep_loop.specs.Saving.{StandsForSome};
 use crate::marking::mark_behind;
 use crate::saving::save_body;
 use crate::SaveEnd;
-use ads_outside::Wire;
+use ads_outside::{Event, Wire};
 use ads_served::Served;
 use persist_store::{Disk, Store};
 use serve_loop::{Beside, Go};
@@ -44,6 +44,8 @@ impl<M: Served, D: Disk> Beside<M, D> for SavesOrStops {
         new.became old.left old.store new.store old_disk new_disk };
 
     ghost asks = { Unit {0} };
+
+    fn came(&mut self, _alloc: Global, _served: &M, _event: &Event, _outcome: &M::Came) {}
 
     fn ticked<W: Wire>(&mut self, alloc: Global, served: &M, wire: &W, disk: &mut D) -> Go {
         if self.left > 0 {
