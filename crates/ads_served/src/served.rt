@@ -1,7 +1,7 @@
 //! A machine that is served.
 
 ghost use denote.Param.Send.{IsSync};
-ghost use Rattle.std.specs.Prelude.{◌≡◌, ◌≤◌, ◌<◌, ℕ, List, length, Option, Some, None, OnOk, OnErr, IfSome, IsSome, IsErr};
+ghost use Rattle.std.specs.Prelude.{◌≡◌, ◌≤◌, ◌<◌, ℕ, List, length, Option, Some, None, true, IfOk, OnOk, OnErr, IfSome, IsSome, IsErr, bytes_eq};
 ghost use Rattle.std.specs.Prelude.{option_copied, option_map};
 ghost use Rattle.std.specs.List.{concat};
 ghost use Rattle.ads_outside.specs.declared.event.Event.{Event as EventOf};
@@ -12,18 +12,22 @@ ghost use Rattle.spec_machine.specs.Connection.{MAX_QUEUED};
 ghost use Rattle.spec_machine.specs.MachineState.{MachineState};
 ghost use Rattle.spec_machine.specs.Moves.{EventStep};
 ghost use Rattle.spec_machine.specs.Running.{OpensNew, offer_at, is_to_be_shut_at};
+ghost use Rattle.spec_store.specs.BodyText.{is_body_text};
 ghost use Rattle.ads_outside.specs.Wholes.{wholes};
 ghost use Rattle.ads_served.specs.Standing.{Standing, standing_after, standing_after_all};
 ghost use Rattle.ads_served.specs.Due.{LeavesOutIdle, FitsOffer, IsRun};
 ghost use Rattle.ads_served.specs.Opened.{AreApart, OpensAlone};
 
-use ads_base::NoMemory;
+use ads_base::{NoMemory, Octets};
 use ads_outside::Event;
 use std::alloc::Global;
 use std::thread::Threads;
 
 /// A machine over connections: events go in, frames for each connection come out.
 pub trait Served {
+    /// What an event comes to.
+    type Came: Drop;
+
     /// Its world, and what it keeps for a client.
     ghost World: { Type 0 };
 
@@ -31,6 +35,12 @@ pub trait Served {
 
     /// How an event changes its state.
     ghost steps: { EventStep World Client };
+
+    /// The body text of a world: what is kept of it over a stop.
+    ghost body_of: { World → List ℕ };
+
+    /// What an event comes to in a state.
+    ghost comes_to: { MachineState World Client → EventOf → Self.Came → Type 0 };
 
     /// What it notes of an event: one note of a reload.
     ghost noted: { MachineState World Client → EventOf → List ReloadNote };
@@ -50,16 +60,17 @@ pub trait Served {
     /// Memory was wanting.
     ghost has_failed: { Self → Type 0 };
 
-    /// Takes one event. After want of memory it answers want of memory from then on.
+    /// Takes one event, and says what it came to. After want of memory it answers want of memory from then on.
     fn step<T: Threads + Sync>(
         &mut self,
         rt: &T,
         alloc: Global,
         event: &Event,
-    ) -> Result<(), NoMemory>
+    ) -> Result<Self::Came, NoMemory>
         requires { IsSync T.row }
         ensures follows { OnOk result ((x : Standing World Client) → serves self.old x → OpensNew x.running event.now
             → serves self.new (standing_after steps noted x (move.Event event.now))) }
+        ensures came { IfOk result (λ came. (x : Standing World Client) → serves self.old x → comes_to x.running.state event.now came) }
         ensures no_memory { OnErr result (has_failed self.new) }
         ensures from_then_on { has_failed self.old → IsErr result };
 
@@ -110,6 +121,16 @@ pub trait Served {
         ensures shut { (x : Standing World Client) → serves self.old x → serves self.new (standing_after steps noted x (move.Shut conn)) }
         ensures lost { (x : Standing World Client) → serves self.old x → serves self.new (standing_after steps noted x (move.Lost conn)) }
         ensures from_then_on { has_failed self.old → has_failed self.new };
+
+    /// The body text of the world that it stands for.
+    fn body(&self, alloc: Global) -> Result<Octets, NoMemory>
+        ensures body { IfOk result (λ body. (x : Standing World Client) → serves self.now x → body ≡ body_of x.running.state.world) }
+        ensures text { IfOk result (λ body. (x : Standing World Client) → serves self.now x → is_body_text body ≡ true) };
+
+    /// Whether a text is that body text, which is not made for it.
+    fn is_body(&self, alloc: Global, text: &[u8]) -> Result<bool, NoMemory>
+        ensures { IfOk result (λ same. (x : Standing World Client) → serves self.now x
+            → same ≡ bytes_eq text.now (body_of x.running.state.world)) };
 
     /// No two connections of what it stands for have one number.
     ghost apart: { (m : Self) (x : Standing World Client) → serves m x → AreApart x.running.state.connections };

@@ -5,6 +5,7 @@ use Rattle.ads_outside.specs.declared.event.Event.{Event}
 use Rattle.ads_outside.specs.declared.moves.Move.{Move}
 use Rattle.ads_outside.specs.declared.moves.Move.TheVariants as move
 use Rattle.spec_plant.specs.Description.{Description}
+use Rattle.spec_store.specs.BodyText.{body_text}
 use Rattle.spec_machine.specs.Running.{Running, running_after}
 use Rattle.ads_served.specs.Standing.{Standing, Noting}
 use Rattle.spec_relay.specs.RelayState.{RelayWorld, Owned, RelayState}
@@ -39,6 +40,14 @@ standing_at_start s = record { running = record { state = s; blocked = [] }; not
 -- a relay notes nothing
 abbrev pub nothing_noted : Noting RelayWorld Owned
 nothing_noted s e = []
+
+-- nothing of a relay is kept: the body text without entries
+abbrev pub nothing_kept : RelayWorld → List ℕ
+nothing_kept w = body_text []
+
+-- nothing is told of an event
+abbrev pub ComesToNothing : RelayState → Event → Unit {0} → Type 0
+ComesToNothing s e came = Unit {0}
 
 -- a relay that has not failed stands for a running machine, and its counts are the state's
 pub record StandsAt (relay : Relay) (x : RelayStanding) : Type 0 where

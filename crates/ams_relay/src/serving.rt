@@ -5,23 +5,32 @@ ghost use Rattle.spec_machine.specs.Running.{OpensNew};
 ghost use Rattle.ams_relay.specs.Relays.{RelayRunning, StandsRunning, running_after_event};
 
 use crate::Relay;
-use ads_base::NoMemory;
+use ads_base::{NoMemory, Octets};
 use ads_outside::Event;
 use ads_served::Served;
 use std::alloc::Global;
 use std::thread::Threads;
 
+// The body text without entries: how many there are, in four bytes.
+const NO_ENTRIES: [u8; 4] = [0; 4];
+
 impl Served for Relay {
     ghost use Rattle.spec_relay.specs.RelayState.{RelayWorld, Owned};
     ghost use Rattle.spec_relay.specs.RelayMoves.{relay_after_event};
-    ghost use Rattle.ams_relay.specs.Relays.{StandsAt, HasFailed, nothing_noted, offer_in, run_in, offers_in};
+    ghost use Rattle.ams_relay.specs.Relays.{StandsAt, HasFailed, nothing_kept, ComesToNothing, nothing_noted, offer_in, run_in, offers_in};
     ghost use Rattle.spec_relay.proofs.OpenedAlone.{relay_opens_alone};
+
+    type Came = ();
 
     ghost World = { RelayWorld };
 
     ghost Client = { Owned };
 
     ghost steps = { relay_after_event };
+
+    ghost body_of = { nothing_kept };
+
+    ghost comes_to = { ComesToNothing };
 
     ghost noted = { nothing_noted };
 
@@ -85,6 +94,14 @@ impl Served for Relay {
 
     fn remove(&mut self, conn: u32) {
         self.end(conn);
+    }
+
+    fn body(&self, alloc: Global) -> Result<Octets, NoMemory> {
+        Octets::copy_of(alloc, &NO_ENTRIES)
+    }
+
+    fn is_body(&self, _alloc: Global, text: &[u8]) -> Result<bool, NoMemory> {
+        Ok(text == NO_ENTRIES.as_slice())
     }
 
     ghost apart = { λ m x s. s.holds.outlets.apart };

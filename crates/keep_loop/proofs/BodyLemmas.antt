@@ -10,8 +10,11 @@ use Rattle.spec_machine.specs.Connection.{Connection, connection_of}
 use Rattle.spec_machine.specs.MachineState.{MachineState, Exchange, exchange_of, after_exchange}
 use Rattle.spec_machine.specs.Moves.{EventStep, with_gone, with_took, state_after_move, state_after}
 use Rattle.spec_machine.specs.Running.{Running}
+use Rattle.spec_machine.specs.Turns.{LogTurn, moves_of_turn}
+use Rattle.ads_served.specs.Standing.{Standing, Noting, standing_after_all}
 use Rattle.serve_loop.specs.Leads.{events_in}
 use Rattle.serve_loop.specs.TurnTaken.{IsTurnOf}
+use Rattle.serve_loop.proofs.LeadLemmas.{standing-running}
 use Rattle.keep_loop.specs.Bodies.{BodyOf, bodies_at_event, bodies_at_move, bodies_at_ticks, bodies_of_run}
 
 pub bodies-append : {W C : Type 0} (body_of : BodyOf W) (step : EventStep W C) (ms ns : List Move) (s : MachineState W C)
@@ -23,6 +26,10 @@ bodies-append body_of step (m ∷ ms) ns s =
     let here = bodies_at_move m (body_of later.world) in
     ap (λ l. here ++ l) (bodies-append body_of step ms ns later)
     ∙ sym (append_assoc here (bodies_at_ticks body_of step later ms) (bodies_at_ticks body_of step (state_after step later ms) ns))
+
+pub state_played : {W C : Type 0} (step : EventStep W C) (noted : Noting W C) (x : Standing W C) (ms : List Move)
+    → (standing_after_all step noted x ms).running.state ≡ state_after step x.running.state ms
+state_played {W} {C} step noted x ms = ap (λ (r : Running W C). r.state) (standing-running step noted x ms)
 
 -- a first part of a log has the first of its bodies
 pub state-append : {W C : Type 0} (step : EventStep W C) (ms ns : List Move) (s : MachineState W C)
@@ -73,6 +80,11 @@ unfolding bodies_at_ticks state_after state_after_move
 one_event body_of step e ms s none =
     ap (λ l. bodies_at_event e (body_of (step s e).world) ++ l) (no_bodies body_of step ms (step s e) none)
     ∙ (append-nil (bodies_at_event e (body_of (step s e).world)) ∙ ap (λ w. bodies_at_event e (body_of w)) (sym (same_world step ms (step s e) none)))
+
+-- the same of a turn with one event
+pub turn_shown : {W C : Type 0} (body_of : BodyOf W) (step : EventStep W C) (t : LogTurn) (s : MachineState W C) → events_in (moves_of_turn t) ≡ 1
+    → bodies_at_ticks body_of step s (moves_of_turn t) ≡ bodies_at_event t.event (body_of (state_after step s (moves_of_turn t)).world)
+turn_shown body_of step t s one = one_event body_of step t.event (flat_map (λ moves. moves) t.served) s (omega (arith, one))
 
 -- the bodies of a turn: what its event is looked at for, at the end of the turn
 pub turn_bodies : {W C : Type 0} (body_of : BodyOf W) (step : EventStep W C) (e : Event) (x : Running W C) (ms : List Move)

@@ -1,23 +1,20 @@
--- The turns so far and the bodies that were looked at go on with a turn, and how a run ends.
-use Rattle.std.proofs.Common.{◌≡◌, ℕ, ◌+◌, ◌-◌, ◌<◌, ◌≤◌, List, [], ◌∷◌, ◌++◌, true, false, refl, sym, ap, ◌∙◌, subst, append-nil, inl, inr, arith}
+-- How a run that serves on ends: what became of the bodies of its moves, and of the look at its end.
+use Rattle.std.proofs.Common.{◌≡◌, ℕ, ◌+◌, ◌-◌, ◌<◌, ◌≤◌, List, [], ◌∷◌, ◌++◌, true, false, refl, sym, ap, ◌∙◌, subst, inl, inr, arith}
 use Rattle.std.specs.Prelude.{◌⊎◌, Option, Some, None}
 use Rattle.ads_outside.specs.declared.end.End.{End}
 use Rattle.ads_outside.specs.declared.end.End.TheVariants as end
 use Rattle.ads_outside.specs.declared.moves.Move.{Move}
 use Rattle.ads_outside.specs.Rose.{Rose}
-use Rattle.ads_outside.specs.WireAnswers.{Stops}
-use Rattle.ads_outside.specs.WireState.{WireState, WireHistory, history_after, end_answered}
-use Rattle.spec_machine.specs.Delivery.{AreOffers}
+use Rattle.ads_outside.specs.WireState.{WireState, WireHistory, history_after}
 use Rattle.spec_machine.specs.MachineState.{MachineState}
 use Rattle.spec_machine.specs.Moves.{EventStep, state_after}
-use Rattle.spec_machine.specs.Running.{Running}
 use Rattle.ads_served.specs.Standing.{Standing, Noting, standing_after_all}
-use Rattle.serve_loop.specs.declared.turn_end.Turn.{Turn}
-use Rattle.serve_loop.specs.declared.turn_end.Turn.TheVariants as turn
+use Rattle.serve_loop.specs.declared.loop_end.LoopEnd.TheVariants as loop
+use Rattle.serve_loop.specs.Beside.{AfterLoop, ShowsTurns}
 use Rattle.serve_loop.specs.Leads.{events_in}
-use Rattle.serve_loop.specs.TurnTaken.{StandsOver, IsTurnOf, TakesEvent, TakesTurns, Stays, BreaksTurn, AfterServe}
-use Rattle.serve_loop.proofs.LeadLemmas.{standing-append, history-append, events-append, standing-running, AreOffers-append}
-use Rattle.serve_loop.proofs.TurnLemmas.{turns_none, turns_then, stands_over}
+use Rattle.serve_loop.specs.Looks.{Look}
+use Rattle.serve_loop.specs.TurnTaken.{StandsOver, TakesTurns}
+use Rattle.serve_loop.proofs.LeadLemmas.{history-append, events-append}
 use Rattle.persist_store.specs.Store.{StoreState, IsReady}
 use Rattle.keep_loop.specs.declared.kept_on.KeptOn.{KeptOn}
 use Rattle.keep_loop.specs.declared.save_counts.SaveCounts.{SaveCounts}
@@ -26,21 +23,14 @@ use Rattle.keep_loop.specs.declared.save_end.SaveEnd.TheVariants as save
 use Rattle.keep_loop.specs.Bodies.{BodyOf, bodies_at_ticks, paced, bodies_looked_at, bodies_to_end}
 use Rattle.keep_loop.specs.Keeping.{left_behind}
 use Rattle.keep_loop.specs.KeepingOn.{is_kept, FileHolds, KeepsOn, ServesAndKeeps}
-use Rattle.keep_loop.specs.Looking.{none_counted, counted, AreFew, AfterLook, EndsByLook, LookedSoFar, ServesOnSoFar}
-use Rattle.keep_loop.specs.Saving.{StandsForSome}
-use Rattle.keep_loop.proofs.BodyLemmas.{bodies-append, turn_bodies}
-use Rattle.keep_loop.proofs.PaceLemmas.{paced-append, paced-none, left-none, paced-passed, left-passed, paced-due, left-due}
-use Rattle.keep_loop.proofs.TurnLemmas.{state_played, bodies_of_turn, bodies_then, looked_then, pace_then}
-use Rattle.keep_loop.proofs.LookLemmas.{looked_first, looked_more, saved_each, holds_last}
+use Rattle.keep_loop.specs.Looking.{none_counted, counted, AreFew, AfterLook, EndsByLook, LookedSoFar}
+use Rattle.keep_loop.specs.Marking.{comes_to_end}
+use Rattle.keep_loop.proofs.BodyLemmas.{bodies-append, state_played}
+use Rattle.keep_loop.proofs.PaceLemmas.{paced-append}
+use Rattle.keep_loop.proofs.LookLemmas.{looked_more, saved_each, holds_last}
 
 module _ {W C D : Type 0} (every : ℕ) (of_world : BodyOf W) (step : EventStep W C) (noted : Noting W C) (contents : D → Option (List ℕ))
     (may_leave : D → List ℕ → Type 0) (moment : D → ℕ) (left_since : D → ℕ → List ℕ → Type 0) where
-  abbrev SoFar : (Standing W C → List Move → Type 0) → (Standing W C → Type 0) → (Standing W C → Type 0) → WireHistory → WireHistory → ℕ → ℕ
-      → D → D → StoreState → StoreState → SaveCounts → Type 0
-  SoFar Also old_serves new_serves old new count left old_disk new_disk first now counts =
-      ServesOnSoFar Also every of_world step noted contents may_leave moment left_since old_serves new_serves old new count left old_disk new_disk first now
-      counts
-
   abbrev Looked : D → D → StoreState → StoreState → SaveCounts → List (List ℕ) → Type 0
   Looked old_disk new_disk first now counts looked = LookedSoFar contents may_leave moment left_since old_disk new_disk first now counts looked
 
@@ -48,207 +38,44 @@ module _ {W C D : Type 0} (every : ℕ) (of_world : BodyOf W) (step : EventStep 
   Looks serves mid_disk new_disk mid now by =
       (x : Standing W C) → serves x → AfterLook by (of_world x.running.state.world) contents may_leave moment left_since mid_disk new_disk mid now
 
-  -- before the first turn
-  pub on_first : (Also : Standing W C → List Move → Type 0) (serves : Standing W C → Type 0) (h : WireHistory) (disk : D) (store : StoreState)
-      → ((x : Standing W C) → Also x []) → ((d : D) (c : List ℕ) → left_since d (moment d) c → may_leave d c) → IsReady contents may_leave disk store
-      → store.shut ≡ false
-      → SoFar Also serves serves h h 0 (every - 1) disk disk store store none_counted
-  unfolding history_after standing_after_all bodies_at_ticks paced left_behind
-  on_first Also serves h disk store also only ready open_ = record {
-    turns = record { moves = []; logged = refl; events = refl; stands = λ x over. over; are = λ x over. turns_none step x.running };
-    pace = λ x over. refl;
-    looked = λ x over. looked_first contents may_leave moment left_since disk store only ready open_;
-    also = λ x over. also x;
-  }
+  -- whatever was served before, the bodies of these moves were looked at
+  abbrev pub LooksIn : (Standing W C → Type 0) → WireHistory → D → D → StoreState → StoreState → SaveCounts → List Move → Type 0
+  LooksIn old_serves old old_disk disk first now counts moves = (x : Standing W C) → StandsOver old_serves old.opened x
+      → Looked old_disk disk first now counts (bodies_looked_at every of_world step x.running.state moves)
 
-  -- it stands for something after these turns
-  some_now : (old_serves new_serves : Standing W C → Type 0) (old new : WireHistory) (count : ℕ)
-      → TakesTurns step noted old_serves new_serves old new count
-      → StandsForSome (StandsOver old_serves old.opened) → StandsForSome (StandsOver new_serves new.opened)
-  some_now old_serves new_serves old new count turns some =
-      record { standing = standing_after_all step noted some.standing turns.moves; stands = turns.stands some.standing some.stands }
-
-  pub some_at_tick : (old_serves mid_serves new_serves : Standing W C → Type 0) (old mid new : WireHistory) (count : ℕ) (tells : Turn)
-      → TakesTurns step noted old_serves mid_serves old mid count → TakesEvent step noted mid_serves new_serves mid new tells
-      → StandsForSome (StandsOver old_serves old.opened) → StandsForSome new_serves
-  some_at_tick old_serves mid_serves new_serves old mid new count tells turns takes some =
-      let here = some_now old_serves mid_serves old mid count turns some in
-      record { standing = standing_after_all step noted here.standing takes.leads.moves; stands = (takes.leads.stands here.standing here.stands).stands }
-
-  pub some_at_last : (old_serves mid_serves new_serves : Standing W C → Type 0) (old mid : WireHistory) (count : ℕ)
-      → TakesTurns step noted old_serves mid_serves old mid count → Stays mid_serves new_serves
-      → StandsForSome (StandsOver old_serves old.opened) → StandsForSome new_serves
-  some_at_last old_serves mid_serves new_serves old mid count turns stays some =
-      let here = some_now old_serves mid_serves old mid count turns some in
-      record { standing = here.standing; stands = stays here.standing here.stands.stands }
-
-  -- what else holds of some moves goes on with the moves of a turn, and with what is looked at behind it
-  abbrev pub AlsoOn : (Standing W C → List Move → Type 0) → (Standing W C → List Move → Type 0) → WireHistory → WireHistory → ℕ → Turn
-      → D → D → StoreState → StoreState → SaveCounts → Type 0
-  AlsoOn Also Then old new left tells old_disk disk first now counts = (x z : Standing W C) (ms ns : List Move)
-      → events_in ns ≡ 1 → new ≡ history_after old (ms ++ ns)
-      → bodies_looked_at every of_world step x.running.state (ms ++ ns)
-      ≡ bodies_looked_at every of_world step x.running.state ms ++ paced every left (bodies_of_turn tells (of_world z.running.state.world))
-      → Looked old_disk disk first now counts (bodies_looked_at every of_world step x.running.state (ms ++ ns))
-      → Also x ms → Then x (ms ++ ns)
-
-  -- a turn more
-  on_then : (Also Then : Standing W C → List Move → Type 0) (old_serves mid_serves new_serves : Standing W C → Type 0) (old mid new : WireHistory)
-      (count left then_ : ℕ) (tells : Turn)
-      (old_disk mid_disk disk : D) (first mid_store now : StoreState) (counts more : SaveCounts)
-      → AlsoOn Also Then old new left tells old_disk disk first now more
-      → SoFar Also old_serves mid_serves old mid count left old_disk mid_disk first mid_store counts
-      → TakesEvent step noted mid_serves new_serves mid new tells
-      → ((body : List ℕ) → then_ ≡ left_behind every left (bodies_of_turn tells body))
-      → ((z : Standing W C) → StandsOver new_serves new.opened z → (looked : List (List ℕ))
-      → Looked old_disk mid_disk first mid_store counts looked
-      → Looked old_disk disk first now more (looked ++ paced every left (bodies_of_turn tells (of_world z.running.state.world))))
-      → SoFar Then old_serves new_serves old new (count + 1) then_ old_disk disk first now more
-  on_then Also Then old_serves mid_serves new_serves old mid new count left then_ tells old_disk mid_disk disk first mid_store now counts more goes_on so_far
-      takes next adds =
-      let turns = so_far.turns in
-      let ms = turns.moves in
-      let ns = takes.leads.moves in
-      let bodies = λ (x : Standing W C) (over : StandsOver old_serves old.opened x).
-      let y = standing_after_all step noted x ms in
-      bodies_then every of_world step noted x y (standing_after_all step noted y ns) takes.event tells ms ns
-      (state_played step noted x ms) (state_played step noted y ns)
-      takes.kind (turn_bodies of_world step takes.event y.running ns (takes.leads.are y (turns.stands x over)) takes.leads.events) in
-      let logged : new ≡ history_after old (ms ++ ns) =
-      takes.leads.logged ∙ (ap (λ h. history_after h ns) turns.logged ∙ sym (history-append old ms ns)) in
-      let more_looked = λ (x : Standing W C) (over : StandsOver old_serves old.opened x).
-      let z = standing_after_all step noted (standing_after_all step noted x ms) ns in
-      looked_then every of_world step noted left (every - 1) (bodies_at_ticks of_world step x.running.state ms)
-      (bodies_of_turn tells (of_world z.running.state.world)) (bodies_at_ticks of_world step x.running.state (ms ++ ns)) (bodies x over)
-      (so_far.pace x over) in
-      let looked = λ (x : Standing W C) (over : StandsOver old_serves old.opened x).
-      let y = standing_after_all step noted x ms in
-      let z = standing_after_all step noted y ns in
-      let P : List (List ℕ) → Type 0 = λ l. Looked old_disk disk first now more l in
-      subst P (sym (more_looked x over))
-      (adds z (takes.leads.stands y (turns.stands x over)) (paced every (every - 1) (bodies_at_ticks of_world step x.running.state ms))
-      (so_far.looked x over)) in
-      record {
-        turns = record {
-          moves = ms ++ ns;
-          logged = logged;
-          events = events-append ms ns ∙ (ap (λ k. k + events_in ns) turns.events ∙ ap (λ k. count + k) takes.leads.events);
-          stands = λ x over. subst (StandsOver new_serves new.opened) (sym (standing-append step noted x ms ns))
-              (takes.leads.stands (standing_after_all step noted x ms) (turns.stands x over));
-          are = λ x over.
-              let P : Running W C → Type 0 = λ y. IsTurnOf step takes.event y ns in
-              turns_then step takes.event x.running ms ns (turns.are x over)
-              (subst P (standing-running step noted x ms) (takes.leads.are (standing_after_all step noted x ms) (turns.stands x over)));
-        };
-        pace = λ x over.
-            let z = standing_after_all step noted (standing_after_all step noted x ms) ns in
-            let body = of_world z.running.state.world in
-            pace_then every of_world step noted left then_ (every - 1) (bodies_at_ticks of_world step x.running.state ms) (bodies_of_turn tells body)
-            (bodies_at_ticks of_world step x.running.state (ms ++ ns)) (bodies x over) (so_far.pace x over) (next body);
-        looked = looked;
-        also = λ x over.
-            goes_on x (standing_after_all step noted (standing_after_all step noted x ms) ns) ms ns takes.leads.events logged
-            (more_looked x over) (looked x over) (so_far.also x over);
-      }
-
-  -- one behind which nothing is looked at
-  passes : (Also Then : Standing W C → List Move → Type 0) (old_serves mid_serves new_serves : Standing W C → Type 0) (old mid new : WireHistory)
-      (count left then_ : ℕ) (tells : Turn)
-      (old_disk disk : D) (first now : StoreState) (counts : SaveCounts)
-      → AlsoOn Also Then old new left tells old_disk disk first now counts
-      → SoFar Also old_serves mid_serves old mid count left old_disk disk first now counts
-      → TakesEvent step noted mid_serves new_serves mid new tells
-      → ((body : List ℕ) → then_ ≡ left_behind every left (bodies_of_turn tells body))
-      → ((body : List ℕ) → paced every left (bodies_of_turn tells body) ≡ [])
-      → SoFar Then old_serves new_serves old new (count + 1) then_ old_disk disk first now counts
-  passes Also Then old_serves mid_serves new_serves old mid new count left then_ tells old_disk disk first now counts goes_on so_far takes next none =
-      let P : List (List ℕ) → Type 0 = λ looked. Looked old_disk disk first now counts looked in
-      on_then Also Then old_serves mid_serves new_serves old mid new count left then_ tells old_disk disk disk first now now counts counts goes_on so_far
-      takes next
-      (λ z over looked so_far. subst P (sym (ap (λ l. looked ++ l) (none (of_world z.running.state.world)) ∙ append-nil looked)) so_far)
-
-  pub on_other : (Also Then : Standing W C → List Move → Type 0) (old_serves mid_serves new_serves : Standing W C → Type 0) (old mid new : WireHistory)
-      (count left : ℕ)
-      (old_disk disk : D) (first now : StoreState) (counts : SaveCounts)
-      → AlsoOn Also Then old new left turn.Other old_disk disk first now counts
-      → SoFar Also old_serves mid_serves old mid count left old_disk disk first now counts
-      → TakesEvent step noted mid_serves new_serves mid new turn.Other
-      → SoFar Then old_serves new_serves old new (count + 1) left old_disk disk first now counts
-  on_other Also Then old_serves mid_serves new_serves old mid new count left old_disk disk first now counts goes_on so_far takes =
-      passes Also Then old_serves mid_serves new_serves old mid new count left left turn.Other old_disk disk first now counts goes_on so_far takes
-      (λ body. left-none every left) (λ body. paced-none every left)
-
-  pub on_passed : (Also Then : Standing W C → List Move → Type 0) (old_serves mid_serves new_serves : Standing W C → Type 0) (old mid new : WireHistory)
-      (count left : ℕ)
-      (old_disk disk : D) (first now : StoreState) (counts : SaveCounts) → 0 < left
-      → AlsoOn Also Then old new left turn.Tick old_disk disk first now counts
-      → SoFar Also old_serves mid_serves old mid count left old_disk disk first now counts
-      → TakesEvent step noted mid_serves new_serves mid new turn.Tick
-      → SoFar Then old_serves new_serves old new (count + 1) (left - 1) old_disk disk first now counts
-  on_passed Also Then old_serves mid_serves new_serves old mid new count left old_disk disk first now counts pass goes_on so_far takes =
-      passes Also Then old_serves mid_serves new_serves old mid new count left (left - 1) turn.Tick old_disk disk first now counts goes_on so_far takes
-      (λ body. left-passed every left body pass) (λ body. paced-passed every left body pass)
-
-  -- a tick whose body is looked at
-  pub on_looked : (Also Then : Standing W C → List Move → Type 0) (by : SaveEnd) (old_serves mid_serves new_serves : Standing W C → Type 0)
-      (old mid new : WireHistory) (count left : ℕ)
-      (old_disk mid_disk disk : D) (first mid_store now : StoreState) (counts : SaveCounts) → left ≡ 0
-      → ((d : D) (file : List ℕ) → contents d ≡ Some file → may_leave d file)
-      → ((d : D) (t : ℕ) (c : List ℕ) → t ≤ moment d → may_leave d c → left_since d t c)
-      → AlsoOn Also Then old new left turn.Tick old_disk disk first now (counted by counts)
-      → SoFar Also old_serves mid_serves old mid count left old_disk mid_disk first mid_store counts
-      → TakesEvent step noted mid_serves new_serves mid new turn.Tick → Looks new_serves mid_disk disk mid_store now by
-      → SoFar Then old_serves new_serves old new (count + 1) (every - 1) old_disk disk first now (counted by counts)
-  on_looked Also Then by old_serves mid_serves new_serves old mid new count left old_disk mid_disk disk first mid_store now counts due here laws goes_on
-      so_far takes looks =
-      on_then Also Then old_serves mid_serves new_serves old mid new count left (every - 1) turn.Tick old_disk mid_disk disk first mid_store now
-      counts (counted by counts) goes_on so_far takes (λ body. left-due every left body due)
-      (λ z over looked so_far.
-      let body = of_world z.running.state.world in
-      let P : List (List ℕ) → Type 0 = λ more. Looked old_disk disk first now (counted by counts) (looked ++ more) in
-      subst P (sym (paced-due every left body due))
-      (looked_more contents may_leave moment left_since by old_disk mid_disk disk first mid_store now counts looked body here laws so_far
-      (looks z over.stands)))
+  -- what was shown of turns says so of their moves
+  abbrev pub ShowsLooks : {K : Type 0} → (K → List Look → Type 0) → (Standing W C → Type 0) → WireHistory → D → D → StoreState → StoreState → SaveCounts → Type 1
+  ShowsLooks Seen old_serves old old_disk disk first now counts = (new_serves : Standing W C → Type 0) (mid : WireHistory) (count : ℕ)
+      (shows : ShowsTurns of_world step noted old_serves new_serves old mid count Seen)
+      → LooksIn old_serves old old_disk disk first now counts shows.turns.moves
 
   -- so a run ends
   abbrev Ends : KeptOn → (Standing W C → Type 0) → (Standing W C → Type 0) → WireState → WireState → ℕ → D → D → StoreState → Type 0
   Ends r old_serves new_serves old new limit old_disk disk first =
       ServesAndKeeps r every of_world step noted old_serves new_serves contents may_leave moment left_since old_disk disk first.standing old new limit
 
-  -- the turns, where what is served may be seen otherwise
-  abbrev turns_to : (old_serves mid_serves new_serves : Standing W C → Type 0) (old mid : WireHistory) (count : ℕ)
-      → TakesTurns step noted old_serves mid_serves old mid count → Stays mid_serves new_serves
-      → TakesTurns step noted old_serves new_serves old mid count
-  turns_to old_serves mid_serves new_serves old mid count turns stays = record {
-    moves = turns.moves;
-    logged = turns.logged;
-    events = turns.events;
-    stands = λ x over. stands_over mid_serves new_serves mid.opened stays (standing_after_all step noted x turns.moves) (turns.stands x over);
-    are = turns.are;
-  }
-
-  -- the bodies of these moves, with the look at their end
-  keeps_last : (Also : Standing W C → List Move → Type 0) (by : SaveEnd) (r : KeptOn) (old_serves mid_serves new_serves : Standing W C → Type 0)
-      (old mid : WireHistory) (count left : ℕ)
+  -- the bodies of the turns' moves, with the look at their end
+  keeps_last : (by : SaveEnd) (r : KeptOn) (old_serves new_serves : Standing W C → Type 0) (old mid : WireHistory) (count : ℕ)
       (old_disk mid_disk disk : D) (first mid_store now : StoreState) (counts : SaveCounts)
       → ((d : D) (file : List ℕ) → contents d ≡ Some file → may_leave d file)
       → ((d : D) (t : ℕ) (c : List ℕ) → t ≤ moment d → may_leave d c → left_since d t c)
       → r.last ≡ Some by → r.counts ≡ counted by counts
-      → (so_far : SoFar Also old_serves mid_serves old mid count left old_disk mid_disk first mid_store counts) → Stays mid_serves new_serves
+      → (turns : TakesTurns step noted old_serves new_serves old mid count)
+      → LooksIn old_serves old old_disk mid_disk first mid_store counts turns.moves
       → Looks new_serves mid_disk disk mid_store now by → IsReady contents may_leave disk now
       → (x : Standing W C) → StandsOver old_serves old.opened x
-      → KeepsOn r (λ looked. looked ≡ bodies_to_end every of_world step x.running.state so_far.turns.moves)
-      (of_world (state_after step x.running.state so_far.turns.moves).world) contents may_leave moment left_since old_disk disk first.standing
-  keeps_last Also by r old_serves mid_serves new_serves old mid count left old_disk mid_disk disk first mid_store now counts here laws last_is counts_are
-      so_far stays looks ready x over =
-      let ms = so_far.turns.moves in
+      → KeepsOn r (λ looked. looked ≡ bodies_to_end every of_world step x.running.state turns.moves)
+      (of_world (state_after step x.running.state turns.moves).world) contents may_leave moment left_since old_disk disk first.standing
+  keeps_last by r old_serves new_serves old mid count old_disk mid_disk disk first mid_store now counts here laws last_is counts_are turns so_far
+      looks ready x over =
+      let ms = turns.moves in
       let y = standing_after_all step noted x ms in
       let played = state_played step noted x ms in
       let body = of_world y.running.state.world in
       let before = bodies_looked_at every of_world step x.running.state ms in
-      let look = looks y (stays y (so_far.turns.stands x over).stands) in
+      let look = looks y (turns.stands x over).stands in
       let all = looked_more contents may_leave moment left_since by old_disk mid_disk disk first mid_store now counts before body here laws
-      (so_far.looked x over) look in
+      (so_far x over) look in
       let S : SaveCounts → Type 0 = λ c. Looked old_disk disk first now c (before ++ body ∷ []) in
       let at_end = subst S (sym counts_are) all in
       let H : List ℕ → Type 0 = λ b. (file : List ℕ) → contents old_disk ≡ Some file → FileHolds contents may_leave disk b in
@@ -267,107 +94,80 @@ module _ {W C D : Type 0} (every : ℕ) (of_world : BodyOf W) (step : EventStep 
             (ap is_kept (sym last_is) ∙ kept));
       }
 
-  -- a run whose wire ended
-  pub ends_done : (Also : Standing W C → List Move → Type 0) (r : KeptOn) (old_serves mid_serves new_serves : Standing W C → Type 0) (old : WireState)
-      (mid : WireHistory) (new : WireState)
-      (count left limit : ℕ) (old_disk mid_disk disk : D) (first mid_store now : StoreState) (counts : SaveCounts)
+  -- a run that came to its end, behind the look at it
+  pub ends_looked : {K : Type 0} (ended : End) → comes_to_end ended ≡ true → (Seen : K → List Look → Type 0) (r : KeptOn)
+      (old_serves new_serves : Standing W C → Type 0) (old new : WireState) (limit : ℕ) (old_disk mid_disk disk : D)
+      (first mid_store now : StoreState) (counts : SaveCounts)
       → ((d : D) (file : List ℕ) → contents d ≡ Some file → may_leave d file)
       → ((d : D) (t : ℕ) (c : List ℕ) → t ≤ moment d → may_leave d c → left_since d t c)
-      → SoFar Also old_serves mid_serves old.history mid count left old_disk mid_disk first mid_store counts → count < limit
-      → new.history ≡ end_answered mid → Stays mid_serves new_serves
-      → EndsByLook r end.Done counts (Looks new_serves mid_disk disk mid_store now) → IsReady contents may_leave disk now
+      → ShowsLooks Seen old_serves old.history old_disk mid_disk first mid_store counts
+      → AfterLoop (loop.Ended ended) of_world step noted old_serves new_serves old new limit Seen
+      → EndsByLook r ended counts (Looks new_serves mid_disk disk mid_store now) → IsReady contents may_leave disk now
       → Ends r old_serves new_serves old new limit old_disk disk first
-  ends_done Also r old_serves mid_serves new_serves old mid new count left limit old_disk mid_disk disk first mid_store now counts here laws so_far fewer ended
-      stays ends ready =
+  ends_looked end.Done to_end Seen r old_serves new_serves old new limit old_disk mid_disk disk first mid_store now counts here laws so_far after ends
+      ready =
       let is : KeptOn = record { ended = end.Done; last = Some ends.by; counts = counted ends.by counts } in
       let P : KeptOn → Type 0 = λ e. Ends e old_serves new_serves old new limit old_disk disk first in
+      let turns = after.shows.turns in
       subst P (sym ends.is) (record {
-        serve = record {
-          last = mid;
-          count = count;
-          fewer = fewer;
-          turns = turns_to old_serves mid_serves new_serves old.history mid count so_far.turns stays;
-          then_ = ended;
-        };
-        keeps = λ x over. keeps_last Also ends.by is old_serves mid_serves new_serves old.history mid count left old_disk mid_disk disk first mid_store now
-            counts here laws refl refl so_far stays ends.looks ready x over;
+        serve = record { last = after.last; count = after.count; fewer = after.fewer; turns = turns; then_ = after.then_ };
+        keeps = λ x over. keeps_last ends.by is old_serves new_serves old.history after.last after.count old_disk mid_disk disk first mid_store now counts
+            here laws refl refl turns (so_far new_serves after.last after.count after.shows) ends.looks ready x over;
       })
-
-  -- one whose wire failed
-  pub ends_fault : (Also : Standing W C → List Move → Type 0) (r : KeptOn) (old_serves mid_serves new_serves : Standing W C → Type 0) (old : WireState)
-      (mid : WireHistory) (new : WireState)
-      (count left limit : ℕ) (old_disk mid_disk disk : D) (first mid_store now : StoreState) (counts : SaveCounts)
-      → ((d : D) (file : List ℕ) → contents d ≡ Some file → may_leave d file)
-      → ((d : D) (t : ℕ) (c : List ℕ) → t ≤ moment d → may_leave d c → left_since d t c)
-      → SoFar Also old_serves mid_serves old.history mid count left old_disk mid_disk first mid_store counts → count < limit
-      → Stops old new mid → Stays mid_serves new_serves
-      → EndsByLook r end.LinkFault counts (Looks new_serves mid_disk disk mid_store now) → IsReady contents may_leave disk now
-      → Ends r old_serves new_serves old new limit old_disk disk first
-  ends_fault Also r old_serves mid_serves new_serves old mid new count left limit old_disk mid_disk disk first mid_store now counts here laws so_far fewer stops
-      stays ends ready =
+  ends_looked end.LinkFault to_end Seen r old_serves new_serves old new limit old_disk mid_disk disk first mid_store now counts here laws so_far after ends
+      ready =
       let is : KeptOn = record { ended = end.LinkFault; last = Some ends.by; counts = counted ends.by counts } in
       let P : KeptOn → Type 0 = λ e. Ends e old_serves new_serves old new limit old_disk disk first in
+      let turns = after.shows.turns in
       subst P (sym ends.is) (record {
-        serve = record {
-          last = mid;
-          count = count;
-          fewer = fewer;
-          turns = turns_to old_serves mid_serves new_serves old.history mid count so_far.turns stays;
-          then_ = stops;
-        };
-        keeps = λ x over. keeps_last Also ends.by is old_serves mid_serves new_serves old.history mid count left old_disk mid_disk disk first mid_store now
-            counts here laws refl refl so_far stays ends.looks ready x over;
+        serve = record { last = after.last; count = after.count; fewer = after.fewer; turns = turns; then_ = after.then_ };
+        keeps = λ x over. keeps_last ends.by is old_serves new_serves old.history after.last after.count old_disk mid_disk disk first mid_store now counts
+            here laws refl refl turns (so_far new_serves after.last after.count after.shows) ends.looks ready x over;
       })
-
-  -- one that took all turns that were allowed
-  pub ends_budget : (Also : Standing W C → List Move → Type 0) (r : KeptOn) (old_serves new_serves : Standing W C → Type 0) (old new : WireState)
-      (count left limit : ℕ) (old_disk mid_disk disk : D) (first mid_store now : StoreState) (counts : SaveCounts)
-      → ((d : D) (file : List ℕ) → contents d ≡ Some file → may_leave d file)
-      → ((d : D) (t : ℕ) (c : List ℕ) → t ≤ moment d → may_leave d c → left_since d t c)
-      → SoFar Also old_serves new_serves old.history new.history count left old_disk mid_disk first mid_store counts → count ≡ limit
-      → EndsByLook r end.Budget counts (Looks new_serves mid_disk disk mid_store now) → IsReady contents may_leave disk now
-      → Ends r old_serves new_serves old new limit old_disk disk first
-  ends_budget Also r old_serves new_serves old new count left limit old_disk mid_disk disk first mid_store now counts here laws so_far all ends ready =
+  ends_looked end.Budget to_end Seen r old_serves new_serves old new limit old_disk mid_disk disk first mid_store now counts here laws so_far after ends
+      ready =
       let is : KeptOn = record { ended = end.Budget; last = Some ends.by; counts = counted ends.by counts } in
       let P : KeptOn → Type 0 = λ e. Ends e old_serves new_serves old new limit old_disk disk first in
-      let turns = so_far.turns in
       subst P (sym ends.is) (record {
-        serve = record { moves = turns.moves; logged = turns.logged; events = turns.events ∙ all; stands = turns.stands; are = turns.are };
-        keeps = λ x over. keeps_last Also ends.by is old_serves new_serves new_serves old.history new.history count left old_disk mid_disk disk first mid_store
-            now counts here laws refl refl so_far (λ y stands. stands) ends.looks ready x over;
+        serve = after.turns;
+        keeps = λ x over. keeps_last ends.by is old_serves new_serves old.history new.history limit old_disk mid_disk disk first mid_store now counts
+            here laws refl refl after.turns (so_far new_serves new.history limit after) ends.looks ready x over;
       })
+  ends_looked end.Memory to_end Seen r old_serves new_serves old new limit old_disk mid_disk disk first mid_store now counts here laws so_far after ends
+      ready = absurd (let never : false ≡ true = to_end in cc)
 
   -- one that memory ended
-  pub ends_memory : (Also : Standing W C → List Move → Type 0) (old_serves mid_serves new_serves : Standing W C → Type 0) (old : WireState)
-      (mid : WireHistory) (new : WireState)
-      (count left limit : ℕ) (old_disk disk : D) (first now : StoreState) (counts : SaveCounts)
-      → SoFar Also old_serves mid_serves old.history mid count left old_disk disk first now counts → count < limit
-      → BreaksTurn step noted mid_serves mid new.history 1 → IsReady contents may_leave disk now
-      → Ends (record { ended = end.Memory; last = None; counts = counts }) old_serves new_serves old new limit old_disk disk first
-  ends_memory Also old_serves mid_serves new_serves old mid new count left limit old_disk disk first now counts so_far fewer breaks ready =
-      let turns = so_far.turns in
+  pub ends_wanting : {K : Type 0} (ended : End) → comes_to_end ended ≡ false → (Seen : K → List Look → Type 0)
+      (old_serves new_serves : Standing W C → Type 0) (old new : WireState) (limit : ℕ) (old_disk disk : D) (first now : StoreState)
+      (counts : SaveCounts) → ShowsLooks Seen old_serves old.history old_disk disk first now counts
+      → AfterLoop (loop.Ended ended) of_world step noted old_serves new_serves old new limit Seen → IsReady contents may_leave disk now
+      → Ends (record { ended = ended; last = None; counts = counts }) old_serves new_serves old new limit old_disk disk first
+  ends_wanting end.Done broken Seen old_serves new_serves old new limit old_disk disk first now counts so_far after ready =
+      absurd (let never : true ≡ false = broken in cc)
+  ends_wanting end.LinkFault broken Seen old_serves new_serves old new limit old_disk disk first now counts so_far after ready =
+      absurd (let never : true ≡ false = broken in cc)
+  ends_wanting end.Budget broken Seen old_serves new_serves old new limit old_disk disk first now counts so_far after ready =
+      absurd (let never : true ≡ false = broken in cc)
+  ends_wanting end.Memory broken Seen old_serves new_serves old new limit old_disk disk first now counts so_far after ready =
+      let turns = after.shows.turns in
       let ms = turns.moves in
-      let ns = breaks.breaks.moves in
+      let ns = after.later in
       record {
         serve = record {
-          count = count + breaks.count;
-          within = omega (arith, breaks.within, fewer);
+          count = after.count + events_in ns;
+          within = after.most;
           breaks = record {
             moves = ms ++ ns;
-            logged = breaks.breaks.logged ∙ (ap (λ h. history_after h ns) turns.logged ∙ sym (history-append old.history ms ns));
-            events = events-append ms ns ∙ (ap (λ k. k + events_in ns) turns.events ∙ ap (λ k. count + k) breaks.breaks.events);
+            logged = after.logged ∙ (ap (λ h. history_after h ns) turns.logged ∙ sym (history-append old.history ms ns));
+            events = events-append ms ns ∙ ap (λ k. k + events_in ns) turns.events;
             stands = λ x over. tt;
-            are = λ x over.
-                let P : MachineState W C → Type 0 = λ s. AreOffers step s ns in
-                let y = standing_after_all step noted x ms in
-                AreOffers-append step x.running ms ns (turns.are x over).offers
-                (subst P (state_played step noted x ms) (breaks.breaks.are y (turns.stands x over)));
+            are = after.offers;
           };
         };
         keeps = λ x over.
             let before = bodies_at_ticks of_world step x.running.state ms in
             let behind = bodies_at_ticks of_world step (state_after step x.running.state ms) ns in
-            let so = so_far.looked x over in
+            let so = so_far _ after.last after.count after.shows x over in
             record {
               looked = bodies_looked_at every of_world step x.running.state ms;
               are = record {

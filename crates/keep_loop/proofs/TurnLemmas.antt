@@ -17,13 +17,9 @@ use Rattle.serve_loop.proofs.LeadLemmas.{standing-append, history-append, events
 use Rattle.serve_loop.proofs.TurnLemmas.{turns_none, turns_then}
 use Rattle.keep_loop.specs.Bodies.{BodyOf, bodies_at_event, bodies_at_ticks, paced, bodies_looked_at, bodies_to_end, saves_in}
 use Rattle.keep_loop.specs.Keeping.{BodiesOf, Keeps, KeepsPaced, left_behind}
-use Rattle.keep_loop.proofs.BodyLemmas.{bodies-append, turn_bodies}
+use Rattle.keep_loop.proofs.BodyLemmas.{bodies-append, state_played, turn_bodies}
 use Rattle.keep_loop.proofs.PaceLemmas.{paced-append, left-append}
 use Rattle.keep_loop.proofs.SaveLemmas.{last_of, saves-append}
-
-pub state_played : {W C : Type 0} (step : EventStep W C) (noted : Noting W C) (x : Standing W C) (ms : List Move)
-    → (standing_after_all step noted x ms).running.state ≡ state_after step x.running.state ms
-state_played {W} {C} step noted x ms = ap (λ (r : Running W C). r.state) (standing-running step noted x ms)
 
 -- what is looked at after a turn of which this is told
 abbrev pub bodies_of_turn : Turn → List ℕ → List (List ℕ)
@@ -42,7 +38,7 @@ told_bodies (event.Reload bytes) body = refl
 told_bodies (event.Writable c) body = refl
 
 -- the saves of more bodies, behind those of the first ones
-saves_more : (stood : Option (List ℕ)) (saves bodies more_bodies more all : List (List ℕ)) → saves ≡ saves_in stood bodies
+pub saves_more : (stood : Option (List ℕ)) (saves bodies more_bodies more all : List (List ℕ)) → saves ≡ saves_in stood bodies
     → saves_in (last_of stood saves) more_bodies ≡ more → all ≡ bodies ++ more_bodies → saves ++ more ≡ saves_in stood all
 saves_more stood saves bodies more_bodies more all are adds is =
     ap (λ l. saves ++ l) (sym adds)

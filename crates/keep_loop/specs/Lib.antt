@@ -6,3 +6,7 @@ pub mod Wanting
 pub mod KeepingOn
 pub mod Marking
 pub mod Looking
+pub mod Shown
+pub mod Saver
+pub mod SaverLaws
+pub mod SavingOn

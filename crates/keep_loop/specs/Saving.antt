@@ -1,10 +1,10 @@
 -- What became of a body that may have to be saved. No public clause cites it but `LeavesEach` and `StandsForSome`.
 use Rattle.std.specs.Prelude.{◌≡◌, ◌⊎◌, ℕ, List, [], ◌∷◌, true, false, Option, Some}
-use Rattle.ads_served.specs.Standing as served
 use Rattle.spec_store.specs.Disk.{LeavesOnly}
 use Rattle.spec_store.specs.Slots.{Standing, standing_of}
 use Rattle.spec_store.specs.Saves.{is_over_limit, standing_after}
 use Rattle.spec_store.specs.Runs.{IsOneOf}
+pub use Rattle.serve_loop.specs.TurnTaken.{StandsForSome}
 use Rattle.persist_store.specs.Store.{StoreState, body_of}
 use Rattle.keep_loop.specs.declared.save_end.SaveEnd.{SaveEnd}
 use Rattle.keep_loop.specs.declared.save_end.SaveEnd.TheVariants as save
@@ -21,11 +21,6 @@ LeavesEach {D} contents moment left_since old new standing saves = (file : List 
 abbrev pub StaysTold : {D : Type 0} → (D → Option (List ℕ)) → D → D → Type 0
 StaysTold {D} contents old new = (file : List ℕ) → contents old ≡ Some file
     → (now : List ℕ) × (contents new ≡ Some now)
-
--- it stands for something
-pub record StandsForSome {W C : Type 0} (serves : served.Standing W C → Type 0) : Type 0 where
-  pub standing : served.Standing W C
-  pub stands : serves standing
 
 -- a body that is one, and does not stand
 pub record Differs (IsBody : List ℕ → Type 0) (store : StoreState) : Type 0 where

@@ -12,20 +12,21 @@ ghost use Rattle.keep_loop.specs.Saving.{StandsForSome};
 
 use crate::reopened::Reopened;
 use crate::saving::save_body;
-use crate::{Persistent, SaveEnd, SaveNotes};
+use crate::{SaveEnd, Told};
 use ads_base::NoMemory;
+use ads_served::Served;
 use persist_store::{Disk, Store, StoreOpen};
 use std::alloc::Global;
 
 /// Opens the store again where an earlier save shut it, saves the body of what is served where it differs from the store's
 /// or nothing stands, and tells what became of it.
-pub(crate) fn look<M: Persistent, D: Disk, N: SaveNotes>(
+pub(crate) fn look<M: Served, D: Disk, N: Told<M>>(
     alloc: Global,
     served: &M,
     store: &mut Store,
     disk: &mut D,
     name: &str,
-    notes: &mut N,
+    told: &mut N,
 ) -> SaveEnd
     requires some { StandsForSome (M.serves served.now) }
     requires ready { IsReady D.contents D.may_leave disk.old store.old }
@@ -39,12 +40,12 @@ pub(crate) fn look<M: Persistent, D: Disk, N: SaveNotes>(
     ensures failed { result ≡ SaveEnd.Failed → Rose (D.fault_count disk.old) (D.fault_count disk.new) }
 {
     let became = look_again(alloc, served, store, disk, name);
-    tell(store, became, notes);
+    tell::<M, N>(store, became, told);
     became
 }
 
 // The same, untold.
-fn look_again<M: Persistent, D: Disk>(
+fn look_again<M: Served, D: Disk>(
     alloc: Global,
     served: &M,
     store: &mut Store,
@@ -94,13 +95,13 @@ fn open_again<D: Disk>(alloc: Global, store: &mut Store, disk: &mut D, name: &st
 }
 
 // What became of a body is told.
-fn tell<N: SaveNotes>(store: &Store, became: SaveEnd, notes: &mut N) {
+fn tell<M: Served, N: Told<M>>(store: &Store, became: SaveEnd, told: &mut N) {
     match became {
         SaveEnd::Same => {}
-        SaveEnd::Saved => notes.saved(standing_length(store)),
-        SaveEnd::Failed => notes.failed(),
-        SaveEnd::Limit => notes.over_limit(),
-        SaveEnd::Memory => notes.no_memory(),
+        SaveEnd::Saved => told.saved(standing_length(store)),
+        SaveEnd::Failed => told.failed(),
+        SaveEnd::Limit => told.over_limit(),
+        SaveEnd::Memory => told.no_memory(),
     }
 }
 

@@ -9,14 +9,14 @@ ghost use Rattle.persist_store.specs.Store.{IsReady, body_of};
 ghost use Rattle.keep_loop.specs.Bodies.{is_standing};
 ghost use Rattle.keep_loop.specs.Saving.{AfterSave, StandsForSome};
 
-use crate::Persistent;
 use crate::save_end::SaveEnd;
 use ads_base::NoMemory;
+use ads_served::Served;
 use persist_store::{Disk, Saved, Store};
 use std::alloc::Global;
 
 /// Saves the body of what is served, where it differs from the store's or nothing stands.
-pub(crate) fn save_body<M: Persistent, D: Disk>(
+pub(crate) fn save_body<M: Served, D: Disk>(
     alloc: Global,
     served: &M,
     store: &mut Store,
@@ -43,7 +43,7 @@ pub(crate) fn save_body<M: Persistent, D: Disk>(
 }
 
 // Whether the body of what is served stands already, which is told without its text.
-fn is_standing<M: Persistent>(alloc: Global, served: &M, store: &Store) -> Result<bool, NoMemory>
+fn is_standing<M: Served>(alloc: Global, served: &M, store: &Store) -> Result<bool, NoMemory>
     ensures { IfOk result (λ same. (x : Standing M.World M.Client) → M.serves served.now x
         → same ≡ is_standing (body_of store.now) (M.body_of x.running.state.world)) }
 {
@@ -54,7 +54,7 @@ fn is_standing<M: Persistent>(alloc: Global, served: &M, store: &Store) -> Resul
 }
 
 // Makes the body of what is served, and saves it where it differs from the store's or nothing stands.
-fn save_made<M: Persistent, D: Disk>(
+fn save_made<M: Served, D: Disk>(
     alloc: Global,
     served: &M,
     store: &mut Store,

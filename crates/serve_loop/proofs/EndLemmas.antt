@@ -14,11 +14,40 @@ use Rattle.spec_machine.specs.Offers.{taken_of}
 use Rattle.spec_machine.specs.Running.{Running}
 use Rattle.spec_machine.specs.Turns.{KeepsTurns, AreTurns}
 use Rattle.ads_served.specs.Standing.{Standing, Noting}
+use Rattle.serve_loop.specs.declared.loop_end.LoopEnd.TheVariants as loop
+use Rattle.serve_loop.specs.Beside.{AfterLoop}
 use Rattle.serve_loop.specs.Leads.{events_in}
+use Rattle.serve_loop.specs.Looks.{Look}
 use Rattle.serve_loop.specs.ToldLog.{WhereTold, LogsOffers, LogsTurns}
 use Rattle.serve_loop.specs.ToldStreams.{grown_by, StreamsOfTurns}
 use Rattle.serve_loop.specs.TurnTaken.{StandsOver, AreTurnsOf, TakesTurns, AfterServe, raised_by, GaveEvents}
+use Rattle.serve_loop.proofs.LeadLemmas.{events-append, history-append}
 use Rattle.serve_loop.proofs.TurnLemmas.{stops-after, ends-after}
+
+-- what a loop leads to beside which nobody stands
+pub served_alone : {W C K : Type 0} (body_of : W → List ℕ) (step : EventStep W C) (noted : Noting W C) (old_serves new_serves : Standing W C → Type 0)
+    (old new : WireState) (limit : ℕ) (Seen : K → List Look → Type 0) (r : End)
+    → AfterLoop (loop.Ended r) body_of step noted old_serves new_serves old new limit Seen
+    → AfterServe r step noted old_serves new_serves old new limit
+served_alone body_of step noted old_serves new_serves old new limit Seen end.Done after =
+    record { last = after.last; count = after.count; fewer = after.fewer; turns = after.shows.turns; then_ = after.then_ }
+served_alone body_of step noted old_serves new_serves old new limit Seen end.Budget after = after.turns
+served_alone body_of step noted old_serves new_serves old new limit Seen end.LinkFault after =
+    record { last = after.last; count = after.count; fewer = after.fewer; turns = after.shows.turns; then_ = after.then_ }
+served_alone body_of step noted old_serves new_serves old new limit Seen end.Memory after =
+    let ms = after.shows.turns.moves in
+    let ns = after.later in
+    record {
+      count = after.count + events_in ns;
+      within = after.most;
+      breaks = record {
+        moves = ms ++ ns;
+        logged = after.logged ∙ (ap (λ h. history_after h ns) after.shows.turns.logged ∙ sym (history-append old.history ms ns));
+        events = events-append ms ns ∙ ap (λ k. k + events_in ns) after.shows.turns.events;
+        stands = λ x over. tt;
+        are = λ x over. after.offers x over;
+      };
+    }
 
 more : (m : Move) (o : Option (List Move)) (log : List Move) → o ≡ Some log → option_map (λ ms. ms ++ m ∷ []) o ≡ Some (log ++ m ∷ [])
 more m o log told = ap (option_map (λ ms. ms ++ m ∷ [])) told

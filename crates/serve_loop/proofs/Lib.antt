@@ -7,3 +7,5 @@ pub mod RoundLemmas
 pub mod TurnLemmas
 pub mod EndLemmas
 pub mod WantLemmas
+pub mod ShowLemmas
+pub mod TellLemmas

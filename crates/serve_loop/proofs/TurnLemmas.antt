@@ -28,7 +28,7 @@ use Rattle.serve_loop.specs.Leads.{Leads, Breaks}
 use Rattle.serve_loop.specs.Serving.{ServesAll}
 use Rattle.serve_loop.specs.TurnTaken.{StandsOver, ComesBy, IsTurnOf, turn_of_event, TakesEvent, Stays}
 use Rattle.serve_loop.specs.TurnTaken.{BreaksTurn, AfterTurn, AreTurnsOf, TakesTurns, EndsBefore}
-use Rattle.serve_loop.proofs.LeadLemmas.{leads_nowhere, leads_then, breaks_nowhere, breaks_then, AreOffers-append, standing-running}
+use Rattle.serve_loop.proofs.LeadLemmas.{leads_then, breaks_nowhere, AreOffers-append, standing-running}
 use Rattle.serve_loop.proofs.OfferLemmas.{running-append}
 use Rattle.serve_loop.proofs.WantLemmas.{rose_later}
 
@@ -81,35 +81,36 @@ pub comes_to : {W C : Type 0} (step : EventStep W C) (noted : Noting W C) (old_s
 comes_to step noted old_serves new_serves e follows y comes = subst new_serves (sym comes.is) (follows comes.before comes.served comes.opens_new)
 
 -- an event that was given, and the moves of all connections behind it
-pub takes_event : {W C : Type 0} (step : EventStep W C) (noted : Noting W C) → OpensAlone step
+pub event_leads : {W C : Type 0} (step : EventStep W C) (noted : Noting W C) → OpensAlone step
     → (old_serves new_serves : Standing W C → Type 0) (old mid new : WireHistory) (e : Event)
     → IsTrue (is_new e old.opened) → mid ≡ event_given e old → Leads step noted (ComesBy step noted old_serves e) new_serves mid new 0 (ServesAll step)
-    → TakesEvent step noted old_serves new_serves old new (turn_of_event e)
+    → Leads step noted (StandsOver old_serves old.opened) (StandsOver new_serves new.opened) old new 1 (IsTurnOf step e)
 unfolding history_after state_after state_after_move blocked_after standing_after_all AreOffers
-takes_event {W} {C} step noted alone old_serves new_serves old mid new e new_number given leads =
+event_leads {W} {C} step noted alone old_serves new_serves old mid new e new_number given leads =
     let logged : new ≡ history_after old (move.Event e ∷ leads.moves) = leads.logged ∙ ap (λ h. history_after h leads.moves) given in
     let came_so : (x : Standing W C) → StandsOver old_serves old.opened x
     → ComesBy step noted old_serves e (standing_after step noted x (move.Event e)) = came step noted old_serves old.opened e new_number in
     record {
-      event = e;
-      kind = refl;
-      leads = record {
-        moves = move.Event e ∷ leads.moves;
-        logged = logged;
-        events = ap (λ n. n + 1) leads.events;
-        stands = λ x over. record {
-          stands = leads.stands (standing_after step noted x (move.Event e)) (came_so x over);
-          numbers =
-              let running = standing-running step noted x (move.Event e ∷ leads.moves) in
-              let N : WireHistory → Type 0 = λ h. HasNumbersIn h.opened (state_after step x.running.state (move.Event e ∷ leads.moves)) in
-              let R : Running W C → Type 0 = λ r. HasNumbersIn new.opened r.state in
-              subst R (sym running) (subst N (sym logged) (numbers-after step alone (move.Event e ∷ leads.moves) old x.running.state over.numbers));
-        };
-        are = λ x over.
-            let all = leads.are (standing_after step noted x (move.Event e)) (came_so x over) in
-            record { served = all.each; are = ap (λ ms. move.Event e ∷ ms) all.are; each = all.served; offers = (tt, all.offers) };
+      moves = move.Event e ∷ leads.moves;
+      logged = logged;
+      events = ap (λ n. n + 1) leads.events;
+      stands = λ x over. record {
+        stands = leads.stands (standing_after step noted x (move.Event e)) (came_so x over);
+        numbers =
+            let running = standing-running step noted x (move.Event e ∷ leads.moves) in
+            let N : WireHistory → Type 0 = λ h. HasNumbersIn h.opened (state_after step x.running.state (move.Event e ∷ leads.moves)) in
+            let R : Running W C → Type 0 = λ r. HasNumbersIn new.opened r.state in
+            subst R (sym running) (subst N (sym logged) (numbers-after step alone (move.Event e ∷ leads.moves) old x.running.state over.numbers));
       };
+      are = λ x over.
+          let all = leads.are (standing_after step noted x (move.Event e)) (came_so x over) in
+          record { served = all.each; are = ap (λ ms. move.Event e ∷ ms) all.are; each = all.served; offers = (tt, all.offers) };
     }
+
+pub takes_event : {W C : Type 0} (step : EventStep W C) (noted : Noting W C) (old_serves new_serves : Standing W C → Type 0) (old new : WireHistory)
+    (e : Event) → Leads step noted (StandsOver old_serves old.opened) (StandsOver new_serves new.opened) old new 1 (IsTurnOf step e)
+    → TakesEvent step noted old_serves new_serves old new (turn_of_event e)
+takes_event step noted old_serves new_serves old new e leads = record { event = e; kind = refl; leads = leads }
 
 -- memory was wanting behind an event that was given
 pub breaks_event : {W C : Type 0} (step : EventStep W C) (noted : Noting W C) (old_serves : Standing W C → Type 0) (old mid new : WireHistory) (e : Event)
@@ -238,13 +239,6 @@ one_more step noted old_serves mid_serves new_serves old mid new count tells tur
     leads_then step noted (StandsOver old_serves old.opened) (StandsOver mid_serves mid.opened) (StandsOver new_serves new.opened) old mid new count 1
     (AreTurnsOf step) (IsTurnOf step takes.event) (AreTurnsOf step) (turns_then step takes.event) turns takes.leads
 
--- the loop begins
-pub no_turn : {W C : Type 0} (step : EventStep W C) (noted : Noting W C) (serves : Standing W C → Type 0) (h : WireHistory)
-    → TakesTurns step noted serves serves h h 0
-no_turn step noted serves h =
-    leads_nowhere step noted (StandsOver serves h.opened) (StandsOver serves h.opened) h h
-    (AreTurnsOf step) refl (λ x over. over) (λ x over. turns_none step x.running)
-
 -- what is served stays, and then this came of the wire
 pub ends_before : {W C : Type 0} (step : EventStep W C) (noted : Noting W C)
     (old_serves mid_serves new_serves : Standing W C → Type 0) (old mid : WireHistory) (count limit : ℕ) (Then : WireHistory → Type 0)
@@ -258,18 +252,6 @@ ends_before step noted old_serves mid_serves new_serves old mid count limit Then
       (StandsOver new_serves mid.opened) old mid count (AreTurnsOf step)
       (stands_over mid_serves new_serves mid.opened stays) turns;
   then_ = then_;
-}
-
--- memory was wanting behind some turns
-pub breaks_turns : {W C : Type 0} (step : EventStep W C) (noted : Noting W C)
-    (old_serves mid_serves : Standing W C → Type 0) (old mid new : WireHistory) (count limit : ℕ)
-    → TakesTurns step noted old_serves mid_serves old mid count → count < limit
-    → BreaksTurn step noted mid_serves mid new 1 → BreaksTurn step noted old_serves old new limit
-breaks_turns step noted old_serves mid_serves old mid new count limit turns fewer breaks = record {
-  count = count + breaks.count;
-  within = omega (arith, breaks.within);
-  breaks = breaks_then step noted (StandsOver old_serves old.opened) (StandsOver mid_serves mid.opened)
-      old mid new count breaks.count (AreTurnsOf step) (λ x ms are. are.offers) turns breaks.breaks;
 }
 
 -- turns raise no count of stops

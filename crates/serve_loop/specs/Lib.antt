@@ -4,3 +4,6 @@ pub mod TurnTaken
 pub mod ToldLog
 pub mod ToldStreams
 pub mod Wanting
+pub mod Looks
+pub mod Beside
+pub mod Telling

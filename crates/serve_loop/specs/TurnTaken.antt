@@ -28,6 +28,11 @@ pub record StandsOver {W C : Type 0} (serves : Standing W C → Type 0) (opened 
   pub stands : serves x
   pub numbers : HasNumbersIn opened x.running.state
 
+-- it stands for something
+pub record StandsForSome {W C : Type 0} (serves : Standing W C → Type 0) : Type 0 where
+  pub standing : Standing W C
+  pub stands : serves standing
+
 -- what a new event makes of a standing that was served
 pub record ComesBy {W C : Type 0} (step : EventStep W C) (noted : Noting W C)
     (serves_before : Standing W C → Type 0) (e : Event) (y : Standing W C) : Type 0 where

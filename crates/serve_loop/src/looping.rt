@@ -1,4 +1,4 @@
-//! The loop: turns, until the wire ends or so many events were taken.
+//! The loop with nobody beside it.
 
 ghost use Rattle.std.specs.Prelude.{◌≡◌, ◌≢◌, ◌≤◌};
 ghost use Rattle.ads_outside.specs.Rose.{Rose, raised};
@@ -8,8 +8,7 @@ ghost use Rattle.serve_loop.specs.ToldStreams.{StreamsOfTurns};
 ghost use Rattle.serve_loop.specs.TurnTaken.{StandsOver, AfterServe, GaveEvents};
 ghost use Rattle.serve_loop.specs.Wanting.{WasWanting};
 
-use crate::Turn;
-use crate::turning::turn_with;
+use crate::{LoopEnd, Nobody, serve_beside};
 use ads_outside::{End, Wire};
 use ads_served::Served;
 use std::alloc::Global;
@@ -45,12 +44,12 @@ pub fn serve<T: Threads + Sync, W: Wire, M: Served>(
     ensures wanted { (W.state wire.old).wants ≤ (W.state wire.new).wants }
     ensures memory { result ≡ End.Memory → WasWanting (M.has_failed served.new) (W.state wire.old) (W.state wire.new) }
 {
-    let ended = take_turns(rt, alloc, served, wire, limit);
+    let ended = serve_alone(rt, alloc, served, wire, limit);
     ended
 }
 
-// One turn after another.
-fn take_turns<T: Threads + Sync, W: Wire, M: Served>(
+// The same, with nobody beside the loop.
+fn serve_alone<T: Threads + Sync, W: Wire, M: Served>(
     rt: &T,
     alloc: Global,
     served: &mut M,
@@ -63,14 +62,8 @@ fn take_turns<T: Threads + Sync, W: Wire, M: Served>(
     ensures wanted { (W.state wire.old).wants ≤ (W.state wire.new).wants }
     ensures memory { result ≡ End.Memory → WasWanting (M.has_failed served.new) (W.state wire.old) (W.state wire.new) }
 {
-    let mut numbers = Vec::new(alloc);
-    for _taken in 0..limit {
-        match turn_with(rt, alloc, served, wire, &mut numbers) {
-            Turn::Tick | Turn::Other => {}
-            Turn::End => return End::Done,
-            Turn::LinkFault => return End::LinkFault,
-            Turn::Memory => return End::Memory,
-        }
+    match serve_beside(rt, alloc, served, wire, &mut Nobody, &mut (), limit) {
+        LoopEnd::Ended(how) => how,
+        LoopEnd::Stopped => unreachable!(),
     }
-    End::Budget
 }

@@ -1,14 +1,20 @@
 //! One turn: an event is taken, and then each connection is offered what waits for it.
 
-ghost use Rattle.std.specs.Prelude.{◌≡◌, ◌≤◌, OnOk, OnErr};
+ghost use Rattle.std.specs.Prelude.{◌≡◌, ◌≤◌, ℕ, OnOk, OnErr};
+ghost use Rattle.ads_outside.specs.declared.moves.Move.TheVariants as move;
 ghost use Rattle.ads_outside.specs.WireState.{WireHistory};
+ghost use Rattle.spec_machine.specs.Running.{OpensNew};
+ghost use Rattle.ads_served.specs.Standing.{Standing, standing_after};
+ghost use Rattle.serve_loop.specs.Beside.{StaysSeen};
 ghost use Rattle.serve_loop.specs.Leads.{Leads, Breaks};
 ghost use Rattle.serve_loop.specs.Serving.{ServesAll};
+ghost use Rattle.serve_loop.specs.Telling.{StaysTold, Hears, HearsOrNot, TellsTurn};
 ghost use Rattle.serve_loop.specs.TurnTaken.{ComesBy, AfterTurn, turn_of_event};
 ghost use Rattle.serve_loop.specs.Wanting.{WasWanting};
 
-use crate::Turn;
+use crate::Beside;
 use crate::rounds::serve_each;
+use crate::turn_end::Turn;
 use ads_base::NoMemory;
 use ads_outside::{Event, Next, Wire};
 use ads_served::Served;
@@ -17,28 +23,13 @@ use std::thread::Threads;
 
 /// Takes one event of the wire, and offers each connection, in the order of opening, what waits for it, until it is
 /// taken or the connection is blocked. A failed offer loses that connection alone; one that is closing is then shut.
-pub fn turn<T: Threads + Sync, W: Wire, M: Served>(
+/// `numbers` is room for the connections that are to be served.
+pub(crate) fn turn_with<T: Threads + Sync, W: Wire, M: Served, O, A: Beside<M, O>>(
     rt: &T,
     alloc: Global,
     served: &mut M,
     wire: &mut W,
-) -> Turn
-    ensures turn { AfterTurn result M.steps M.noted (M.serves served.old) (M.serves served.new) (W.state wire.old) (W.state wire.new) }
-    ensures kept { W.kept wire.new ≡ W.kept wire.old }
-    ensures later { (W.state wire.old).faults ≤ (W.state wire.new).faults }
-    ensures wanted { (W.state wire.old).wants ≤ (W.state wire.new).wants }
-    ensures memory { result ≡ Turn.Memory → WasWanting (M.has_failed served.new) (W.state wire.old) (W.state wire.new) }
-{
-    let mut numbers = Vec::new(alloc);
-    turn_with(rt, alloc, served, wire, &mut numbers)
-}
-
-// The same, with room for the numbers of the connections that are to be served.
-pub(crate) fn turn_with<T: Threads + Sync, W: Wire, M: Served>(
-    rt: &T,
-    alloc: Global,
-    served: &mut M,
-    wire: &mut W,
+    beside: &mut A,
     numbers: &mut Vec<u32>,
 ) -> Turn
     ensures turn { AfterTurn result M.steps M.noted (M.serves served.old) (M.serves served.new) (W.state wire.old) (W.state wire.new) }
@@ -46,6 +37,11 @@ pub(crate) fn turn_with<T: Threads + Sync, W: Wire, M: Served>(
     ensures later { (W.state wire.old).faults ≤ (W.state wire.new).faults }
     ensures wanted { (W.state wire.old).wants ≤ (W.state wire.new).wants }
     ensures memory { result ≡ Turn.Memory → WasWanting (M.has_failed served.new) (W.state wire.old) (W.state wire.new) }
+    ensures seen { (outside : O) → StaysSeen (λ (first : A) (start : O). A.seen first start beside.old outside)
+        (λ (first : A) (start : O). A.seen first start beside.new outside) }
+    ensures ready { (n : ℕ) (outside : O) → A.ready n beside.old outside → A.ready n beside.new outside }
+    ensures told { TellsTurn result M.comes_to M.steps M.noted (M.serves served.old) (M.serves served.new)
+        (W.state wire.old).history (W.state wire.new).history (A.told beside.old) (A.told beside.new) }
 {
     let event = match wire.next() {
         Next::Event(event) => event,
@@ -53,7 +49,7 @@ pub(crate) fn turn_with<T: Threads + Sync, W: Wire, M: Served>(
         Next::Failed => return Turn::LinkFault,
         Next::Memory => return Turn::Memory,
     };
-    match take_event(rt, alloc, served, wire, &event, numbers) {
+    match take_event::<T, W, M, O, A>(rt, alloc, served, wire, beside, &event, numbers) {
         Ok(()) => give_back(wire, event),
         Err(NoMemory) => Turn::Memory,
     }
@@ -85,11 +81,12 @@ fn told_of(event: &Event) -> Turn
 }
 
 // An event that the wire gave is taken, and all connections are served.
-fn take_event<T: Threads + Sync, W: Wire, M: Served>(
+fn take_event<T: Threads + Sync, W: Wire, M: Served, O, A: Beside<M, O>>(
     rt: &T,
     alloc: Global,
     served: &mut M,
     wire: &mut W,
+    beside: &mut A,
     event: &Event,
     numbers: &mut Vec<u32>,
 ) -> Result<(), NoMemory>
@@ -101,9 +98,38 @@ fn take_event<T: Threads + Sync, W: Wire, M: Served>(
     ensures later { (W.state wire.old).faults ≤ (W.state wire.new).faults }
     ensures wanted { (W.state wire.old).wants ≤ (W.state wire.new).wants }
     ensures memory { OnErr result (WasWanting (M.has_failed served.new) (W.state wire.old) (W.state wire.new)) }
+    ensures seen { (outside : O) → StaysSeen (λ (first : A) (start : O). A.seen first start beside.old outside)
+        (λ (first : A) (start : O). A.seen first start beside.new outside) }
+    ensures ready { (n : ℕ) (outside : O) → A.ready n beside.old outside → A.ready n beside.new outside }
+    ensures told { OnOk result (Hears M.comes_to (M.serves served.old) event.now (A.told beside.old) (A.told beside.new)) }
+    ensures untold { OnErr result (HearsOrNot M.comes_to (M.serves served.old) event.now
+        (W.state wire.old).history (W.state wire.new).history (A.told beside.old) (A.told beside.new)) }
 {
-    served.step(rt, alloc, event)?;
+    step_beside::<T, M, O, A>(rt, alloc, served, beside, event)?;
     served.due(alloc, numbers)?;
     serve_each(served, wire, numbers.as_slice())?;
+    Ok(())
+}
+
+// An event is taken. What stands beside hears of it before, and behind it what it came to.
+fn step_beside<T: Threads + Sync, M: Served, O, A: Beside<M, O>>(
+    rt: &T,
+    alloc: Global,
+    served: &mut M,
+    beside: &mut A,
+    event: &Event,
+) -> Result<(), NoMemory>
+    ensures follows { OnOk result ((x : Standing M.World M.Client) → M.serves served.old x → OpensNew x.running event.now
+        → M.serves served.new (standing_after M.steps M.noted x (move.Event event.now))) }
+    ensures no_memory { OnErr result (M.has_failed served.new) }
+    ensures seen { (outside : O) → StaysSeen (λ (first : A) (start : O). A.seen first start beside.old outside)
+        (λ (first : A) (start : O). A.seen first start beside.new outside) }
+    ensures ready { (n : ℕ) (outside : O) → A.ready n beside.old outside → A.ready n beside.new outside }
+    ensures told { OnOk result (Hears M.comes_to (M.serves served.old) event.now (A.told beside.old) (A.told beside.new)) }
+    ensures untold { OnErr result (StaysTold (A.told beside.old) (A.told beside.new)) }
+{
+    beside.comes(alloc, served, event);
+    let outcome = served.step(rt, alloc, event)?;
+    beside.came(alloc, served, event, &outcome);
     Ok(())
 }

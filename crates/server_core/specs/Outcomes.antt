@@ -10,7 +10,7 @@ use Rattle.symbol_file.specs.declared.fault.DescFault.{DescFault}
 use Rattle.symbol_file.specs.declared.fault.DescFault.TheVariants.{Syntax, Rule}
 use Rattle.server_core.specs.declared.outcome.Outcome.{Outcome}
 use Rattle.server_core.specs.declared.outcome.Outcome.TheVariants.{Done, ReloadOk, ReloadRefused}
-use Rattle.server_core.specs.Served.{served}
+use Rattle.server_core.specs.Served.{served, ServedState}
 use Rattle.server_core.specs.CoreState.{CoreState, OpensNew, after_event}
 use Rattle.server_core.specs.ServerView.{ServerView}
 use Rattle.server_core.specs.Serves.{ServesEach, ServesSome, FollowsEach}
@@ -23,6 +23,10 @@ abbrev pub outcome_of : Outcome → EventOutcome
 outcome_of Done = machine.Done
 outcome_of (ReloadOk version) = machine.ReloadOk version
 outcome_of (ReloadRefused fault) = machine.ReloadRefused (fault_of fault)
+
+-- an event comes to this in a state
+abbrev pub ComesTo : ServedState → Event → Outcome → Type 0
+ComesTo s e outcome = outcome_of outcome ≡ outcome_of_event served s e
 
 -- an event was taken, and came to this
 pub record TakesEvent (old new : ServerView) (waves new_waves : List Wave) (e : Event) (outcome : Outcome) : Type 0 where

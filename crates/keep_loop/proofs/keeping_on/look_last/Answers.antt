@@ -14,9 +14,9 @@ returns-clause-ends g c =
 pub returns-clause-failed : goal.returns-clause-failed
 returns-clause-failed g c = λ more.
     let P : SaveCounts → Type 0 = λ counts. 0 < counts.failed in
-    failed_rose c.look-became.result c.args.counts _ c.look-became.ensures.failed (subst P c.after.ensures more)
+    failed_rose c.look-became.result c.args.saves.now.counts _ c.look-became.ensures.failed (subst P c.after.ensures more)
 
 pub returns-clause-last_failed : goal.returns-clause-last_failed
 returns-clause-last_failed g c = λ last.
     let P : SaveCounts → Type 0 = λ counts. 0 < counts.failed in
-    subst P (sym c.after.ensures) (failed_counted c.look-became.result c.args.counts last)
+    subst P (sym c.after.ensures) (failed_counted c.look-became.result c.args.saves.now.counts last)
