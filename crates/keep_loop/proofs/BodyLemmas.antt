@@ -31,13 +31,6 @@ pub state_played : {W C : Type 0} (step : EventStep W C) (noted : Noting W C) (x
     → (standing_after_all step noted x ms).running.state ≡ state_after step x.running.state ms
 state_played {W} {C} step noted x ms = ap (λ (r : Running W C). r.state) (standing-running step noted x ms)
 
--- a first part of a log has the first of its bodies
-pub state-append : {W C : Type 0} (step : EventStep W C) (ms ns : List Move) (s : MachineState W C)
-    → state_after step s (ms ++ ns) ≡ state_after step (state_after step s ms) ns
-unfolding state_after
-state-append step [] ns s = refl
-state-append step (m ∷ ms) ns s = state-append step ms ns (state_after_move step s m)
-
 not_next : {X : Type 0} (n : ℕ) → n + 1 ≡ 0 → X
 not_next n e = absurd (omega (arith, e))
 

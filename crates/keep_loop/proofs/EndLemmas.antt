@@ -6,7 +6,7 @@ use Rattle.ads_outside.specs.WireAnswers.{Stops}
 use Rattle.ads_outside.specs.WireState.{WireState, WireHistory, history_after, end_answered}
 use Rattle.spec_machine.specs.Delivery.{AreOffers}
 use Rattle.spec_machine.specs.MachineState.{MachineState}
-use Rattle.spec_machine.specs.Moves.{EventStep, state_after}
+use Rattle.spec_machine.specs.Moves.{EventStep}
 use Rattle.ads_served.specs.Standing.{Standing, Noting, standing_after_all}
 use Rattle.spec_store.specs.Slots as slots
 use Rattle.spec_store.specs.Runs as runs
@@ -14,9 +14,9 @@ use Rattle.spec_store.specs.Saves.{is_over_limit}
 use Rattle.serve_loop.specs.declared.turn_end.Turn.TheVariants as turn
 use Rattle.serve_loop.specs.Leads.{serves_any, events_in}
 use Rattle.serve_loop.specs.Looks.{IsBodyOf}
-use Rattle.serve_loop.specs.TurnTaken.{StandsOver, TakesEvent, Stays, BreaksTurn, TakesTurns}
+use Rattle.serve_loop.specs.TurnTaken.{StandsOver, TakesEvent, Stays}
 use Rattle.serve_loop.proofs.LeadLemmas.{AreOffers-append}
-use Rattle.serve_loop.proofs.TurnLemmas.{stands_over, stops_kept, stops_later}
+use Rattle.serve_loop.proofs.TurnLemmas.{stands_over}
 use Rattle.persist_store.specs.Store.{StoreState, body_of, IsReady}
 use Rattle.keep_loop.specs.declared.keep_end.KeepEnd.{KeepEnd}
 use Rattle.keep_loop.specs.declared.keep_end.KeepEnd.TheVariants as keep
@@ -30,7 +30,8 @@ use Rattle.keep_loop.specs.Ending.{EndsBySave, end_of, end_by_save}
 use Rattle.keep_loop.specs.Keeping.{Keeps, EndsAfter, TookAll, StopsInSave, BreaksOff, TookTurns, CountsSaves, FileStandsFor, StandsAfterSaves, StandsAtEnd}
 use Rattle.keep_loop.specs.Keeping.{AfterKeep, AllButLast, KeepsSoFar}
 use Rattle.keep_loop.proofs.SaveLemmas.{last_of, first_standing, over_then, standing_then, left_then, left_more, left_same, told_then, told_same}
-use Rattle.keep_loop.proofs.TurnLemmas.{state_played, keeps_last, keeps_to}
+use Rattle.keep_loop.proofs.BodyLemmas.{state_played}
+use Rattle.keep_loop.proofs.TurnLemmas.{keeps_last, keeps_to}
 use Rattle.keep_loop.proofs.KeepLemmas.{any_over, length_one, same_adds, other_adds, tick_keeps}
 
 -- how the turns of a run ended, behind so many of them
@@ -48,13 +49,6 @@ pub ends_after : (ended : RunEnd) (old new : WireState) (limit count : ℕ) (las
 ends_after run.Done old new limit count last came = inr (inl came.1)
 ends_after run.LinkFault old new limit count last came = inr (inr came.1)
 ends_after run.Budget old new limit count last came = inl came.1
-
--- the wire failed behind these turns
-pub came_fault : {W C : Type 0} (step : EventStep W C) (noted : Noting W C) (old_serves mid_serves : Standing W C → Type 0) (old mid new : WireState)
-    (count limit : ℕ) → TakesTurns step noted old_serves mid_serves old.history mid.history count → old.faults ≤ mid.faults → count < limit
-    → Stops mid new mid.history → CameOf run.LinkFault old new limit count mid.history
-came_fault step noted old_serves mid_serves old mid new count limit turns later fewer stops =
-    (fewer, stops_later old mid new (stops_kept step noted old_serves mid_serves old.history mid.history count turns) later stops)
 
 module _ {W C D : Type 0} (every : ℕ) (of_world : BodyOf W) (step : EventStep W C) (noted : Noting W C) (contents : D → Option (List ℕ))
     (may_leave : D → List ℕ → Type 0) (moment : D → ℕ) (left_since : D → ℕ → List ℕ → Type 0) (Also : Standing W C → List Move → Type 0) where

@@ -17,10 +17,6 @@ left-append every left [] more = refl
 left-append every zero (body ∷ bodies) more = left-append every (every - 1) bodies more
 left-append every (suc left) (body ∷ bodies) more = left-append every left bodies more
 
-pub paced-none : (every left : ℕ) → paced every left [] ≡ []
-unfolding paced
-paced-none every left = refl
-
 pub left-none : (every left : ℕ) → left ≡ left_behind every left []
 unfolding left_behind
 left-none every left = refl

@@ -1,18 +1,17 @@
 -- What was shown of turns, in terms of a run with a store: its saves, how it ends, and its marks.
 use Rattle.std.proofs.Common.{◌≡◌, ℕ, ◌+◌, ◌-◌, ◌<◌, ◌≤◌, List, [], ◌∷◌, ◌++◌, true, false, refl, sym, ap, ◌∙◌, subst, append-nil, inl, inr, arith}
-use Rattle.std.proofs.Math.Nat.{le_refl}
 use Rattle.std.specs.Prelude.{Bool, Option, ◌⊎◌}
 use Rattle.ads_outside.specs.declared.end.End.{End}
 use Rattle.ads_outside.specs.declared.end.End.TheVariants as end
 use Rattle.ads_outside.specs.declared.moves.Move.{Move}
-use Rattle.ads_outside.specs.WireState.{WireState, WireHistory, history_after}
+use Rattle.ads_outside.specs.WireState.{WireState, WireHistory}
 use Rattle.spec_machine.specs.Moves.{EventStep}
 use Rattle.ads_served.specs.Standing.{Standing, Noting, standing_after_all}
 use Rattle.serve_loop.specs.declared.loop_end.LoopEnd.{LoopEnd}
 use Rattle.serve_loop.specs.declared.loop_end.LoopEnd.TheVariants as loop
 use Rattle.serve_loop.specs.declared.turn_end.Turn.TheVariants as turn
 use Rattle.serve_loop.specs.Beside.{AfterLoop, ShowsTurns, ShowsBroken}
-use Rattle.serve_loop.specs.Leads.{serves_any, events_in}
+use Rattle.serve_loop.specs.Leads.{serves_any}
 use Rattle.serve_loop.specs.Looks.{Look, IsBodyOf}
 use Rattle.serve_loop.specs.TurnTaken.{StandsOver, StandsForSome, TakesEvent}
 use Rattle.persist_store.specs.Marks.{Mark, MarksStay}
@@ -32,7 +31,7 @@ use Rattle.keep_loop.specs.Saver.{BeginsAnew, KeepsDisk, SeenBy, StopsAtLook}
 use Rattle.keep_loop.specs.Wanting.{WantsInSave}
 use Rattle.serve_loop.proofs.ShowLemmas.{shows_more}
 use Rattle.keep_loop.proofs.AlsoLemmas.{Also, EndsMarked, ends_marked, stops_marked}
-use Rattle.keep_loop.proofs.EndLemmas.{CameOf, ends_after, ends_here, fails_at_tick, limit_at_tick, memory_at_tick, memory_broken, most_came}
+use Rattle.keep_loop.proofs.EndLemmas.{CameOf, ends_after, ends_here, fails_at_tick, limit_at_tick, memory_at_tick, memory_broken}
 use Rattle.keep_loop.proofs.ShownLemmas.{bodies_of_turns, looked_of_turns, marks_of_turns}
 
 -- how the turns of a run end, in terms of the loop
@@ -178,20 +177,6 @@ module _ {W C D : Type 0} (every : ℕ) (of_world : BodyOf W) (step : EventStep 
       old c.last new c.count left old_disk disk last_disk first now last saved
       (so_far_of old_serves new_serves old.history c.last c.count some c.shows) (ends_after ended old new limit c.count c.last c.came) (λ x stands. stands)
       ends ready stay
-
-  pub run_wants : (ended : RunEnd) (old_serves new_serves : Standing W C → Type 0) (old new : WireState) (limit : ℕ)
-      → AfterLoop (loop.Ended (end_of_turns ended)) of_world step noted old_serves new_serves old new limit Seen
-      → WantsInSave step noted old_serves new_serves old new limit
-  run_wants ended old_serves new_serves old new limit after =
-      let c = came_of ended old_serves new_serves old new limit after in
-      let most = most_came ended old new limit c.count c.last c.came in
-      record {
-        last = c.last;
-        count = c.count;
-        fewer = omega (arith, most);
-        turns = c.shows.turns;
-        then_ = ends_after ended old new limit c.count c.last c.came;
-      }
 
   -- how one ends that want of memory broke
   pub broken_keeps : (old_serves new_serves : Standing W C → Type 0) (old new : WireState) (limit : ℕ) → StandsForSome (StandsOver old_serves old.history.opened)

@@ -1,13 +1,13 @@
 -- What a saver that stops has done goes on with one body more.
 use Rattle.std.proofs.Common.{◌≡◌, ℕ, ◌+◌, ◌-◌, ◌<◌, ◌≤◌, List, [], ◌∷◌, ◌++◌, length, true, false, refl, sym, ap, ◌∙◌, subst, append-nil, arith}
 use Rattle.std.proofs.Math.Nat.{le_trans}
-use Rattle.std.specs.Prelude.{Option, Some, None}
+use Rattle.std.specs.Prelude.{Option}
 use Rattle.spec_store.specs.Runs as runs
 use Rattle.serve_loop.specs.Looks.{Look}
 use Rattle.persist_store.specs.Marks.{Mark, MarksOne, MarksStay}
 use Rattle.persist_store.specs.Steps.{Passes}
 use Rattle.persist_store.specs.Store.{StoreState, IsReady, body_of}
-use Rattle.keep_loop.specs.Bodies.{paced, saves_in, is_any_over}
+use Rattle.keep_loop.specs.Bodies.{saves_in}
 use Rattle.keep_loop.specs.Keeping.{left_behind}
 use Rattle.keep_loop.specs.Marking.{HoldsSaves}
 use Rattle.keep_loop.specs.Saver.{MayBeShown, SavesShown, KeepsDisk}
@@ -16,8 +16,8 @@ use Rattle.keep_loop.specs.Shown.{bodies_shown, looked_at, MarksShownSoFar}
 use Rattle.keep_loop.proofs.KeepLemmas.{length_one, same_adds, other_adds}
 use Rattle.keep_loop.proofs.MarkLemmas.{holds_saves}
 use Rattle.keep_loop.proofs.PaceLemmas.{paced-passed, left-passed, paced-due, left-due}
-use Rattle.keep_loop.proofs.QuietLemmas.{told_quiet, left_quiet, ready_quiet}
-use Rattle.keep_loop.proofs.SaveLemmas.{last_of, over_then, standing_then, left_then, left_same, told_then, told_same}
+use Rattle.keep_loop.proofs.QuietLemmas.{told_quiet, left_quiet}
+use Rattle.keep_loop.proofs.SaveLemmas.{over_then, standing_then, left_then, left_same, told_then, told_same}
 use Rattle.keep_loop.proofs.ShownLemmas.{looked_at-more, pace-more}
 use Rattle.keep_loop.proofs.ShownLemmas.{marked_shown_passed, marked_shown_looked}
 use Rattle.keep_loop.proofs.TurnLemmas.{saves_more}

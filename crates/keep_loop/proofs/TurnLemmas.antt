@@ -14,7 +14,7 @@ use Rattle.serve_loop.specs.declared.turn_end.Turn.TheVariants as turn
 use Rattle.serve_loop.specs.Leads.{events_in}
 use Rattle.serve_loop.specs.TurnTaken.{StandsOver, IsTurnOf, turn_of_event, TakesEvent}
 use Rattle.serve_loop.proofs.LeadLemmas.{standing-append, history-append, events-append, standing-running}
-use Rattle.serve_loop.proofs.TurnLemmas.{turns_none, turns_then}
+use Rattle.serve_loop.proofs.TurnLemmas.{turns_then}
 use Rattle.keep_loop.specs.Bodies.{BodyOf, bodies_at_event, bodies_at_ticks, paced, bodies_looked_at, bodies_to_end, saves_in}
 use Rattle.keep_loop.specs.Keeping.{BodiesOf, Keeps, KeepsPaced, left_behind}
 use Rattle.keep_loop.proofs.BodyLemmas.{bodies-append, state_played, turn_bodies}
@@ -173,17 +173,4 @@ module _ {W C : Type 0} (every : ℕ) (body_of : BodyOf W) (step : EventStep W C
       are = keeps.turns.are;
     };
     are = keeps.are;
-  }
-
-  -- no turn
-  pub keeps_none : (Also : Standing W C → List Move → Type 0) (serves : Standing W C → Type 0) (stood : Option (List ℕ)) (h : WireHistory)
-      → ((x : Standing W C) → Also x []) → KeepsPaced Also every body_of step noted serves serves stood h h 0 (every - 1) []
-  unfolding history_after standing_after_all bodies_at_ticks saves_in paced left_behind
-  keeps_none Also serves stood h also = record {
-    keeps = record {
-      turns = record { moves = []; logged = refl; events = refl; stands = λ x over. over; are = λ x over. turns_none step x.running };
-      are = λ x over. refl;
-    };
-    pace = λ x over. refl;
-    also = λ x over. also x;
   }
