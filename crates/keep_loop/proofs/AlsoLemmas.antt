@@ -10,6 +10,7 @@ use Rattle.ads_served.specs.Standing.{Standing, Noting}
 use Rattle.spec_store.specs.Slots as slots
 use Rattle.spec_store.specs.Runs as runs
 use Rattle.serve_loop.specs.Leads.{events_in}
+use Rattle.serve_loop.specs.Looks.{IsBodyOf}
 use Rattle.serve_loop.specs.TurnTaken.{StandsOver, Stays}
 use Rattle.persist_store.specs.Marks.{Mark, MarksOne, MarksStay}
 use Rattle.persist_store.specs.Steps.{Passes}
@@ -24,7 +25,7 @@ use Rattle.keep_loop.specs.Ending.{EndsBySave, end_of, end_by_save}
 use Rattle.keep_loop.specs.Keeping.{EndsAfter, KeepsSoFar}
 use Rattle.keep_loop.specs.Marking.{HoldsSaves, MarksBeforeEnd, MarksMore, MarksOf, is_to_end}
 use Rattle.keep_loop.specs.Saving.{StaysTold, StaysSame, IsSaved, AfterSave}
-use Rattle.keep_loop.proofs.KeepLemmas.{IsBodyOf, AlsoPasses, AlsoLooks, same_adds, other_adds}
+use Rattle.keep_loop.proofs.KeepLemmas.{AlsoPasses, AlsoLooks, same_adds, other_adds}
 use Rattle.keep_loop.proofs.MarkLemmas.{marked_none, marked_passed, marked_looked, marked_before, holds_saves}
 use Rattle.keep_loop.proofs.QuietLemmas.{told_quiet, left_quiet}
 use Rattle.keep_loop.proofs.SaveLemmas.{last_of, standing_then, told_then, told_same}
@@ -173,7 +174,7 @@ module _ {W C D : Type 0} (every : ℕ) (of_world : BodyOf W) (step : EventStep 
       (told_same contents moment left_since old_disk mid_disk disk so_far.told same.disk) ready
       (ap (λ (s : StoreState). s.shut) same.store ∙ so_far.open_)
       (ap (λ (s : StoreState). s.standing) same.store ∙ (so_far.standing ∙ ap (runs.standing_after_all first.standing) (sym (append-nil so_far.saves))))
-      (λ z over. same_adds every of_world step noted contents may_leave moment left_since first mid_store so_far.saves same.body
+      (λ z over. same_adds first mid_store so_far.saves same.body
       (of_world z.running.state.world) so_far.standing same.stands (same.is z over.stands)))
   by_marked save.Saved ended old_serves mid_serves new_serves old mid new count left old_disk mid_disk disk first mid_store now saved so_far after stays s
       ready stay =
@@ -183,7 +184,7 @@ module _ {W C D : Type 0} (every : ℕ) (of_world : BodyOf W) (step : EventStep 
       stays stay (told_then contents moment left_since old_disk mid_disk disk so_far.told s.told) ready
       (ap (λ (t : StoreState). t.shut) s.store)
       (ap (λ (t : StoreState). t.standing) s.store ∙ standing_then so_far.saves s.body first.standing mid_store.standing so_far.standing)
-      (λ z over. other_adds every of_world step noted contents may_leave moment left_since first mid_store so_far.saves s.body
+      (λ z over. other_adds first mid_store so_far.saves s.body
       (of_world z.running.state.world) so_far.standing s.differs (s.is z over.stands)))
   by_marked save.Failed ended old_serves mid_serves new_serves old mid new count left old_disk mid_disk disk first mid_store now saved so_far after stays failed
       ready stay = stops_marked old_serves mid_serves old mid new count left old_disk mid_disk disk first mid_store saved [] so_far (omega arith) after stay

@@ -13,6 +13,7 @@ use Rattle.spec_store.specs.Runs as runs
 use Rattle.spec_store.specs.Saves.{is_over_limit}
 use Rattle.serve_loop.specs.declared.turn_end.Turn.TheVariants as turn
 use Rattle.serve_loop.specs.Leads.{serves_any, events_in}
+use Rattle.serve_loop.specs.Looks.{IsBodyOf}
 use Rattle.serve_loop.specs.TurnTaken.{StandsOver, TakesEvent, Stays, BreaksTurn, TakesTurns}
 use Rattle.serve_loop.proofs.LeadLemmas.{AreOffers-append}
 use Rattle.serve_loop.proofs.TurnLemmas.{stands_over, stops_kept, stops_later}
@@ -29,8 +30,9 @@ use Rattle.keep_loop.specs.Ending.{EndsBySave, end_of, end_by_save}
 use Rattle.keep_loop.specs.Keeping.{Keeps, EndsAfter, TookAll, StopsInSave, BreaksOff, TookTurns, CountsSaves, FileStandsFor, StandsAfterSaves, StandsAtEnd}
 use Rattle.keep_loop.specs.Keeping.{AfterKeep, AllButLast, KeepsSoFar}
 use Rattle.keep_loop.proofs.SaveLemmas.{last_of, first_standing, over_then, standing_then, left_then, left_more, left_same, told_then, told_same}
-use Rattle.keep_loop.proofs.TurnLemmas.{state_played, keeps_last, keeps_to}
-use Rattle.keep_loop.proofs.KeepLemmas.{IsBodyOf, any_over, length_one, same_adds, other_adds, tick_keeps}
+use Rattle.keep_loop.proofs.BodyLemmas.{state_played}
+use Rattle.keep_loop.proofs.TurnLemmas.{keeps_last, keeps_to}
+use Rattle.keep_loop.proofs.KeepLemmas.{any_over, length_one, same_adds, other_adds, tick_keeps}
 
 -- how the turns of a run ended, behind so many of them
 abbrev pub CameOf : RunEnd → WireState → WireState → ℕ → ℕ → WireHistory → Type 0
@@ -236,15 +238,23 @@ module _ {W C D : Type 0} (every : ℕ) (of_world : BodyOf W) (step : EventStep 
       }
 
   -- memory was wanting in a turn
-  pub memory_in_turn : (old_serves mid_serves new_serves : Standing W C → Type 0) (old : WireState) (mid : WireHistory)
-      (new : WireState) (count left limit : ℕ) (old_disk disk : D) (first now : StoreState) (saved : ℕ) → count < limit
-      → SoFar old_serves mid_serves old.history mid count left old_disk disk first now saved → BreaksTurn step noted mid_serves mid new.history 1
+  pub memory_broken : (old_serves new_serves : Standing W C → Type 0) (old : WireState) (mid : WireHistory) (new : WireState) (count left limit : ℕ)
+      (old_disk disk : D) (first now : StoreState) (saved : ℕ) (later : List Move)
+      → (so_far : SoFar old_serves serves_any old.history mid count left old_disk disk first now saved) → new.history ≡ history_after mid later
+      → count + events_in later ≤ limit
+      → ((x : Standing W C) → StandsOver old_serves old.history.opened x → AreOffers step x.running.state (so_far.paced.keeps.turns.moves ++ later))
       → IsReady contents may_leave disk now → Ends keep.Memory old_serves new_serves old new limit old_disk disk first
-  memory_in_turn old_serves mid_serves new_serves old mid new count left limit old_disk disk first now saved fewer so_far breaks ready = record {
+  memory_broken old_serves new_serves old mid new count left limit old_disk disk first now saved later so_far logged most offers ready = record {
     saves = so_far.saves;
-    took = inl (breaks_off old_serves mid_serves old mid new count limit first so_far.saves breaks.breaks.moves so_far.paced.keeps
-        (inl breaks.breaks.logged)
-        (let events = breaks.breaks.events in let within = breaks.within in omega (arith, events, within, fewer)) breaks.breaks.are);
+    took = inl (record {
+      last = mid;
+      count = count;
+      keeps = so_far.paced.keeps;
+      later = later;
+      ended = inl logged;
+      most = most;
+      offers = offers;
+    });
     left = so_far.left;
     counted = tt;
     stands = none_last old_disk disk disk first.standing now so_far.saves [] so_far.saves (sym (append-nil so_far.saves)) (omega arith)
@@ -310,7 +320,7 @@ module _ {W C D : Type 0} (every : ℕ) (of_world : BodyOf W) (step : EventStep 
   last_took ended old_serves mid_serves new_serves old mid new count left limit old_disk mid_disk first mid_store saved body so_far came stays is differs =
       at_end ended old_serves new_serves old mid new count limit first (so_far.saves ++ body ∷ []) came
       (last_keeps old_serves mid_serves new_serves old.history mid count left old_disk mid_disk first mid_store saved (body ∷ []) so_far stays
-      (λ z over. other_adds every of_world step noted contents may_leave moment left_since first mid_store so_far.saves body
+      (λ z over. other_adds first mid_store so_far.saves body
       (of_world z.running.state.world) so_far.standing differs (is z over.stands)))
 
   -- the body at the end could not be made
@@ -346,7 +356,7 @@ module _ {W C D : Type 0} (every : ℕ) (of_world : BodyOf W) (step : EventStep 
       all_done ended saved so_far.saves old_serves new_serves old new limit old_disk disk first
       (took_all ended old_serves new_serves old mid new count limit first so_far.saves came (subst P (append-nil so_far.saves)
       (last_keeps old_serves mid_serves new_serves old.history mid count left old_disk mid_disk first mid_store saved [] so_far stays
-      (λ z over. same_adds every of_world step noted contents may_leave moment left_since first mid_store so_far.saves same.body
+      (λ z over. same_adds first mid_store so_far.saves same.body
       (of_world z.running.state.world) so_far.standing same.stands (same.is z over.stands)))))
       (left_same contents moment left_since old_disk mid_disk disk first.standing so_far.saves so_far.left same.disk)
       so_far.counted so_far.within
@@ -358,7 +368,7 @@ module _ {W C D : Type 0} (every : ℕ) (of_world : BodyOf W) (step : EventStep 
       all_done ended (saved + 1) (so_far.saves ++ s.body ∷ []) old_serves new_serves old new limit old_disk disk first
       (took_all ended old_serves new_serves old mid new count limit first (so_far.saves ++ s.body ∷ []) came
       (last_keeps old_serves mid_serves new_serves old.history mid count left old_disk mid_disk first mid_store saved (s.body ∷ []) so_far stays
-      (λ z over. other_adds every of_world step noted contents may_leave moment left_since first mid_store so_far.saves s.body
+      (λ z over. other_adds first mid_store so_far.saves s.body
       (of_world z.running.state.world) so_far.standing s.differs (s.is z over.stands))))
       (left_then contents moment left_since old_disk mid_disk disk first.standing
       mid_store.standing so_far.saves (s.body ∷ []) so_far.left so_far.told so_far.standing s.left)

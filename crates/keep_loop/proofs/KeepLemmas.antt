@@ -15,6 +15,7 @@ use Rattle.spec_store.specs.Saves.{is_over_limit}
 use Rattle.serve_loop.specs.declared.turn_end.Turn.{Turn}
 use Rattle.serve_loop.specs.declared.turn_end.Turn.TheVariants as turn
 use Rattle.serve_loop.specs.Leads.{serves_any, events_in}
+use Rattle.serve_loop.specs.Looks.{IsBodyOf}
 use Rattle.serve_loop.specs.TurnTaken.{StandsOver, TakesEvent, Stays, BreaksTurn}
 use Rattle.serve_loop.proofs.LeadLemmas.{AreOffers-append}
 use Rattle.serve_loop.proofs.TurnLemmas.{stands_over, stops_kept, stops_later}
@@ -37,16 +38,30 @@ use Rattle.keep_loop.proofs.SaveLemmas.{over_then, standing_then, left_then, lef
 use Rattle.keep_loop.proofs.SaveLemmas.{left_same, told_then, told_same}
 use Rattle.keep_loop.proofs.TurnLemmas.{bodies_of_turn, AlsoThen, keeps_then, keeps_none}
 
--- the body of a world that is served
-abbrev pub IsBodyOf : {W C : Type 0} → BodyOf W → (Standing W C → Type 0) → List ℕ → Type 0
-IsBodyOf {W} {C} of_world serves body = (x : Standing W C) → serves x → body ≡ of_world x.running.state.world
-
 pub any_over : {W C : Type 0} (serves : Standing W C → Type 0) (opened : List ℕ) (y : Standing W C) → StandsOver serves opened y
     → StandsOver serves_any opened y
 any_over serves opened y over = record { stands = tt; numbers = over.numbers }
 
 pub length_one : (saves : List (List ℕ)) (body : List ℕ) → length (saves ++ body ∷ []) ≡ length saves + 1
 length_one saves body = length-append saves (body ∷ [])
+
+-- the body that stands is the last one saved
+stands_last : (first now : StoreState) (saves : List (List ℕ))
+    → now.standing ≡ runs.standing_after_all first.standing saves → body_of now ≡ last_of (body_of first) saves
+stands_last first now saves is = ap body_in is ∙ body_after saves first.standing
+
+-- the saves of a body that stands, and of one that does not
+pub same_adds : (first now : StoreState) (saves : List (List ℕ)) (body value : List ℕ) → now.standing ≡ runs.standing_after_all first.standing saves
+    → is_standing (body_of now) body ≡ true → body ≡ value → saves_in (last_of (body_of first) saves) (value ∷ []) ≡ []
+same_adds first now saves body value standing stands is =
+    ap (λ v. saves_in (last_of (body_of first) saves) (v ∷ [])) (sym is)
+    ∙ saves-same (last_of (body_of first) saves) body (ap (λ o. is_standing o body) (sym (stands_last first now saves standing)) ∙ stands)
+
+pub other_adds : (first now : StoreState) (saves : List (List ℕ)) (body value : List ℕ) → now.standing ≡ runs.standing_after_all first.standing saves
+    → is_standing (body_of now) body ≡ false → body ≡ value → saves_in (last_of (body_of first) saves) (value ∷ []) ≡ body ∷ []
+other_adds first now saves body value standing differs is =
+    ap (λ v. saves_in (last_of (body_of first) saves) (v ∷ [])) (sym is)
+    ∙ saves-other (last_of (body_of first) saves) body (ap (λ o. is_standing o body) (sym (stands_last first now saves standing)) ∙ differs)
 
 module _ {W C D : Type 0} (every : ℕ) (of_world : BodyOf W) (step : EventStep W C) (noted : Noting W C) (contents : D → Option (List ℕ))
     (may_leave : D → List ℕ → Type 0) (moment : D → ℕ) (left_since : D → ℕ → List ℕ → Type 0) where
@@ -99,11 +114,6 @@ module _ {W C D : Type 0} (every : ℕ) (of_world : BodyOf W) (step : EventStep 
   some_at_end Also old_serves mid_serves new_serves old mid count left old_disk new_disk first now saved so_far stays some =
       let here = some_now Also old_serves mid_serves old mid count left old_disk new_disk first now saved so_far some in
       record { standing = here.standing; stands = stays here.standing here.stands.stands }
-
-  -- the body that stands is the last one saved
-  stands_last : (first now : StoreState) (saves : List (List ℕ))
-      → now.standing ≡ runs.standing_after_all first.standing saves → body_of now ≡ last_of (body_of first) saves
-  stands_last first now saves is = ap body_in is ∙ body_after saves first.standing
 
   abbrev Paced : (Standing W C → List Move → Type 0) → (Standing W C → Type 0) → (Standing W C → Type 0) → Option (List ℕ) → WireHistory → WireHistory
       → ℕ → ℕ → List (List ℕ) → Type 0
@@ -179,19 +189,6 @@ module _ {W C D : Type 0} (every : ℕ) (of_world : BodyOf W) (step : EventStep 
   keeps_passed Also Then goes_on old_serves mid_serves new_serves old mid new count left old_disk disk first now saved pass so_far takes =
       passes Also Then old_serves mid_serves new_serves old mid new count left (left - 1) turn.Tick old_disk disk first now saved so_far takes
       (λ body. left-passed every left body pass) (λ body. paced-passed every left body pass) goes_on
-
-  -- the saves of a body that stands, and of one that does not
-  pub same_adds : (first now : StoreState) (saves : List (List ℕ)) (body value : List ℕ) → now.standing ≡ runs.standing_after_all first.standing saves
-      → is_standing (body_of now) body ≡ true → body ≡ value → saves_in (last_of (body_of first) saves) (value ∷ []) ≡ []
-  same_adds first now saves body value standing stands is =
-      ap (λ v. saves_in (last_of (body_of first) saves) (v ∷ [])) (sym is)
-      ∙ saves-same (last_of (body_of first) saves) body (ap (λ o. is_standing o body) (sym (stands_last first now saves standing)) ∙ stands)
-
-  pub other_adds : (first now : StoreState) (saves : List (List ℕ)) (body value : List ℕ) → now.standing ≡ runs.standing_after_all first.standing saves
-      → is_standing (body_of now) body ≡ false → body ≡ value → saves_in (last_of (body_of first) saves) (value ∷ []) ≡ body ∷ []
-  other_adds first now saves body value standing differs is =
-      ap (λ v. saves_in (last_of (body_of first) saves) (v ∷ [])) (sym is)
-      ∙ saves-other (last_of (body_of first) saves) body (ap (λ o. is_standing o body) (sym (stands_last first now saves standing)) ∙ differs)
 
   -- a tick whose body stands already
   pub keeps_same : (Also Then : Standing W C → List Move → Type 0) (old_serves mid_serves new_serves : Standing W C → Type 0) (old mid new : WireHistory)

@@ -8,11 +8,12 @@ mod QuietLemmas
 pub mod MarkLemmas
 mod AlsoLemmas
 pub mod EndLemmas
-mod WantLemmas
 mod BegunLemmas
 mod LookLemmas
 pub mod ShownLemmas
 mod OnLemmas
 mod OnMarkLemmas
+mod SaverLemmas
+mod RunLemmas
 mod ShownOnLemmas
 mod LoopOnLemmas

@@ -17,10 +17,12 @@ use Rattle.serve_loop.specs.Looks.{Look, look_at, looks_at_event, looks_of_turns
 use Rattle.serve_loop.proofs.LeadLemmas.{history-append}
 use Rattle.persist_store.specs.Marks.{Mark}
 use Rattle.keep_loop.specs.Bodies.{BodyOf, bodies_at_event, bodies_at_ticks, bodies_looked_at, paced}
+use Rattle.keep_loop.specs.Keeping.{left_behind}
 use Rattle.keep_loop.specs.Marking.{AreMarks, IsBehind, MarksLook, MarksSoFar}
 use Rattle.keep_loop.specs.Shown.{bodies_shown, looked_at, MarksShown, MarksShownSoFar}
 use Rattle.keep_loop.proofs.BodyLemmas.{bodies-append, turn_shown}
 use Rattle.keep_loop.proofs.MarkLemmas.{Follows, marks_more}
+use Rattle.keep_loop.proofs.PaceLemmas.{paced-append, left-append}
 
 -- each turn has one event
 abbrev pub HasOne : LogTurn → Type 0
@@ -304,3 +306,16 @@ module _ (every : ℕ) (Holds Then : List (List ℕ) → Option (List ℕ) → T
             (marks_shown_later every Holds Then looks (look ∷ []) 0 m.marked follows m.are)
             (record { before = looks; look = look; later = []; are = refl; so_far = so_far; due = due; wire = wire; holds = holds });
       }
+
+-- the bodies that are looked at with one look more, and how many more are let pass then
+pub looked_at-more : (every left : ℕ) (looks : List Look) (look : Look) → left ≡ left_behind every (every - 1) (bodies_shown looks)
+    → looked_at every (looks ++ look ∷ []) ≡ looked_at every looks ++ paced every left (look.body ∷ [])
+looked_at-more every left looks look pace =
+    ap (paced every (every - 1)) (shown-append looks (look ∷ [])) ∙ (paced-append every (every - 1) (bodies_shown looks) (look.body ∷ [])
+    ∙ ap (λ n. looked_at every looks ++ paced every n (look.body ∷ [])) (sym pace))
+
+pub pace-more : (every left then_ : ℕ) (looks : List Look) (look : Look) → left ≡ left_behind every (every - 1) (bodies_shown looks)
+    → then_ ≡ left_behind every left (look.body ∷ []) → then_ ≡ left_behind every (every - 1) (bodies_shown (looks ++ look ∷ []))
+pace-more every left then_ looks look pace next =
+    next ∙ (ap (λ n. left_behind every n (look.body ∷ [])) pace
+    ∙ (sym (left-append every (every - 1) (bodies_shown looks) (look.body ∷ [])) ∙ ap (left_behind every (every - 1)) (sym (shown-append looks (look ∷ [])))))

@@ -38,7 +38,7 @@ told_bodies (event.Reload bytes) body = refl
 told_bodies (event.Writable c) body = refl
 
 -- the saves of more bodies, behind those of the first ones
-saves_more : (stood : Option (List ℕ)) (saves bodies more_bodies more all : List (List ℕ)) → saves ≡ saves_in stood bodies
+pub saves_more : (stood : Option (List ℕ)) (saves bodies more_bodies more all : List (List ℕ)) → saves ≡ saves_in stood bodies
     → saves_in (last_of stood saves) more_bodies ≡ more → all ≡ bodies ++ more_bodies → saves ++ more ≡ saves_in stood all
 saves_more stood saves bodies more_bodies more all are adds is =
     ap (λ l. saves ++ l) (sym adds)

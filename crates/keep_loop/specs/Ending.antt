@@ -23,6 +23,14 @@ end_by_save save.Failed ended saved = keep.StoreFault
 end_by_save save.Limit ended saved = keep.StoreLimit
 end_by_save save.Memory ended saved = keep.Memory
 
+-- so a run ends that what became of a body ended behind a tick
+abbrev pub EndsAsStopped : SaveEnd → KeepEnd → Type 0
+EndsAsStopped save.Same end = ⊥
+EndsAsStopped save.Saved end = ⊥
+EndsAsStopped save.Failed end = end ≡ keep.StoreFault
+EndsAsStopped save.Limit end = end ≡ keep.StoreLimit
+EndsAsStopped save.Memory end = end ≡ keep.Memory
+
 pub record EndsBySave {D : Type 0} (end : KeepEnd) (ended : RunEnd) (saved : ℕ) (IsBody : List ℕ → Type 0) (contents : D → Option (List ℕ))
     (moment : D → ℕ) (left_since : D → ℕ → List ℕ → Type 0) (old_disk new_disk : D) (old new : StoreState) : Type 0 where
   pub by : SaveEnd

@@ -7,4 +7,6 @@ pub mod KeepingOn
 pub mod Marking
 pub mod Looking
 pub mod Shown
+pub mod Saver
+pub mod SaverLaws
 pub mod SavingOn

@@ -12,6 +12,7 @@ mod reopened;
 mod run_end;
 mod save_counts;
 mod save_end;
+mod saves_or_stops;
 mod saves_on;
 mod saving;
 mod tells;
