@@ -30,7 +30,8 @@ use Rattle.keep_loop.specs.Ending.{EndsBySave, end_of, end_by_save}
 use Rattle.keep_loop.specs.Keeping.{Keeps, EndsAfter, TookAll, StopsInSave, BreaksOff, TookTurns, CountsSaves, FileStandsFor, StandsAfterSaves, StandsAtEnd}
 use Rattle.keep_loop.specs.Keeping.{AfterKeep, AllButLast, KeepsSoFar}
 use Rattle.keep_loop.proofs.SaveLemmas.{last_of, first_standing, over_then, standing_then, left_then, left_more, left_same, told_then, told_same}
-use Rattle.keep_loop.proofs.TurnLemmas.{state_played, keeps_last, keeps_to}
+use Rattle.keep_loop.proofs.BodyLemmas.{state_played}
+use Rattle.keep_loop.proofs.TurnLemmas.{keeps_last, keeps_to}
 use Rattle.keep_loop.proofs.KeepLemmas.{any_over, length_one, same_adds, other_adds, tick_keeps}
 
 -- how the turns of a run ended, behind so many of them
