@@ -29,6 +29,12 @@ pub saved_shown : {D : Type 0} (contents : D → Option (List ℕ)) (may_leave :
 saved_shown contents may_leave n every saved then_ old now old_disk disk most may ready open_ =
     record { some = may.some; few = (let few = may.few in omega (arith, few, most)); ready = ready; open_ = open_ }
 
+-- a body is due
+pub due_more : (every left : ℕ) (looks : List Look) (look : Look) → left ≡ 0 → left ≡ left_behind every (every - 1) (bodies_shown looks)
+    → looked_at every (looks ++ look ∷ []) ≡ looked_at every looks ++ look.body ∷ []
+due_more every left looks look due pace =
+    looked_at-more every left looks look pace ∙ ap (λ l. looked_at every looks ++ l) (paced-due every left look.body due)
+
 -- no file is opened, in one and then in another
 pub disk_then : {D : Type 0} (contents : D → Option (List ℕ)) (names : D → Option (List (List ℕ))) (fault_count : D → ℕ) (old mid new : D)
     → KeepsDisk contents names fault_count old mid → KeepsDisk contents names fault_count mid new → KeepsDisk contents names fault_count old new
@@ -67,11 +73,6 @@ module _ {D : Type 0} (contents : D → Option (List ℕ)) (may_leave : D → Li
             marked_shown_passed every Holds Holds looks look marks (λ looked file holds. holds) (marked disk) same (s.marks marks told);
         keeps = s.keeps;
       }
-
-  due_more : (every left : ℕ) (looks : List Look) (look : Look) → left ≡ 0 → left ≡ left_behind every (every - 1) (bodies_shown looks)
-      → looked_at every (looks ++ look ∷ []) ≡ looked_at every looks ++ look.body ∷ []
-  due_more every left looks look due pace =
-      looked_at-more every left looks look pace ∙ ap (λ l. looked_at every looks ++ l) (paced-due every left look.body due)
 
   -- the disk is marked behind a look
   marked_look : (every left saved : ℕ) (first now : StoreState) (start mid disk last : D) (saves : List (List ℕ)) (looks : List Look) (look : Look)
