@@ -1,8 +1,7 @@
 -- The saves so far go on with a turn.
-use Rattle.std.proofs.Common.{◌≡◌, ℕ, ◌+◌, ◌-◌, ◌<◌, ◌≤◌, List, [], ◌∷◌, ◌++◌, length, true, false, refl, sym, ap, ◌∙◌, subst, append-nil, inl, inr, arith}
-use Rattle.std.specs.Prelude.{Option, Some, ◌⊎◌}
+use Rattle.std.proofs.Common.{◌≡◌, ℕ, ◌+◌, List, [], ◌∷◌, ◌++◌, length, true, false, sym, ap, ◌∙◌}
 use Rattle.std.proofs.lemmas.List.{length-append}
-use Rattle.ads_served.specs.Standing.{Standing, standing_after_all}
+use Rattle.ads_served.specs.Standing.{Standing}
 use Rattle.spec_store.specs.Runs as runs
 use Rattle.serve_loop.specs.Leads.{serves_any}
 use Rattle.serve_loop.specs.TurnTaken.{StandsOver}

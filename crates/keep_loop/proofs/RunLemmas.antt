@@ -1,6 +1,6 @@
 -- What was shown of turns, in terms of a run with a store: its saves, how it ends, and its marks.
-use Rattle.std.proofs.Common.{◌≡◌, ℕ, ◌+◌, ◌-◌, ◌<◌, ◌≤◌, List, [], ◌∷◌, ◌++◌, true, false, refl, sym, ap, ◌∙◌, subst, append-nil, inl, inr, arith}
-use Rattle.std.specs.Prelude.{Bool, Option, ◌⊎◌}
+use Rattle.std.proofs.Common.{◌≡◌, ℕ, ◌+◌, ◌-◌, ◌<◌, ◌≤◌, List, [], ◌∷◌, ◌++◌, false, refl, sym, ap, ◌∙◌, subst, inl, arith}
+use Rattle.std.specs.Prelude.{Bool, Option}
 use Rattle.ads_outside.specs.declared.end.End.{End}
 use Rattle.ads_outside.specs.declared.end.End.TheVariants as end
 use Rattle.ads_outside.specs.declared.moves.Move.{Move}
@@ -183,7 +183,8 @@ module _ {W C D : Type 0} (every : ℕ) (of_world : BodyOf W) (step : EventStep 
       ends ready stay
 
   -- how one ends that want of memory broke
-  pub broken_keeps : (old_serves new_serves : Standing W C → Type 0) (old new : WireState) (limit : ℕ) → StandsForSome (StandsOver old_serves old.history.opened)
+  pub broken_keeps : (old_serves new_serves : Standing W C → Type 0) (old new : WireState) (limit : ℕ) → StandsForSome (StandsOver old_serves
+      old.history.opened)
       → ShowsBroken of_world step noted old_serves old.history new.history limit Seen → IsReady contents may_leave disk now
       → RunEnds keep.Memory old_serves new_serves old new limit disk
   unfolding so_far_of
@@ -251,7 +252,8 @@ module _ {W C D : Type 0} (every : ℕ) (of_world : BodyOf W) (step : EventStep 
       (Also every of_world step noted contents may_leave moment left_since marked old.history old_disk disk first) old_serves mid_serves new_serves
       old mid new count left limit old_disk disk last_disk first now saved fewer
       (so_far_of old_serves mid_serves old.history mid count some shows)
-      (tick_keeps old_serves mid_serves new_serves old.history mid new.history count stops.due some shows takes) stops.saves.0 stops.saves.1 stops.saves.2 stops.ready)
+      (tick_keeps old_serves mid_serves new_serves old.history mid new.history count stops.due some shows takes) stops.saves.0 stops.saves.1 stops.saves.2
+      stops.ready)
   stopped_keeps save.Memory end old_serves mid_serves new_serves old mid new count limit last_disk last some fewer shows takes stops so counts =
       subst (λ (e : KeepEnd). RunEnds e old_serves new_serves old new limit last_disk)
       (sym so) (memory_at_tick every of_world step noted contents may_leave moment left_since

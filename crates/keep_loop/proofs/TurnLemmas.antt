@@ -1,5 +1,5 @@
 -- A turn more, or the end: the saves among the bodies of all moves.
-use Rattle.std.proofs.Common.{◌≡◌, ℕ, ◌+◌, ◌-◌, List, [], ◌∷◌, ◌++◌, refl, sym, ap, ◌∙◌, subst}
+use Rattle.std.proofs.Common.{◌≡◌, ℕ, List, [], ◌∷◌, ◌++◌, sym, ap, ◌∙◌}
 use Rattle.std.specs.Prelude.{Option}
 use Rattle.ads_outside.specs.WireState.{WireHistory}
 use Rattle.spec_machine.specs.MachineState.{MachineState}
