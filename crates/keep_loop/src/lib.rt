@@ -26,5 +26,5 @@ pub use laws::done_saves_are_not_undone;
 pub use run_end::RunEnd;
 pub use save_counts::SaveCounts;
 pub use save_end::SaveEnd;
-pub use tells::Tells;
+pub use tells::serve_telling;
 pub use told::Told;
