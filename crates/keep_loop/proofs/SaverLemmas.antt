@@ -120,8 +120,12 @@ module _ {D : Type 0} (contents : D → Option (List ℕ)) (may_leave : D → Li
         left = left_quiet contents may_leave moment left_since counts start disk last first.standing saves
             (left_same contents moment left_since start mid disk first.standing saves s.left same.disk) quiet;
         marks = marked_look every left saved first now start mid disk last saves looks look due s.pace are told ready open_ standing stays one s.marks;
-        keeps = disk_then contents names fault_count start mid last s.keeps (disk_then contents names fault_count mid disk last keeps (record { untold = λ
-        e. quiet.same ∙ e; named = named; later = later }));
+        keeps = disk_then contents names fault_count start mid last s.keeps (disk_then contents names fault_count mid disk last keeps (record {
+          untold = λ
+              e. quiet.same ∙ e;
+          named = named;
+          later = later;
+        }));
       }
 
   -- one that was saved
@@ -156,6 +160,10 @@ module _ {D : Type 0} (contents : D → Option (List ℕ)) (may_leave : D → Li
             (left_then contents moment left_since start mid disk first.standing mid_store.standing saves (made.body ∷ []) s.left s.told s.standing made.left)
             quiet;
         marks = marked_look every left saved first now start mid disk last all looks look due s.pace are told ready open_ standing stays one s.marks;
-        keeps = disk_then contents names fault_count start mid last s.keeps (disk_then contents names fault_count mid disk last keeps (record { untold = λ
-        e. quiet.same ∙ e; named = named; later = later }));
+        keeps = disk_then contents names fault_count start mid last s.keeps (disk_then contents names fault_count mid disk last keeps (record {
+          untold = λ
+              e. quiet.same ∙ e;
+          named = named;
+          later = later;
+        }));
       }
