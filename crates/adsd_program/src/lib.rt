@@ -3,8 +3,7 @@
 
 mod kept_body;
 mod kept_description;
-mod log_board;
-mod log_notes;
+mod log_told;
 mod plant_judge;
 mod process;
 mod read_before;

@@ -5,8 +5,7 @@ ghost use Rattle.adsd_program.specs.Profiles.{manner_said, rights_said};
 
 use crate::kept_body::{first_body, net_in, standing_body};
 use crate::kept_description::{KeptDescription, kept_text, rule_of};
-use crate::log_board::LogBoard;
-use crate::log_notes::LogNotes;
+use crate::log_told::LogTold;
 use crate::plant_judge::PlantJudge;
 use crate::read_before::ReadBefore;
 use crate::real_names::RealNames;
@@ -405,16 +404,14 @@ fn serve_posted<T: Threads + Sync, S: Sink>(
     } else {
         None
     };
-    let posts = LogBoard {
-        board: board.handle()?,
-        store,
-    };
-    let mut notes = LogNotes {
+    let told = LogTold {
         rt: *rt,
         board: board.handle()?,
+        store,
+        before: None,
     };
     serve_signals(
-        rt, threads, setup, list, files, watched, out, disk, posts, &mut notes,
+        rt, threads, setup, list, files, watched, out, disk, told,
     )
 }
 
@@ -428,8 +425,7 @@ fn serve_signals<T: Threads + Sync, S: Sink>(
     watched: &mut RealWatched,
     out: &mut S,
     disk: &mut StoreFile,
-    posts: LogBoard,
-    notes: &mut LogNotes,
+    told: LogTold,
 ) -> Result<Status, NoMemory> {
     let mut signals: Vec<Box<dyn Signal>> = Vec::new(rt.alloc());
     for played in list.into_vec() {
@@ -450,8 +446,7 @@ fn serve_signals<T: Threads + Sync, S: Sink>(
         watched,
         out,
         disk,
-        posts,
-        notes,
+        told,
         signals,
     ))
 }

@@ -2,9 +2,8 @@
 //! runs: their words, files and events, the calls that fail, and the status, the output, the log and the store that must come.
 #![tactic(auto)]
 
-mod case_board;
 mod case_judge;
-mod case_notes;
+mod case_told;
 mod run_case;
 
 use crate::run_case::Adsd;

@@ -3,9 +3,8 @@
 ghost use Rattle.std.specs.Prelude.{[], IsTrue};
 ghost use Rattle.ads_outside.specs.Opened.{are_new};
 
-use crate::case_board::CaseBoard;
 use crate::case_judge::CaseJudge;
-use crate::case_notes::CaseNotes;
+use crate::case_told::CaseTold;
 use ads_base::{Calls, ListOf, NoMemory, Octets};
 use ads_outside::{Cuts, Files, MemFiles, MemSink, MemWire, Sink, Wire};
 use daemon_log::{Chronicle, Noticeboard};
@@ -215,14 +214,11 @@ fn serve_posted<
     disk: &mut D,
     board: &Noticeboard,
 ) -> Result<Status, NoMemory> {
-    let posts = CaseBoard {
-        board: board.handle()?,
-    };
-    let mut notes = CaseNotes {
+    let told = CaseTold {
         board: board.handle()?,
     };
     serve_signals(
-        threads, alloc, setup, list, files, watched, out, disk, posts, &mut notes,
+        threads, alloc, setup, list, files, watched, out, disk, told,
     )
 }
 
@@ -244,8 +240,7 @@ fn serve_signals<
     watched: &mut Watched<W, P, O>,
     out: &mut S,
     disk: &mut D,
-    posts: CaseBoard,
-    notes: &mut CaseNotes,
+    told: CaseTold,
 ) -> Result<Status, NoMemory> {
     let mut signals: Vec<Box<dyn Signal>> = Vec::new(alloc);
     for played in list.into_vec() {
@@ -266,8 +261,7 @@ fn serve_signals<
         watched,
         out,
         disk,
-        posts,
-        notes,
+        told,
         signals,
     ))
 }

@@ -16,17 +16,16 @@ use crate::plant_served::serve_read;
 use ads_base::NoMemory;
 use ads_outside::{Files, Sink, Wire};
 use cli_words::Text;
-use daemon_core::Board;
-use keep_loop::SaveNotes;
+use keep_loop::Told;
 use persist_store::Disk;
 use run_tasks::{Status, end_without_memory, print_outcome, read_description};
-use server_core::{Profile, Sources};
+use server_core::{Core, Profile, Sources};
 use std::alloc::Global;
 use std::thread::Threads;
 
 /// Serves the plant of a description's file over a wire that listens there, by the server of a profile, until the wire ends. With a
 /// store its persistent symbols begin with what the file of that name holds, and are saved after each so manieth tick and at the
-/// end, where they differ from what stands. The board is told what became of each event, and the notes what became of each save.
+/// end, where they differ from what stands. It is told what became of each event and of each save.
 /// The store is opened, and the wire started, only where the description is accepted.
 pub fn run_plant<
     T: Threads + Sync,
@@ -34,9 +33,8 @@ pub fn run_plant<
     W: Wire,
     S: Sink,
     D: Disk,
-    B: Board + Drop,
-    N: SaveNotes,
     G: Sources,
+    N: Told<Core<G>> + Drop,
 >(
     rt: &T,
     alloc: Global,
@@ -49,8 +47,7 @@ pub fn run_plant<
     wire: &mut W,
     out: &mut S,
     disk: &mut D,
-    board: B,
-    notes: &mut N,
+    told: N,
     signals: G,
 ) -> Status
     requires few { length (G.waves signals) < 2 ^ 32 }
@@ -84,7 +81,7 @@ pub fn run_plant<
                 read,
                 wire,
                 out,
-                board,
+                told,
                 signals,
             ),
             Some(store) => keep_read(
@@ -99,8 +96,7 @@ pub fn run_plant<
                 wire,
                 out,
                 disk,
-                board,
-                notes,
+                told,
                 signals,
             ),
         },

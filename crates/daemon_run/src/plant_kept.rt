@@ -23,8 +23,7 @@ use crate::printing::print_end;
 use ads_base::NoMemory;
 use ads_outside::{Sink, Wire};
 use cli_words::Text;
-use daemon_core::{Board, PostedCore};
-use keep_loop::{KeptOn, SaveEnd, SaveNotes, keep_on};
+use keep_loop::{KeptOn, SaveEnd, Told, keep_on};
 use persist_store::{Disk, Store, StoreOpen};
 use plant_commands::start_and_tell;
 use run_tasks::{Accepted, Status, end_without_memory, print_line};
@@ -39,9 +38,8 @@ pub(crate) fn keep_read<
     W: Wire,
     S: Sink,
     D: Disk,
-    B: Board + Drop,
-    N: SaveNotes,
     G: Sources,
+    N: Told<Core<G>> + Drop,
 >(
     rt: &T,
     alloc: Global,
@@ -54,8 +52,7 @@ pub(crate) fn keep_read<
     wire: &mut W,
     out: &mut S,
     disk: &mut D,
-    board: B,
-    notes: &mut N,
+    told: N,
     signals: G,
 ) -> Status
     requires few { length (G.waves signals) < 2 ^ 32 }
@@ -72,13 +69,10 @@ pub(crate) fn keep_read<
     match Store::open(alloc, disk, store.as_str()) {
         Err(NoMemory) => end_without_memory(out),
         Ok(StoreOpen::Failed) => print_line(alloc, Status::StoreFault, out),
-        Ok(StoreOpen::Ready(opened)) => {
-            let mut held = opened;
-            keep_opened(
-                rt, alloc, profile, name, listen, read, store, &mut held, every, wire, out, disk,
-                board, notes, signals,
-            )
-        }
+        Ok(StoreOpen::Ready(opened)) => keep_opened(
+            rt, alloc, profile, name, listen, read, store, opened, every, wire, out, disk, told,
+            signals,
+        ),
     }
 }
 
@@ -88,9 +82,8 @@ fn keep_opened<
     W: Wire,
     S: Sink,
     D: Disk,
-    B: Board + Drop,
-    N: SaveNotes,
     G: Sources,
+    N: Told<Core<G>> + Drop,
 >(
     rt: &T,
     alloc: Global,
@@ -99,23 +92,22 @@ fn keep_opened<
     listen: &Text,
     read: Accepted,
     file: &Text,
-    store: &mut Store,
+    store: Store,
     every: u64,
     wire: &mut W,
     out: &mut S,
     disk: &mut D,
-    board: B,
-    notes: &mut N,
+    told: N,
     signals: G,
 ) -> Status
     requires few { length (G.waves signals) < 2 ^ 32 }
     requires accepted { IsAccepted (description_of read.description) (length (G.waves signals)) }
     requires every { 1 ≤ every }
-    requires ready { IsReady D.contents D.may_leave disk.old store.old }
-    requires open { store.old.shut ≡ false }
+    requires ready { IsReady D.contents D.may_leave disk.old store }
+    requires open { store.shut ≡ false }
     ensures ends { EndsOn every (record { listen = listen.now; name = name.now; first = read.bytes })
-        (at_start_in (profile_of profile) (description_kept (description_of read.description) store.old.standing) (G.waves signals))
-        store.old.standing result (S.state out.old) (S.state out.new)
+        (at_start_in (profile_of profile) (description_kept (description_of read.description) store.standing) (G.waves signals))
+        store.standing result (S.state out.old) (S.state out.new)
         D.contents D.may_leave D.moment D.left_since D.marked D.fault_count disk.old disk.new (W.state wire.old).history (W.state wire.new).history }
     ensures status { IsOfPlant result }
     ensures later { D.fault_count disk.old ≤ D.fault_count disk.new }
@@ -127,59 +119,57 @@ fn keep_opened<
         Ok(stored) => stored,
         Err(NoMemory) => return end_without_memory(out),
     };
-    let core = match Core::build_in(alloc, profile, stored, signals) {
+    let mut core = match Core::build_in(alloc, profile, stored, signals) {
         Ok(core) => core,
         Err(NoMemory) => return end_without_memory(out),
     };
-    let mut posted = PostedCore { core, board };
-    keep_posted(
+    keep_core(
         rt,
         alloc,
         listen.as_str(),
         name.as_str(),
         bytes.as_slice(),
-        &mut posted,
+        &mut core,
         file.as_str(),
         store,
         every,
         wire,
         out,
         disk,
-        notes,
+        told,
     )
 }
 
 // Starts the wire, and serves a core over it and over an open store.
-fn keep_posted<
+fn keep_core<
     T: Threads + Sync,
     W: Wire,
     S: Sink,
     D: Disk,
-    B: Board + Drop,
-    N: SaveNotes,
     G: Sources,
+    N: Told<Core<G>> + Drop,
 >(
     rt: &T,
     alloc: Global,
     listen: &str,
     name: &str,
     first: &[u8],
-    posted: &mut PostedCore<G, B>,
+    core: &mut Core<G>,
     file: &str,
-    store: &mut Store,
+    store: Store,
     every: u64,
     wire: &mut W,
     out: &mut S,
     disk: &mut D,
-    notes: &mut N,
+    told: N,
 ) -> Status
-    requires some { StandsForSomeAnew (StandsAt posted.old.core) }
+    requires some { StandsForSomeAnew (StandsAt core.old) }
     requires every { 1 ≤ every }
-    requires ready { IsReady D.contents D.may_leave disk.old store.old }
-    requires open { store.old.shut ≡ false }
-    ensures ends { (x : Standing World Client) → StandsAnew (StandsAt posted.old.core) x
+    requires ready { IsReady D.contents D.may_leave disk.old store }
+    requires open { store.shut ≡ false }
+    ensures ends { (x : Standing World Client) → StandsAnew (StandsAt core.old) x
         → EndsOn every (record { listen = listen.now; name = name.now; first = first.now }) x
-        store.old.standing result (S.state out.old) (S.state out.new)
+        store.standing result (S.state out.old) (S.state out.new)
         D.contents D.may_leave D.moment D.left_since D.marked D.fault_count disk.old disk.new (W.state wire.old).history (W.state wire.new).history }
     ensures status { IsOfPlant result }
     ensures later { D.fault_count disk.old ≤ D.fault_count disk.new }
@@ -188,7 +178,7 @@ fn keep_posted<
 {
     match start_and_tell(listen, name, first, wire, out) {
         Ok(()) => run_kept(
-            rt, alloc, posted, file, store, every, wire, out, disk, notes,
+            rt, alloc, core, file, store, every, wire, out, disk, told,
         ),
         Err(status) => status,
     }
@@ -200,27 +190,26 @@ fn run_kept<
     W: Wire,
     S: Sink,
     D: Disk,
-    B: Board + Drop,
-    N: SaveNotes,
     G: Sources,
+    N: Told<Core<G>> + Drop,
 >(
     rt: &T,
     alloc: Global,
-    posted: &mut PostedCore<G, B>,
+    core: &mut Core<G>,
     file: &str,
-    store: &mut Store,
+    store: Store,
     every: u64,
     wire: &mut W,
     out: &mut S,
     disk: &mut D,
-    notes: &mut N,
+    told: N,
 ) -> Status
-    requires some { StandsForSomeAnew (StandsAt posted.old.core) }
+    requires some { StandsForSomeAnew (StandsAt core.old) }
     requires every { 1 ≤ every }
-    requires ready { IsReady D.contents D.may_leave disk.old store.old }
-    requires open { store.old.shut ≡ false }
-    ensures ends { (x : Standing World Client) → StandsAnew (StandsAt posted.old.core) x
-        → RunsOn every x store.old.standing result (S.state out.old) (S.state out.new)
+    requires ready { IsReady D.contents D.may_leave disk.old store }
+    requires open { store.shut ≡ false }
+    ensures ends { (x : Standing World Client) → StandsAnew (StandsAt core.old) x
+        → RunsOn every x store.standing result (S.state out.old) (S.state out.new)
         D.contents D.may_leave D.moment D.left_since D.marked D.fault_count disk.old disk.new (W.state wire.old).history (W.state wire.new).history }
     ensures status { IsOfPlant result }
     ensures later { D.fault_count disk.old ≤ D.fault_count disk.new }
@@ -230,18 +219,18 @@ fn run_kept<
     let kept = keep_on(
         rt,
         alloc,
-        posted,
+        core,
         wire,
         store,
         disk,
         file,
-        notes,
+        told,
         every,
         u64::MAX - 1,
     );
     print_end(
         alloc,
-        &posted.core,
+        core,
         kept.ended,
         status_of(&kept),
         Some(kept.counts.saved),

@@ -18,7 +18,7 @@ use crate::printing::print_end;
 use ads_base::NoMemory;
 use ads_outside::{Sink, Wire};
 use cli_words::Text;
-use daemon_core::{Board, PostedCore};
+use keep_loop::{Told, serve_telling};
 use plant_commands::start_and_tell;
 use run_tasks::{Accepted, Status, end_without_memory};
 use server_core::{Core, Profile, Sources};
@@ -27,7 +27,13 @@ use std::thread::Threads;
 
 /// Serves a description that was read over a wire, until that ends.
 #[tactic(auto, using(spec_persistent::proofs::StoredLemmas::accepted_may_begin))]
-pub(crate) fn serve_read<T: Threads + Sync, W: Wire, S: Sink, B: Board + Drop, G: Sources>(
+pub(crate) fn serve_read<
+    T: Threads + Sync,
+    W: Wire,
+    S: Sink,
+    G: Sources,
+    N: Told<Core<G>> + Drop,
+>(
     rt: &T,
     alloc: Global,
     profile: Profile,
@@ -36,7 +42,7 @@ pub(crate) fn serve_read<T: Threads + Sync, W: Wire, S: Sink, B: Board + Drop, G
     read: Accepted,
     wire: &mut W,
     out: &mut S,
-    board: B,
+    told: N,
     signals: G,
 ) -> Status
     requires few { length (G.waves signals) < 2 ^ 32 }
@@ -49,57 +55,60 @@ pub(crate) fn serve_read<T: Threads + Sync, W: Wire, S: Sink, B: Board + Drop, G
     let Accepted { bytes, description } = read;
     match Core::build_in(alloc, profile, description, signals) {
         Err(NoMemory) => end_without_memory(out),
-        Ok(core) => {
-            let mut posted = PostedCore { core, board };
-            serve_posted(
+        Ok(built) => {
+            let mut core = built;
+            serve_core(
                 rt,
                 alloc,
                 listen.as_str(),
                 name.as_str(),
                 bytes.as_slice(),
-                &mut posted,
+                &mut core,
                 wire,
                 out,
+                told,
             )
         }
     }
 }
 
 // Starts the wire, and serves a core over it.
-fn serve_posted<T: Threads + Sync, W: Wire, S: Sink, B: Board + Drop, G: Sources>(
+fn serve_core<T: Threads + Sync, W: Wire, S: Sink, G: Sources, N: Told<Core<G>> + Drop>(
     rt: &T,
     alloc: Global,
     listen: &str,
     name: &str,
     first: &[u8],
-    posted: &mut PostedCore<G, B>,
+    core: &mut Core<G>,
     wire: &mut W,
     out: &mut S,
+    told: N,
 ) -> Status
     ensures status { IsOfService result }
-    ensures ends { (x : Standing World Client) → StandsAnew (StandsAt posted.old.core) x
+    ensures ends { (x : Standing World Client) → StandsAnew (StandsAt core.old) x
         → EndsStarted (record { listen = listen.now; name = name.now; first = first.now })
         (λ between started. RunsMachine served_step server_counts x endless result between (S.state out.new) started (W.state wire.new).history)
         result (S.state out.old) (S.state out.new) (W.state wire.old).history (W.state wire.new).history }
 {
     match start_and_tell(listen, name, first, wire, out) {
-        Ok(()) => run_posted(rt, alloc, posted, wire, out),
+        Ok(()) => run_core(rt, alloc, core, wire, out, told),
         Err(status) => status,
     }
 }
 
 // A core is served, and what that comes to is printed.
-fn run_posted<T: Threads + Sync, W: Wire, S: Sink, B: Board + Drop, G: Sources>(
+fn run_core<T: Threads + Sync, W: Wire, S: Sink, G: Sources, N: Told<Core<G>> + Drop>(
     rt: &T,
     alloc: Global,
-    posted: &mut PostedCore<G, B>,
+    core: &mut Core<G>,
     wire: &mut W,
     out: &mut S,
+    told: N,
 ) -> Status
     ensures status { IsOfService result }
-    ensures ends { (x : Standing World Client) → StandsAnew (StandsAt posted.old.core) x
+    ensures ends { (x : Standing World Client) → StandsAnew (StandsAt core.old) x
         → RunsMachine served_step server_counts x endless result (S.state out.old) (S.state out.new) (W.state wire.old).history (W.state wire.new).history }
 {
-    let ended = serve_loop::serve(rt, alloc, posted, wire, u64::MAX);
-    print_end(alloc, &posted.core, ended, Status::Done, None, out)
+    let ended = serve_telling(rt, alloc, core, wire, told, u64::MAX);
+    print_end(alloc, core, ended, Status::Done, None, out)
 }

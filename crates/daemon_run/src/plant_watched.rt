@@ -15,12 +15,11 @@ ghost use Rattle.daemon_run.specs.PlantEnds.{PlantBy};
 use crate::plant::run_plant;
 use ads_outside::{Files, Sink, Wire};
 use cli_words::Text;
-use daemon_core::Board;
 use daemon_outside::{Onlooker, Stop};
-use keep_loop::SaveNotes;
+use keep_loop::Told;
 use persist_store::Disk;
 use run_tasks::Status;
-use server_core::{Profile, Sources};
+use server_core::{Core, Profile, Sources};
 use std::alloc::Global;
 use std::thread::Threads;
 use watched_wire::Watched;
@@ -36,9 +35,8 @@ pub fn run_watched<
     O: Onlooker<W> + Drop,
     S: Sink,
     D: Disk,
-    B: Board + Drop,
-    N: SaveNotes,
     G: Sources,
+    N: Told<Core<G>> + Drop,
 >(
     rt: &T,
     alloc: Global,
@@ -51,8 +49,7 @@ pub fn run_watched<
     wire: &mut Watched<W, P, O>,
     out: &mut S,
     disk: &mut D,
-    board: B,
-    notes: &mut N,
+    told: N,
     signals: G,
 ) -> Status
     requires few { length (G.waves signals) < 2 ^ 32 }
@@ -84,8 +81,7 @@ pub fn run_watched<
         wire,
         out,
         disk,
-        board,
-        notes,
+        told,
         signals,
     );
     wire.ended_for_a_reason();

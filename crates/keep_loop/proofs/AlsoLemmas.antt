@@ -1,5 +1,5 @@
 -- The marks of a run with a store go on with a turn, and how they end.
-use Rattle.std.proofs.Common.{◌≡◌, ℕ, ◌+◌, ◌≤◌, List, [], ◌∷◌, ◌++◌, length, true, false, refl, sym, ap, ◌∙◌, subst, append-nil, inl, arith}
+use Rattle.std.proofs.Common.{◌≡◌, ℕ, ◌+◌, ◌≤◌, List, [], ◌∷◌, ◌++◌, true, false, refl, sym, ap, ◌∙◌, subst, append-nil, arith}
 use Rattle.std.proofs.lemmas.Bool.{false≢true}
 use Rattle.std.specs.Prelude.{Bool, Option}
 use Rattle.ads_outside.specs.declared.moves.Move.{Move}
@@ -17,7 +17,7 @@ use Rattle.keep_loop.specs.declared.run_end.RunEnd.{RunEnd}
 use Rattle.keep_loop.specs.declared.run_end.RunEnd.TheVariants as run
 use Rattle.keep_loop.specs.declared.save_end.SaveEnd.{SaveEnd}
 use Rattle.keep_loop.specs.declared.save_end.SaveEnd.TheVariants as save
-use Rattle.keep_loop.specs.Bodies.{BodyOf, paced, bodies_to_end, saves_in}
+use Rattle.keep_loop.specs.Bodies.{BodyOf, bodies_to_end, saves_in}
 use Rattle.keep_loop.specs.Ending.{EndsBySave, end_of, end_by_save}
 use Rattle.keep_loop.specs.Keeping.{EndsAfter, KeepsSoFar}
 use Rattle.keep_loop.specs.Marking.{HoldsSaves, MarksBeforeEnd, MarksMore, MarksOf, is_to_end}

@@ -44,7 +44,8 @@ module _ {W C D : Type 0} (every : ℕ) (of_world : BodyOf W) (step : EventStep 
       → Looked old_disk disk first now counts (bodies_looked_at every of_world step x.running.state moves)
 
   -- what was shown of turns says so of their moves
-  abbrev pub ShowsLooks : {K : Type 0} → (K → List Look → Type 0) → (Standing W C → Type 0) → WireHistory → D → D → StoreState → StoreState → SaveCounts → Type 1
+  abbrev pub ShowsLooks : {K : Type 0} → (K → List Look → Type 0) → (Standing W C → Type 0) → WireHistory → D → D → StoreState → StoreState → SaveCounts →
+      Type 1
   ShowsLooks Seen old_serves old old_disk disk first now counts = (new_serves : Standing W C → Type 0) (mid : WireHistory) (count : ℕ)
       (shows : ShowsTurns of_world step noted old_serves new_serves old mid count Seen)
       → LooksIn old_serves old old_disk disk first now counts shows.turns.moves

@@ -1,5 +1,5 @@
 -- Bodies that are looked at one tick after another: which are, and how many more are let pass.
-use Rattle.std.proofs.Common.{◌≡◌, ℕ, zero, suc, ◌-◌, ◌<◌, List, [], ◌∷◌, ◌++◌, refl, ap, ◌∙◌, arith}
+use Rattle.std.proofs.Common.{◌≡◌, ℕ, zero, suc, ◌-◌, ◌<◌, List, [], ◌∷◌, ◌++◌, refl, ap, arith}
 use Rattle.keep_loop.specs.Bodies.{paced}
 use Rattle.keep_loop.specs.Keeping.{left_behind}
 

@@ -1,5 +1,5 @@
 -- A call of the disk that changes nothing of its file, behind what was done before it.
-use Rattle.std.proofs.Common.{◌≡◌, ℕ, ◌≤◌, List, refl, sym, ◌∙◌}
+use Rattle.std.proofs.Common.{ℕ, ◌≤◌, List, refl, sym, ◌∙◌}
 use Rattle.std.specs.Prelude.{Option}
 use Rattle.ads_outside.specs.WireState.{WireState}
 use Rattle.spec_machine.specs.Moves.{EventStep, state_after}

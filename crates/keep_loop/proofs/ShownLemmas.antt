@@ -174,7 +174,8 @@ split_at {W} {C} body_of step (t ∷ ts) s h before look later are =
         → SplitsAt body_of step s h (t ∷ ts) before look
     split_tick body_of step t ts s h [] look later one are goes =
         let here = look_at (body_of (state_after step s (moves_of_turn t)).world) (history_after h (moves_of_turn t)) in
-        let is : here ≡ look = head_is here look (looks_of_turns body_of step (state_after step s (moves_of_turn t)) (history_after h (moves_of_turn t)) ts) later are in
+        let is : here ≡ look = head_is here look (looks_of_turns body_of step (state_after step s (moves_of_turn t)) (history_after h (moves_of_turn t))
+        ts) later are in
         split_here body_of step t ts s h look (one ∙ ap (λ l. l ∷ []) is) is
     split_tick body_of step t ts s h (b ∷ before) look later one are goes =
         let here = look_at (body_of (state_after step s (moves_of_turn t)).world) (history_after h (moves_of_turn t)) in
@@ -225,12 +226,12 @@ module _ {W C : Type 0} (every : ℕ) (body_of : BodyOf W) (step : EventStep W C
       let one = all_one r.front r.back r.turn all in
       let front = all_front r.front (r.turn ∷ r.back) all in
       let both : All HasOne (r.front ++ r.turn ∷ []) =
-          All-append HasOne r.front (r.turn ∷ []) front (All-cons HasOne r.turn [] one (All-nil HasOne)) in
+      All-append HasOne r.front (r.turn ∷ []) front (All-cons HasOne r.turn [] one (All-nil HasOne)) in
       let so_far : looked_at every m.before ≡ bodies_looked_at every body_of step s first =
-          ap (looked_at every) (sym r.shown) ∙ looked_of_turns r.front front in
+      ap (looked_at every) (sym r.shown) ∙ looked_of_turns r.front front in
       let due : looked_at every (m.before ++ m.look ∷ []) ≡ bodies_looked_at every body_of step s (first ++ turn) =
-          ap (looked_at every) (sym r.more) ∙ (looked_of_turns (r.front ++ r.turn ∷ []) both
-          ∙ ap (bodies_looked_at every body_of step s) (flat_one r.front r.turn)) in
+      ap (looked_at every) (sym r.more) ∙ (looked_of_turns (r.front ++ r.turn ∷ []) both
+      ∙ ap (bodies_looked_at every body_of step s) (flat_one r.front r.turn)) in
       record {
         before = first;
         turn = turn;

@@ -1,22 +1,15 @@
 -- What becomes of a body that is looked at where an earlier save may have failed. No public clause cites it.
-use Rattle.std.specs.Prelude.{◌≡◌, ◌⊎◌, ℕ, ◌+◌, ◌-◌, ◌<◌, ◌≤◌, List, [], ◌∷◌, false, Option, Some, None}
+use Rattle.std.specs.Prelude.{◌≡◌, ◌⊎◌, ℕ, ◌+◌, ◌<◌, ◌≤◌, List, false, Option, Some, None}
 use Rattle.ads_outside.specs.declared.end.End.{End}
-use Rattle.ads_outside.specs.declared.moves.Move.{Move}
-use Rattle.ads_outside.specs.WireState.{WireHistory}
-use Rattle.spec_machine.specs.Moves.{EventStep}
-use Rattle.ads_served.specs.Standing as served
-use Rattle.ads_served.specs.Standing.{Noting}
 use Rattle.spec_store.specs.Disk.{LeavesOnly}
 use Rattle.spec_store.specs.Slots.{Standing, standing_of}
 use Rattle.spec_store.specs.Runs.{standing_after_all}
-use Rattle.serve_loop.specs.TurnTaken.{StandsOver, TakesTurns}
 use Rattle.persist_store.specs.Store.{StoreState, body_of, IsReady}
 use Rattle.keep_loop.specs.declared.kept_on.KeptOn.{KeptOn}
 use Rattle.keep_loop.specs.declared.save_counts.SaveCounts.{SaveCounts}
 use Rattle.keep_loop.specs.declared.save_end.SaveEnd.{SaveEnd}
 use Rattle.keep_loop.specs.declared.save_end.SaveEnd.TheVariants as save
-use Rattle.keep_loop.specs.Bodies.{BodyOf, bodies_at_ticks, paced, saves_in, is_any_over}
-use Rattle.keep_loop.specs.Keeping.{left_behind}
+use Rattle.keep_loop.specs.Bodies.{saves_in, is_any_over}
 use Rattle.keep_loop.specs.KeepingOn.{Begun, MayStand, StoodOnce, AreSomeOf, bodies_begun, all_done, done_in, IsAnyOver, IsWhole}
 use Rattle.keep_loop.specs.Saving.{StaysTold, AfterSave}
 
@@ -102,17 +95,3 @@ pub record LookedSoFar {D : Type 0} (contents : D → Option (List ℕ)) (may_le
   pub over : 0 < counts.over → IsAnyOver looked
   pub whole : IsWhole counts → WholeSoFar first.standing (body_of first) looked begun now
   pub file : FileSoFar contents may_leave moment left_since old_disk new_disk first.standing begun
-
--- so many turns were taken so far, of the bodies after their ticks each so manieth was looked at, and what else holds of the moves
-pub record ServesOnSoFar {W C D : Type 0} (Also : served.Standing W C → List Move → Type 0) (every : ℕ) (of_world : BodyOf W) (step : EventStep W C)
-    (noted : Noting W C)
-    (contents : D → Option (List ℕ)) (may_leave : D → List ℕ → Type 0) (moment : D → ℕ) (left_since : D → ℕ → List ℕ → Type 0)
-    (old_serves new_serves : served.Standing W C → Type 0) (old new : WireHistory) (count left : ℕ) (old_disk new_disk : D)
-    (first now : StoreState) (counts : SaveCounts) : Type 0 where
-  pub turns : TakesTurns step noted old_serves new_serves old new count
-  pub pace : (x : served.Standing W C) → StandsOver old_serves old.opened x
-      → left ≡ left_behind every (every - 1) (bodies_at_ticks of_world step x.running.state turns.moves)
-  pub looked : (x : served.Standing W C) → StandsOver old_serves old.opened x
-      → LookedSoFar contents may_leave moment left_since old_disk new_disk first now counts
-      (paced every (every - 1) (bodies_at_ticks of_world step x.running.state turns.moves))
-  pub also : (x : served.Standing W C) → StandsOver old_serves old.opened x → Also x turns.moves

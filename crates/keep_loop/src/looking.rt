@@ -1,6 +1,6 @@
 //! The body of what is served is looked at, over a store that an earlier save may have shut.
 
-ghost use Rattle.std.specs.Prelude.{◌≡◌, ◌≤◌, false, None};
+ghost use Rattle.std.specs.Prelude.{◌≡◌, ◌≤◌, List, false, None};
 ghost use Rattle.ads_outside.specs.Rose.{Rose};
 ghost use Rattle.ads_served.specs.Standing.{Standing};
 ghost use Rattle.spec_store.specs.Disk.{LeavesOnly};
@@ -38,6 +38,7 @@ pub(crate) fn look<M: Served, D: Disk, N: Told<M>>(
     ensures marks { MarksStay D.marked disk.old disk.new }
     ensures later { D.fault_count disk.old ≤ D.fault_count disk.new }
     ensures failed { result ≡ SaveEnd.Failed → Rose (D.fault_count disk.old) (D.fault_count disk.new) }
+    ensures heard { (before : List M.Came) → N.heard told.old before → N.heard told.new before }
 {
     let became = look_again(alloc, served, store, disk, name);
     tell::<M, N>(store, became, told);
@@ -95,7 +96,9 @@ fn open_again<D: Disk>(alloc: Global, store: &mut Store, disk: &mut D, name: &st
 }
 
 // What became of a body is told.
-fn tell<M: Served, N: Told<M>>(store: &Store, became: SaveEnd, told: &mut N) {
+fn tell<M: Served, N: Told<M>>(store: &Store, became: SaveEnd, told: &mut N)
+    ensures heard { (before : List M.Came) → N.heard told.old before → N.heard told.new before }
+{
     match became {
         SaveEnd::Same => {}
         SaveEnd::Saved => told.saved(standing_length(store)),

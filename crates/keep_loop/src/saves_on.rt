@@ -1,6 +1,6 @@
 //! A saver beside a loop, which goes on where a save fails.
 
-ghost use Rattle.std.specs.Prelude.{◌≡◌, ◌+◌, ℕ};
+ghost use Rattle.std.specs.Prelude.{◌≡◌, ◌+◌, ℕ, List};
 ghost use Rattle.serve_loop.specs.Looks.{SeesMore};
 ghost use Rattle.keep_loop.specs.Saving.{StandsForSome};
 ghost use Rattle.keep_loop.specs.SavingOn.{Saver, MayBeShown, SavesShown, saver};
@@ -40,14 +40,16 @@ impl<'a, M: Served, D: Disk, N: Told<M> + Drop> Beside<M, D> for SavesOn<'a, N> 
 
     ghost stopped = { λ _ _ _ _ _. ⊥ };
 
+    ghost told = { λ s cames. N.heard s.told cames };
+
     ghost asks = { Unit {0} };
 
     fn comes(&mut self, alloc: Global, served: &M, event: &Event) {
         self.told.comes(alloc, served, event);
     }
 
-    fn came(&mut self, alloc: Global, served: &M, event: &Event, came: &M::Came) {
-        self.told.came(alloc, served, event, came);
+    fn came(&mut self, alloc: Global, served: &M, event: &Event, outcome: &M::Came) {
+        self.told.came(alloc, served, event, outcome);
     }
 
     fn ticked<W: Wire>(&mut self, alloc: Global, served: &M, wire: &W, disk: &mut D) -> Go {
@@ -62,7 +64,11 @@ impl<'a, M: Served, D: Disk, N: Told<M> + Drop> Beside<M, D> for SavesOn<'a, N> 
     ghost begins = { λ s n disk ready. (tt, λ anew. anew) };
 
     ghost fewer = { λ s n disk ready. record {
-        every = ready.every; most = ready.most; few = ready.few; room = (let room = ready.room in omega (arith, room)); ready = ready.ready;
+      every = ready.every;
+      most = ready.most;
+      few = ready.few;
+      room = (let room = ready.room in omega (arith, room));
+      ready = ready.ready;
     } };
 }
 
@@ -87,6 +93,7 @@ fn look_due<W: Wire, M: Served, D: Disk, N: Told<M> + Drop>(
         (saver saves.old.store saves.old.every saves.old.left saves.old.counts saves.old.name.now)
         → MayBeShown D.contents D.may_leave n disk.new
         (saver saves.new.store saves.new.every saves.new.left saves.new.counts saves.new.name.now) }
+    ensures told { (before : List M.Came) → N.heard saves.old.told before → N.heard saves.new.told before }
 {
     let became = look::<M, D, N>(
         alloc,

@@ -39,7 +39,7 @@ use Rattle.run_tasks.specs.declared.status.Status.TheVariants as status
 use Rattle.run_tasks.specs.BuiltIn.{built_in}
 use Rattle.run_tasks.specs.Ending.{line_alone}
 use Rattle.run_tasks.specs.Verdict.{ended}
-use Rattle.daemon_core.specs.Posting.{Adds}
+use Rattle.serve_loop.specs.Telling.{Adds}
 use Rattle.watched_wire.specs.Ends.{with_ends}
 use Rattle.daemon_run.specs.Kept.{KeepsBodies, SavesEach, ending_kept, status_by, status_kept}
 use Rattle.daemon_run.specs.Plant.{Plant, Serving, events_with, plant_kept, plant_of, service_of, serves_plant, serving, start_kept, verdict_on}
@@ -189,19 +189,15 @@ not_begun : SavesEach disk None (empty ∷ []) [] → ⊥
 unfolding saves_in
 not_begun s = false≢true (sym (ap is_nothing s.are))
 
--- what a board is told stands behind what it told; one that tells nothing promises nothing
-told : Adds (Some (outcome.Done ∷ [])) (Some (outcome.Done ∷ outcome.ReloadOk 2 ∷ [])) (outcome.ReloadOk 2)
-told = record { before = outcome.Done ∷ []; told = refl; is = refl }
+-- who is told what an event came to heard that behind what was told before; one that says nothing promises nothing
+told : Adds (λ heard. heard ≡ outcome.Done ∷ []) (λ heard. heard ≡ outcome.Done ∷ outcome.ReloadOk 2 ∷ []) (outcome.ReloadOk 2 ∷ [])
+told before is = ap (λ heard. heard ++ outcome.ReloadOk 2 ∷ []) is
 
-untold : Adds (Some []) None outcome.Done
-untold = tt
+untold : Adds (λ (heard : List Outcome). heard ≡ []) (λ heard. Unit {0}) (outcome.Done ∷ [])
+untold before is = tt
 
-not_told : Adds (Some []) (Some []) outcome.Done → ⊥
-not_told b = absurd_behind b.before b.is
-  where
-    absurd_behind : (before : List Outcome) → [] ≡ before ++ outcome.Done ∷ [] → ⊥
-    absurd_behind [] e = false≢true (sym (ap is_no_outcome e))
-    absurd_behind (o ∷ os) e = false≢true (sym (ap is_no_outcome e))
+not_told : Adds (λ (heard : List Outcome). heard ≡ []) (λ heard. heard ≡ []) (outcome.Done ∷ []) → ⊥
+not_told adds = false≢true (ap is_no_outcome (adds [] refl))
 
 -- a wire that counts by itself
 ends_counted : (with_ends 3 unused).ends ≡ 3

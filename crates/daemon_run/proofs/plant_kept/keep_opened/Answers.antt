@@ -22,12 +22,12 @@ pub build_in-requires-clause-accepted : goal.build_in-requires-clause-accepted
 build_in-requires-clause-accepted g c =
     let d = description_of c.args.read.description in
     let stored = description_of c.in-Ok.stored in
-    let standing = c.args.store.now.standing in
+    let standing = c.args.store.standing in
     kept_may_begin d stored standing (length (g.G.Sources.waves c.args.signals)) c.requires.accepted
     (kept_is d stored (bytes_lent c.body.result) standing c.in-Ok.ensures c.body.ensures)
 
-pub keep_posted-requires-clause-some : goal.keep_posted-requires-clause-some
-keep_posted-requires-clause-some g c κs within =
+pub keep_core-requires-clause-some : goal.keep_core-requires-clause-some
+keep_core-requires-clause-some g c κs within =
     let waves = g.G.Sources.waves c.args.signals in
     let profile = profile_of c.args.profile in
     let stored = description_of c.in-Ok.stored in
@@ -41,16 +41,16 @@ returns-clause-ends g c =
     let profile = profile_of c.args.profile in
     let d = description_of c.args.read.description in
     let stored = description_of c.in-Ok.stored in
-    let standing = c.args.store.now.standing in
+    let standing = c.args.store.standing in
     let bytes = c.args.read.bytes in
-    ends_on_as c.args.every _ profile waves d stored standing c.args.listen.now c.args.name.now bytes c.keep_posted.result
-    (g.S.Sink.state c.args.out.now) (g.S.Sink.state c.keep_posted.new.out)
-    g.D.Disk.contents g.D.Disk.may_leave g.D.Disk.moment g.D.Disk.left_since g.D.Disk.marked g.D.Disk.fault_count c.args.disk.now c.keep_posted.new.disk
-    (g.W.Wire.state c.args.wire.now).history (g.W.Wire.state c.keep_posted.new.wire).history
+    ends_on_as c.args.every _ profile waves d stored standing c.args.listen.now c.args.name.now bytes c.keep_core.result
+    (g.S.Sink.state c.args.out.now) (g.S.Sink.state c.keep_core.new.out)
+    g.D.Disk.contents g.D.Disk.may_leave g.D.Disk.moment g.D.Disk.left_since g.D.Disk.marked g.D.Disk.fault_count c.args.disk.now c.keep_core.new.disk
+    (g.W.Wire.state c.args.wire.now).history (g.W.Wire.state c.keep_core.new.wire).history
     (started_with c.args.listen.now c.as_str.result.now c.args.name.now c.as_str-2.result.now bytes c.as_slice.result.now c.as_str.ensures
     c.as_str-2.ensures c.as_slice.ensures)
     (kept_is d stored (bytes_lent c.body.result) standing c.in-Ok.ensures c.body.ensures)
-    (c.keep_posted.ensures.ends (at_start_in profile stored waves)
+    (c.keep_core.ensures.ends (at_start_in profile stored waves)
     (core_anew c.in-Ok-build_in.core profile stored waves (stands_at_start c.in-Ok-build_in.core profile stored waves
     c.in-Ok-build_in.ensures.serves c.in-Ok-build_in.ensures.counted c.in-Ok-build_in.ensures.notes)))
 
@@ -61,4 +61,4 @@ pub returns-in-Err-build_in-clause-opens : goal.returns-in-Err-build_in-clause-o
 returns-in-Err-build_in-clause-opens g c = only_none _ _ c.args.file.now refl
 
 pub returns-clause-opens : goal.returns-clause-opens
-returns-clause-opens g c = rw c.as_str-3.ensures at c.keep_posted.ensures.opens
+returns-clause-opens g c = rw c.as_str-3.ensures at c.keep_core.ensures.opens

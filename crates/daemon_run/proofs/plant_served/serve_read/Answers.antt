@@ -19,10 +19,10 @@ returns-in-Ok-clause-ends g c =
     let listen = c.args.listen.now in
     let read = c.args.read in
     let d = description_of read.description in
-    server_ends _ profile d waves name listen read.bytes endless c.serve_posted.result (g.S.Sink.state c.args.out.now) (g.S.Sink.state c.serve_posted.new.out)
-    (g.W.Wire.state c.args.wire.now).history (g.W.Wire.state c.serve_posted.new.wire).history
+    server_ends _ profile d waves name listen read.bytes endless c.serve_core.result (g.S.Sink.state c.args.out.now) (g.S.Sink.state c.serve_core.new.out)
+    (g.W.Wire.state c.args.wire.now).history (g.W.Wire.state c.serve_core.new.wire).history
     (started_with listen c.as_str.result.now name c.as_str-in-Ok.result.now read.bytes c.as_slice.result.now c.as_str.ensures c.as_str-in-Ok.ensures
     c.as_slice.ensures)
-    (c.serve_posted.ensures.ends (at_start_in profile d waves)
-    (core_anew c.in-Ok.core profile d waves (stands_at_start c.in-Ok.core profile d waves
+    (c.serve_core.ensures.ends (at_start_in profile d waves)
+    (core_anew c.in-Ok.built profile d waves (stands_at_start c.in-Ok.built profile d waves
     c.in-Ok.ensures.serves c.in-Ok.ensures.counted c.in-Ok.ensures.notes)))

@@ -6,17 +6,17 @@ use Rattle.run_tasks.specs.Service.{server_counts}
 use Rattle.plant_commands.specs.Machine.{RunsMachine}
 use Rattle.plant_commands.proofs.MachineLemmas.{started_so, not_started_so}
 use Rattle.daemon_run.specs.Endless.{endless}
-use Rattle.daemon_run.proofs.plant_served.serve_posted.Goals as goal
+use Rattle.daemon_run.proofs.plant_served.serve_core.Goals as goal
 
 pub returns-in-Ok-clause-ends : goal.returns-in-Ok-clause-ends
 returns-in-Ok-clause-ends g c = λ x stands.
-    let out_new = g.S.Sink.state c.run_posted.new.out in
-    let wire_new = (g.W.Wire.state c.run_posted.new.wire).history in
+    let out_new = g.S.Sink.state c.run_core.new.out in
+    let wire_new = (g.W.Wire.state c.run_core.new.wire).history in
     started_so _
-    (λ (between : SinkState) (started : WireHistory). RunsMachine served_step server_counts x endless c.run_posted.result between out_new started wire_new)
-    c.run_posted.result (g.S.Sink.state c.args.out.now) (g.S.Sink.state c.start_and_tell.new.out) out_new
+    (λ (between : SinkState) (started : WireHistory). RunsMachine served_step server_counts x endless c.run_core.result between out_new started wire_new)
+    c.run_core.result (g.S.Sink.state c.args.out.now) (g.S.Sink.state c.start_and_tell.new.out) out_new
     (g.W.Wire.state c.args.wire.now).history (g.W.Wire.state c.start_and_tell.new.wire).history wire_new
-    c.in-Ok.ensures.ok (c.run_posted.ensures.ends x stands)
+    c.in-Ok.ensures.ok (c.run_core.ensures.ends x stands)
 
 pub returns-in-Err-clause-ends : goal.returns-in-Err-clause-ends
 returns-in-Err-clause-ends g c = λ x stands.
