@@ -1,35 +1,31 @@
 -- The marks of a run with a store go on with a turn, and how they end.
-use Rattle.std.proofs.Common.{◌≡◌, ℕ, ◌+◌, ◌≤◌, List, [], ◌∷◌, ◌++◌, length, true, false, refl, sym, ap, ◌∙◌, subst, append-nil, inl, arith}
+use Rattle.std.proofs.Common.{◌≡◌, ℕ, ◌+◌, ◌≤◌, List, [], ◌∷◌, ◌++◌, true, false, refl, sym, ap, ◌∙◌, subst, append-nil, arith}
 use Rattle.std.proofs.lemmas.Bool.{false≢true}
-use Rattle.std.specs.Prelude.{Bool, Option, Some}
+use Rattle.std.specs.Prelude.{Bool, Option}
 use Rattle.ads_outside.specs.declared.moves.Move.{Move}
 use Rattle.ads_outside.specs.WireState.{WireState, WireHistory, history_after}
-use Rattle.spec_machine.specs.MachineState.{MachineState}
 use Rattle.spec_machine.specs.Moves.{EventStep}
 use Rattle.ads_served.specs.Standing.{Standing, Noting}
-use Rattle.spec_store.specs.Slots as slots
 use Rattle.spec_store.specs.Runs as runs
 use Rattle.serve_loop.specs.Leads.{events_in}
 use Rattle.serve_loop.specs.Looks.{IsBodyOf}
 use Rattle.serve_loop.specs.TurnTaken.{StandsOver, Stays}
-use Rattle.persist_store.specs.Marks.{Mark, MarksOne, MarksStay}
-use Rattle.persist_store.specs.Steps.{Passes}
+use Rattle.persist_store.specs.Marks.{Mark, MarksStay}
 use Rattle.persist_store.specs.Store.{StoreState, body_of, IsReady}
 use Rattle.keep_loop.specs.declared.keep_end.KeepEnd.{KeepEnd}
 use Rattle.keep_loop.specs.declared.run_end.RunEnd.{RunEnd}
 use Rattle.keep_loop.specs.declared.run_end.RunEnd.TheVariants as run
 use Rattle.keep_loop.specs.declared.save_end.SaveEnd.{SaveEnd}
 use Rattle.keep_loop.specs.declared.save_end.SaveEnd.TheVariants as save
-use Rattle.keep_loop.specs.Bodies.{BodyOf, bodies_at_ticks, paced, bodies_looked_at, bodies_to_end, saves_in}
+use Rattle.keep_loop.specs.Bodies.{BodyOf, bodies_to_end, saves_in}
 use Rattle.keep_loop.specs.Ending.{EndsBySave, end_of, end_by_save}
 use Rattle.keep_loop.specs.Keeping.{EndsAfter, KeepsSoFar}
 use Rattle.keep_loop.specs.Marking.{HoldsSaves, MarksBeforeEnd, MarksMore, MarksOf, is_to_end}
-use Rattle.keep_loop.specs.Saving.{StaysTold, StaysSame, IsSaved, AfterSave}
-use Rattle.keep_loop.proofs.KeepLemmas.{AlsoPasses, AlsoLooks, same_adds, other_adds}
-use Rattle.keep_loop.proofs.MarkLemmas.{marked_none, marked_passed, marked_looked, marked_before, holds_saves}
-use Rattle.keep_loop.proofs.QuietLemmas.{told_quiet, left_quiet}
+use Rattle.keep_loop.specs.Saving.{StaysTold, AfterSave}
+use Rattle.keep_loop.proofs.KeepLemmas.{same_adds, other_adds}
+use Rattle.keep_loop.proofs.MarkLemmas.{marked_before, holds_saves}
 use Rattle.keep_loop.proofs.SaveLemmas.{last_of, standing_then, told_then, told_same}
-use Rattle.keep_loop.proofs.TurnLemmas.{keeps_to, saves_to_end}
+use Rattle.keep_loop.proofs.TurnLemmas.{saves_to_end}
 use Rattle.serve_loop.proofs.TurnLemmas.{stands_over}
 
 module _ {W C D : Type 0} (every : ℕ) (of_world : BodyOf W) (step : EventStep W C) (noted : Noting W C) (contents : D → Option (List ℕ))
@@ -43,72 +39,6 @@ module _ {W C D : Type 0} (every : ℕ) (of_world : BodyOf W) (step : EventStep 
       → D → D → StoreState → StoreState → ℕ → Type 0
   SoFar Holds old_serves new_serves old new count left old_disk new_disk first now saved =
       KeepsSoFar Holds every of_world step noted contents moment left_since old_serves new_serves old new count left old_disk new_disk first now saved
-
-  pub also_first : (old : WireHistory) (disk : D) (first : StoreState) (x : Standing W C) → Also old disk disk first x []
-  unfolding bodies_at_ticks paced
-  also_first old disk first x = λ marks told.
-      marked_none (bodies_looked_at every of_world step x.running.state) old (HoldsSaves (contents disk) first.standing) marks (marked disk) refl told
-
-  pub also_passes : (old : WireHistory) (first_disk disk : D) (first : StoreState)
-      → AlsoPasses every of_world step noted contents may_leave moment left_since (Also old first_disk disk first) (Also old first_disk disk first)
-  also_passes old first_disk disk first = λ x ms ns same also marks told.
-      let Holds : List (List ℕ) → Option (List ℕ) → Type 0 = HoldsSaves (contents first_disk) first.standing in
-      marked_passed (bodies_looked_at every of_world step x.running.state) old Holds Holds ms ns marks (λ looked file holds. holds)
-      (marked disk) same (also marks told)
-
-  also_looks : (old new : WireHistory) (first_disk mid_disk disk last_disk : D) (first now : StoreState) (saves : List (List ℕ))
-      → MarksOne marked mid_disk last_disk new (contents disk) → StaysTold contents first_disk disk → IsReady contents may_leave disk now → now.shut ≡ false
-      → now.standing ≡ runs.standing_after_all first.standing saves
-      → AlsoLooks every of_world step noted contents may_leave moment left_since (Also old first_disk mid_disk first) (Also old first_disk last_disk first)
-      (body_of first) old new saves
-  also_looks old new first_disk mid_disk disk last_disk first now saves mark told ready open_ standing = λ x ms ns one logged more are also marks here.
-      let Holds : List (List ℕ) → Option (List ℕ) → Type 0 = HoldsSaves (contents first_disk) first.standing in
-      marked_looked (bodies_looked_at every of_world step x.running.state) old Holds Holds ms ns marks (λ looked file holds. holds)
-      (marked mid_disk) (marked last_disk) (record { wire = new; file = contents disk }) one more logged
-      (holds_saves contents may_leave first_disk disk first now saves (bodies_looked_at every of_world step x.running.state (ms ++ ns)) told ready
-      open_ standing are) mark (also marks here)
-
-  -- a tick whose body stands already, and one whose body was saved
-  pub also_same : (Any : Standing W C → List Move → Type 0) (old_serves mid_serves new_serves : Standing W C → Type 0) (old mid new : WireHistory)
-      (count left : ℕ) (old_disk mid_disk disk last_disk : D) (first mid_store now : StoreState) (saved : ℕ)
-      → (so_far : SoFar Any old_serves mid_serves old mid count left old_disk mid_disk first mid_store saved)
-      → StaysSame (IsBodyOf of_world new_serves) mid_disk disk mid_store now → IsReady contents may_leave disk now
-      → MarksOne marked mid_disk last_disk new (contents disk)
-      → AlsoLooks every of_world step noted contents may_leave moment left_since (Also old old_disk mid_disk first) (Also old old_disk last_disk first)
-      (body_of first) old new so_far.saves
-  also_same Any old_serves mid_serves new_serves old mid new count left old_disk mid_disk disk last_disk first mid_store now saved so_far same ready mark =
-      also_looks old new old_disk mid_disk disk last_disk first now so_far.saves mark
-      (told_same contents moment left_since old_disk mid_disk disk so_far.told same.disk) ready
-      (ap (λ (s : StoreState). s.shut) same.store ∙ so_far.open_) (ap (λ (s : StoreState). s.standing) same.store ∙ so_far.standing)
-
-  pub also_saved : (Any : Standing W C → List Move → Type 0) (old_serves mid_serves new_serves : Standing W C → Type 0) (old mid new : WireHistory)
-      (count left : ℕ) (old_disk mid_disk disk last_disk : D) (first mid_store now : StoreState) (saved : ℕ)
-      → (so_far : SoFar Any old_serves mid_serves old mid count left old_disk mid_disk first mid_store saved)
-      → (s : IsSaved (IsBodyOf of_world new_serves) contents moment left_since mid_disk disk mid_store now) → IsReady contents may_leave disk now
-      → MarksOne marked mid_disk last_disk new (contents disk)
-      → AlsoLooks every of_world step noted contents may_leave moment left_since (Also old old_disk mid_disk first) (Also old old_disk last_disk first)
-      (body_of first) old new (so_far.saves ++ s.body ∷ [])
-  also_saved Any old_serves mid_serves new_serves old mid new count left old_disk mid_disk disk last_disk first mid_store now saved so_far s ready mark =
-      also_looks old new old_disk mid_disk disk last_disk first now (so_far.saves ++ s.body ∷ []) mark
-      (told_then contents moment left_since old_disk mid_disk disk so_far.told s.told) ready
-      (ap (λ (t : StoreState). t.shut) s.store)
-      (ap (λ (t : StoreState). t.standing) s.store ∙ standing_then so_far.saves s.body first.standing mid_store.standing so_far.standing)
-
-  -- a call of the disk that changes nothing of its file
-  pub keeps_along : (Any : Standing W C → List Move → Type 0) (old_serves new_serves : Standing W C → Type 0) (old new : WireHistory) (count left : ℕ)
-      (old_disk disk last_disk : D) (first now : StoreState) (saved : ℕ) → ((d : D) (t : ℕ) (c : List ℕ) → t ≤ moment d → may_leave d c → left_since d t c)
-      → SoFar Any old_serves new_serves old new count left old_disk disk first now saved → Passes contents may_leave moment left_since disk last_disk
-      → SoFar Any old_serves new_serves old new count left old_disk last_disk first now saved
-  keeps_along Any old_serves new_serves old new count left old_disk disk last_disk first now saved counts so_far quiet = record {
-    saves = so_far.saves;
-    paced = so_far.paced;
-    counted = so_far.counted;
-    within = so_far.within;
-    standing = so_far.standing;
-    open_ = so_far.open_;
-    told = told_quiet contents may_leave moment left_since counts old_disk disk last_disk so_far.told quiet;
-    left = left_quiet contents may_leave moment left_since counts old_disk disk last_disk first.standing so_far.saves so_far.left quiet;
-  }
 
   -- so the marks of a run end, before that of its end
   abbrev pub EndsMarked : Bool → (Standing W C → Type 0) → WireState → WireState → D → D → StoreState → Type 0

@@ -1,5 +1,5 @@
 -- The bodies of a log that goes on; offers change no body.
-use Rattle.std.proofs.Common.{◌≡◌, ℕ, ◌+◌, List, [], ◌∷◌, ◌++◌, length, refl, sym, ap, ◌∙◌, subst, append_assoc, append-nil, inl, inr, arith}
+use Rattle.std.proofs.Common.{◌≡◌, ℕ, ◌+◌, List, [], ◌∷◌, ◌++◌, length, refl, sym, ap, ◌∙◌, append_assoc, append-nil, inl, inr, arith}
 use Rattle.std.specs.Prelude.{Option, Some, None}
 use Rattle.std.specs.List.{flat_map}
 use Rattle.std.proofs.lemmas.Bool.{cases_Bool}
@@ -13,7 +13,6 @@ use Rattle.spec_machine.specs.Running.{Running}
 use Rattle.spec_machine.specs.Turns.{LogTurn, moves_of_turn}
 use Rattle.ads_served.specs.Standing.{Standing, Noting, standing_after_all}
 use Rattle.serve_loop.specs.Leads.{events_in}
-use Rattle.serve_loop.specs.TurnTaken.{IsTurnOf}
 use Rattle.serve_loop.proofs.LeadLemmas.{standing-running}
 use Rattle.keep_loop.specs.Bodies.{BodyOf, bodies_at_event, bodies_at_move, bodies_at_ticks, bodies_of_run}
 
@@ -30,13 +29,6 @@ bodies-append body_of step (m ∷ ms) ns s =
 pub state_played : {W C : Type 0} (step : EventStep W C) (noted : Noting W C) (x : Standing W C) (ms : List Move)
     → (standing_after_all step noted x ms).running.state ≡ state_after step x.running.state ms
 state_played {W} {C} step noted x ms = ap (λ (r : Running W C). r.state) (standing-running step noted x ms)
-
--- a first part of a log has the first of its bodies
-pub state-append : {W C : Type 0} (step : EventStep W C) (ms ns : List Move) (s : MachineState W C)
-    → state_after step s (ms ++ ns) ≡ state_after step (state_after step s ms) ns
-unfolding state_after
-state-append step [] ns s = refl
-state-append step (m ∷ ms) ns s = state-append step ms ns (state_after_move step s m)
 
 not_next : {X : Type 0} (n : ℕ) → n + 1 ≡ 0 → X
 not_next n e = absurd (omega (arith, e))
@@ -85,17 +77,6 @@ one_event body_of step e ms s none =
 pub turn_shown : {W C : Type 0} (body_of : BodyOf W) (step : EventStep W C) (t : LogTurn) (s : MachineState W C) → events_in (moves_of_turn t) ≡ 1
     → bodies_at_ticks body_of step s (moves_of_turn t) ≡ bodies_at_event t.event (body_of (state_after step s (moves_of_turn t)).world)
 turn_shown body_of step t s one = one_event body_of step t.event (flat_map (λ moves. moves) t.served) s (omega (arith, one))
-
--- the bodies of a turn: what its event is looked at for, at the end of the turn
-pub turn_bodies : {W C : Type 0} (body_of : BodyOf W) (step : EventStep W C) (e : Event) (x : Running W C) (ms : List Move)
-    → IsTurnOf step e x ms → events_in ms ≡ 1
-    → bodies_at_ticks body_of step x.state ms ≡ bodies_at_event e (body_of (state_after step x.state ms).world)
-turn_bodies {W} {C} body_of step e x ms turn one =
-    let rest : List Move = flat_map (λ moves. moves) turn.served in
-    let count : events_in (move.Event e ∷ rest) ≡ 1 = ap events_in (sym turn.are) ∙ one in
-    let none : events_in rest ≡ 0 = omega (arith, count) in
-    let P : List Move → Type 0 = λ moves. bodies_at_ticks body_of step x.state moves ≡ bodies_at_event e (body_of (state_after step x.state moves).world) in
-    subst P (sym turn.are) (one_event body_of step e rest x.state none)
 
 -- the bodies of a run begin with those at the ticks of a first part of it
 pub bodies_begin : {W C : Type 0} (body_of : BodyOf W) (step : EventStep W C) (ms ns : List Move) (s : MachineState W C)

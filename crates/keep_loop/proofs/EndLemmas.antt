@@ -1,12 +1,12 @@
 -- How a run with a store ends.
-use Rattle.std.proofs.Common.{◌≡◌, ℕ, ◌+◌, ◌-◌, ◌<◌, ◌≤◌, List, [], ◌∷◌, ◌++◌, length, true, false, refl, sym, ap, ◌∙◌, subst, append-nil, inl, inr, arith}
+use Rattle.std.proofs.Common.{◌≡◌, ℕ, ◌+◌, ◌<◌, ◌≤◌, List, [], ◌∷◌, ◌++◌, length, true, false, refl, sym, ap, ◌∙◌, subst, append-nil, inl, inr, arith}
 use Rattle.std.specs.Prelude.{Option, Some, ◌⊎◌}
 use Rattle.ads_outside.specs.declared.moves.Move.{Move}
 use Rattle.ads_outside.specs.WireAnswers.{Stops}
 use Rattle.ads_outside.specs.WireState.{WireState, WireHistory, history_after, end_answered}
 use Rattle.spec_machine.specs.Delivery.{AreOffers}
 use Rattle.spec_machine.specs.MachineState.{MachineState}
-use Rattle.spec_machine.specs.Moves.{EventStep, state_after}
+use Rattle.spec_machine.specs.Moves.{EventStep}
 use Rattle.ads_served.specs.Standing.{Standing, Noting, standing_after_all}
 use Rattle.spec_store.specs.Slots as slots
 use Rattle.spec_store.specs.Runs as runs
@@ -14,9 +14,9 @@ use Rattle.spec_store.specs.Saves.{is_over_limit}
 use Rattle.serve_loop.specs.declared.turn_end.Turn.TheVariants as turn
 use Rattle.serve_loop.specs.Leads.{serves_any, events_in}
 use Rattle.serve_loop.specs.Looks.{IsBodyOf}
-use Rattle.serve_loop.specs.TurnTaken.{StandsOver, TakesEvent, Stays, BreaksTurn, TakesTurns}
+use Rattle.serve_loop.specs.TurnTaken.{StandsOver, TakesEvent, Stays}
 use Rattle.serve_loop.proofs.LeadLemmas.{AreOffers-append}
-use Rattle.serve_loop.proofs.TurnLemmas.{stands_over, stops_kept, stops_later}
+use Rattle.serve_loop.proofs.TurnLemmas.{stands_over}
 use Rattle.persist_store.specs.Store.{StoreState, body_of, IsReady}
 use Rattle.keep_loop.specs.declared.keep_end.KeepEnd.{KeepEnd}
 use Rattle.keep_loop.specs.declared.keep_end.KeepEnd.TheVariants as keep
@@ -32,7 +32,7 @@ use Rattle.keep_loop.specs.Keeping.{AfterKeep, AllButLast, KeepsSoFar}
 use Rattle.keep_loop.proofs.SaveLemmas.{last_of, first_standing, over_then, standing_then, left_then, left_more, left_same, told_then, told_same}
 use Rattle.keep_loop.proofs.BodyLemmas.{state_played}
 use Rattle.keep_loop.proofs.TurnLemmas.{keeps_last, keeps_to}
-use Rattle.keep_loop.proofs.KeepLemmas.{any_over, length_one, same_adds, other_adds, tick_keeps}
+use Rattle.keep_loop.proofs.KeepLemmas.{any_over, length_one, same_adds, other_adds}
 
 -- how the turns of a run ended, behind so many of them
 abbrev pub CameOf : RunEnd → WireState → WireState → ℕ → ℕ → WireHistory → Type 0
@@ -49,13 +49,6 @@ pub ends_after : (ended : RunEnd) (old new : WireState) (limit count : ℕ) (las
 ends_after run.Done old new limit count last came = inr (inl came.1)
 ends_after run.LinkFault old new limit count last came = inr (inr came.1)
 ends_after run.Budget old new limit count last came = inl came.1
-
--- the wire failed behind these turns
-pub came_fault : {W C : Type 0} (step : EventStep W C) (noted : Noting W C) (old_serves mid_serves : Standing W C → Type 0) (old mid new : WireState)
-    (count limit : ℕ) → TakesTurns step noted old_serves mid_serves old.history mid.history count → old.faults ≤ mid.faults → count < limit
-    → Stops mid new mid.history → CameOf run.LinkFault old new limit count mid.history
-came_fault step noted old_serves mid_serves old mid new count limit turns later fewer stops =
-    (fewer, stops_later old mid new (stops_kept step noted old_serves mid_serves old.history mid.history count turns) later stops)
 
 module _ {W C D : Type 0} (every : ℕ) (of_world : BodyOf W) (step : EventStep W C) (noted : Noting W C) (contents : D → Option (List ℕ))
     (may_leave : D → List ℕ → Type 0) (moment : D → ℕ) (left_since : D → ℕ → List ℕ → Type 0) (Also : Standing W C → List Move → Type 0) where
@@ -160,22 +153,25 @@ module _ {W C D : Type 0} (every : ℕ) (of_world : BodyOf W) (step : EventStep 
     offers = offers_then old_serves mid_serves old.history mid count first saves later keeps behind;
   }
 
+  -- the turns up to a tick, and the saves with that of its body, which does not stand
+  abbrev TickKeeps : (Standing W C → Type 0) → (Standing W C → Type 0) → WireHistory → WireHistory → ℕ → StoreState → StoreState → List (List ℕ) → Type 0
+  TickKeeps old_serves new_serves old new count first mid_store saves =
+      (body : List ℕ) → IsBodyOf of_world new_serves body → is_standing (body_of mid_store) body ≡ false
+      → Keeps step noted old_serves new_serves (bodies_looked_at every of_world step) (body_of first) old new (count + 1) (saves ++ body ∷ [])
+
   -- the disk failed in the save of a tick
   pub fails_at_tick : (old_serves mid_serves new_serves : Standing W C → Type 0) (old : WireState) (mid : WireHistory)
-      (new : WireState) (count left limit : ℕ) (old_disk mid_disk disk : D) (first mid_store : StoreState) (saved : ℕ) → count < limit → left ≡ 0
-      → SoFar old_serves mid_serves old.history mid count left old_disk mid_disk first mid_store saved
-      → TakesEvent step noted mid_serves new_serves mid new.history turn.Tick
+      (new : WireState) (count left limit : ℕ) (old_disk mid_disk disk : D) (first mid_store : StoreState) (saved : ℕ) → count < limit
+      → (so_far : SoFar old_serves mid_serves old.history mid count left old_disk mid_disk first mid_store saved)
+      → TickKeeps old_serves new_serves old.history new.history count first mid_store so_far.saves
       → (b : IsBegun (IsBodyOf of_world new_serves) contents moment left_since mid_disk disk mid_store) → is_over_limit mid_store.standing b.body ≡ false
       → ((d : D) (t : ℕ) (c : List ℕ) → t ≤ moment d → may_leave d c → left_since d t c)
       → Ends keep.StoreFault old_serves new_serves old new limit old_disk disk first
-  fails_at_tick old_serves mid_serves new_serves old mid new count left limit old_disk mid_disk disk first mid_store saved fewer due so_far takes b
+  fails_at_tick old_serves mid_serves new_serves old mid new count left limit old_disk mid_disk disk first mid_store saved fewer so_far tick b
       within counts = record {
         saves = so_far.saves ++ b.body ∷ [];
         took = at_tick old_serves new_serves old new count limit first (so_far.saves ++ b.body ∷ []) fewer
-            (tick_keeps every of_world step noted contents may_leave moment left_since Also (λ x ms. Unit {0}) old_serves mid_serves new_serves old.history mid
-            new.history count left
-            old_disk mid_disk first mid_store saved b.body due so_far takes b.is b.differs
-            (λ x ms ns one logged more are also. tt)).keeps;
+            (tick b.body b.is b.differs);
         left = left_then contents moment left_since old_disk mid_disk disk first.standing
             mid_store.standing so_far.saves (b.body ∷ []) so_far.left so_far.told so_far.standing b.left;
         counted = over_then so_far.saves b.body first.standing mid_store.standing false so_far.within so_far.standing within;
@@ -185,19 +181,16 @@ module _ {W C D : Type 0} (every : ℕ) (of_world : BodyOf W) (step : EventStep 
 
   -- it was refused by its limit
   pub limit_at_tick : (old_serves mid_serves new_serves : Standing W C → Type 0) (old : WireState) (mid : WireHistory)
-      (new : WireState) (count left limit : ℕ) (old_disk mid_disk disk : D) (first mid_store : StoreState) (saved : ℕ) → count < limit → left ≡ 0
-      → SoFar old_serves mid_serves old.history mid count left old_disk mid_disk first mid_store saved
-      → TakesEvent step noted mid_serves new_serves mid new.history turn.Tick
+      (new : WireState) (count left limit : ℕ) (old_disk mid_disk disk : D) (first mid_store : StoreState) (saved : ℕ) → count < limit
+      → (so_far : SoFar old_serves mid_serves old.history mid count left old_disk mid_disk first mid_store saved)
+      → TickKeeps old_serves new_serves old.history new.history count first mid_store so_far.saves
       → (d : Differs (IsBodyOf of_world new_serves) mid_store) → is_over_limit mid_store.standing d.body ≡ true → disk ≡ mid_disk
       → IsReady contents may_leave mid_disk mid_store → Ends keep.StoreLimit old_serves new_serves old new limit old_disk disk first
-  limit_at_tick old_serves mid_serves new_serves old mid new count left limit old_disk mid_disk disk first mid_store saved fewer due so_far takes d over same
+  limit_at_tick old_serves mid_serves new_serves old mid new count left limit old_disk mid_disk disk first mid_store saved fewer so_far tick d over same
       ready = record {
         saves = so_far.saves ++ d.body ∷ [];
         took = at_tick old_serves new_serves old new count limit first (so_far.saves ++ d.body ∷ []) fewer
-            (tick_keeps every of_world step noted contents may_leave moment left_since Also (λ x ms. Unit {0}) old_serves mid_serves new_serves old.history mid
-            new.history count left
-            old_disk mid_disk first mid_store saved d.body due so_far takes d.is d.differs
-            (λ x ms ns one logged more are also. tt)).keeps;
+            (tick d.body d.is d.differs);
         left = left_more contents moment left_since old_disk mid_disk disk first.standing so_far.saves (d.body ∷ []) so_far.left same;
         counted = over_then so_far.saves d.body first.standing mid_store.standing true so_far.within so_far.standing over;
         stands = none_last old_disk mid_disk disk first.standing mid_store so_far.saves (d.body ∷ []) (so_far.saves ++ d.body ∷ []) refl (omega arith)
@@ -206,13 +199,14 @@ module _ {W C D : Type 0} (every : ℕ) (of_world : BodyOf W) (step : EventStep 
 
   -- memory was wanting behind a tick: for the body, or in its save
   pub memory_at_tick : (old_serves mid_serves new_serves : Standing W C → Type 0) (old : WireState) (mid : WireHistory)
-      (new : WireState) (count left limit : ℕ) (old_disk mid_disk disk : D) (first mid_store : StoreState) (saved : ℕ) → count < limit → left ≡ 0
-      → SoFar old_serves mid_serves old.history mid count left old_disk mid_disk first mid_store saved
+      (new : WireState) (count left limit : ℕ) (old_disk mid_disk disk : D) (first mid_store : StoreState) (saved : ℕ) → count < limit
+      → (so_far : SoFar old_serves mid_serves old.history mid count left old_disk mid_disk first mid_store saved)
       → TakesEvent step noted mid_serves new_serves mid new.history turn.Tick
+      → TickKeeps old_serves new_serves old.history new.history count first mid_store so_far.saves
       → (disk ≡ mid_disk) ⊎ IsBegun (IsBodyOf of_world new_serves) contents moment left_since mid_disk disk mid_store
       → IsReady contents may_leave mid_disk mid_store → ((d : D) (t : ℕ) (c : List ℕ) → t ≤ moment d → may_leave d c → left_since d t c)
       → Ends keep.Memory old_serves new_serves old new limit old_disk disk first
-  memory_at_tick old_serves mid_serves new_serves old mid new count left limit old_disk mid_disk disk first mid_store saved fewer due so_far takes (inl same)
+  memory_at_tick old_serves mid_serves new_serves old mid new count left limit old_disk mid_disk disk first mid_store saved fewer so_far takes tick (inl same)
       ready counts = record {
         saves = so_far.saves;
         took = inl (breaks_off old_serves mid_serves old mid new count limit first so_far.saves takes.leads.moves so_far.paced.keeps
@@ -222,14 +216,11 @@ module _ {W C D : Type 0} (every : ℕ) (of_world : BodyOf W) (step : EventStep 
         stands = none_last old_disk mid_disk disk first.standing mid_store so_far.saves [] so_far.saves (sym (append-nil so_far.saves)) (omega arith)
             so_far.within so_far.standing so_far.told ready so_far.open_ same;
       }
-  memory_at_tick old_serves mid_serves new_serves old mid new count left limit old_disk mid_disk disk first mid_store saved fewer due so_far takes (inr b)
+  memory_at_tick old_serves mid_serves new_serves old mid new count left limit old_disk mid_disk disk first mid_store saved fewer so_far takes tick (inr b)
       ready counts = record {
         saves = so_far.saves ++ b.body ∷ [];
         took = inr (at_tick old_serves new_serves old new count limit first (so_far.saves ++ b.body ∷ []) fewer
-            (tick_keeps every of_world step noted contents may_leave moment left_since Also (λ x ms. Unit {0}) old_serves mid_serves new_serves old.history mid
-            new.history count left
-            old_disk mid_disk first mid_store saved b.body due so_far takes b.is b.differs
-            (λ x ms ns one logged more are also. tt)).keeps);
+            (tick b.body b.is b.differs));
         left = left_then contents moment left_since old_disk mid_disk disk first.standing
             mid_store.standing so_far.saves (b.body ∷ []) so_far.left so_far.told so_far.standing b.left;
         counted = tt;

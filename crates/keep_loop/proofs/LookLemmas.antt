@@ -12,11 +12,11 @@ use Rattle.keep_loop.specs.declared.save_counts.SaveCounts.{SaveCounts}
 use Rattle.keep_loop.specs.declared.save_end.SaveEnd.{SaveEnd}
 use Rattle.keep_loop.specs.declared.save_end.SaveEnd.TheVariants as save
 use Rattle.keep_loop.specs.Bodies.{is_standing, saves_in, is_any_over}
-use Rattle.keep_loop.specs.Keeping.{FileStandsFor, StandsAfterSaves}
-use Rattle.keep_loop.specs.KeepingOn.{Begun, MayStand, StoodOnce, AreSomeOf, bodies_begun, all_done, done_in, IsAnyOver, IsWhole}
+use Rattle.keep_loop.specs.Keeping.{FileStandsFor}
+use Rattle.keep_loop.specs.KeepingOn.{Begun, MayStand, StoodOnce, AreSomeOf, bodies_begun, all_done, IsWhole}
 use Rattle.keep_loop.specs.KeepingOn.{is_kept, FileHolds, SavedEach, body_standing}
 use Rattle.keep_loop.specs.Looking.{none_counted, counted, Reopens, IsUnopened, AfterOpenLook, AfterLook, WholeSoFar, FileSoFar, LookedSoFar}
-use Rattle.keep_loop.specs.Saving.{LeavesEach, StaysTold, StaysSame, IsSaved, IsBegun, Differs, AfterSave}
+use Rattle.keep_loop.specs.Saving.{LeavesEach, StaysTold, IsBegun}
 use Rattle.keep_loop.proofs.SaveLemmas.{last_of, body_in, body_after, saves-append, saves-same, saves-other, over_then, standing_then, told_then}
 use Rattle.keep_loop.proofs.BegunLemmas.{may-append, once_first, once_last, may_once, one_once, one_may, done_may, none_may, none_once}
 use Rattle.keep_loop.proofs.BegunLemmas.{some_none, some_first, some_more, some_last, bodies_more, all_more, done_more, failed_more, over_first}

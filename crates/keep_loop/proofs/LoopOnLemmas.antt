@@ -37,7 +37,7 @@ module _ {W C D : Type 0} (of_world : BodyOf W) (step : EventStep W C) (noted : 
       let all = s.seen begins in
       let bodies = bodies_looked_at first.every of_world step x.running.state in
       let is : looked_at first.every (looks_of_turns of_world step x.running.state old s.turns) ≡ bodies shows.turns.moves =
-          looked_of_turns first.every of_world step x.running.state old (λ l file. Unit {0}) s.turns s.one ∙ ap bodies (sym s.are) in
+      looked_of_turns first.every of_world step x.running.state old (λ l file. Unit {0}) s.turns s.one ∙ ap bodies (sym s.are) in
       let P : List (List ℕ) → Type 0 = λ l.
       LookedSoFar contents may_leave moment left_since old_disk disk first.store now.store now.counts l in
       subst P is all.looked

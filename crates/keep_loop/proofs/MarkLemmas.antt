@@ -1,16 +1,13 @@
 -- Marks behind looks go on with a turn.
 use Rattle.std.proofs.Common.{◌≡◌, ℕ, ◌+◌, ◌≤◌, List, [], ◌∷◌, ◌++◌, length, true, false, refl, sym, ap, ◌∙◌, subst, append_assoc, append-nil, inl, inr, arith}
-use Rattle.std.proofs.lemmas.List.{length-append}
-use Rattle.std.specs.Prelude.{Bool, Option, Some}
+use Rattle.std.specs.Prelude.{Bool, Option}
 use Rattle.ads_outside.specs.declared.moves.Move.{Move}
 use Rattle.ads_outside.specs.WireState.{WireState, WireHistory, history_after}
 use Rattle.spec_machine.specs.MachineState.{MachineState}
 use Rattle.spec_machine.specs.Moves.{EventStep}
-use Rattle.ads_served.specs.Standing.{Standing, Noting}
-use Rattle.spec_store.specs.Slots as slots
 use Rattle.spec_store.specs.Runs as runs
 use Rattle.serve_loop.specs.Leads.{events_in}
-use Rattle.persist_store.specs.Marks.{Mark, MarksOne, MarksStay}
+use Rattle.persist_store.specs.Marks.{Mark}
 use Rattle.persist_store.specs.Store.{StoreState, body_of, IsReady}
 use Rattle.keep_loop.specs.Bodies.{BodyOf, bodies_looked_at, bodies_to_end, saves_in}
 use Rattle.keep_loop.specs.Keeping.{EndsAfter}
@@ -49,54 +46,6 @@ marks_later bodies IsAt Holds Then moves more count (look ∷ looks) follows are
       },
       marks_later bodies IsAt Holds Then moves more (count + 1) looks follows are.1,
     )
-
-module _ (bodies : List Move → List (List ℕ)) (old : WireHistory) (Holds Then : List (List ℕ) → Option (List ℕ) → Type 0) (ms ns : List Move)
-    (marks : List Mark) (follows : Follows Holds Then) where
-  -- a turn behind which nothing is looked at
-  pub marked_passed : (Marked : List Mark → Type 0) → bodies (ms ++ ns) ≡ bodies ms → MarksSoFar Marked marks bodies old Holds ms
-      → MarksSoFar Marked marks bodies old Then (ms ++ ns)
-  marked_passed Marked same s = record {
-    looks = s.looks;
-    told = s.told;
-    each = s.each ∙ sym (ap length same);
-    are = marks_later bodies (IsBehind old) Holds Then ms ns 0 s.looks follows s.are;
-  }
-
-  -- one behind which a body is looked at, and marked
-  pub marked_looked : (Marked Now : List Mark → Type 0) (mark : Mark) → events_in ns ≡ 1 → length (bodies (ms ++ ns)) ≡ length (bodies ms) + 1
-      → mark.wire ≡ history_after old (ms ++ ns) → Then (bodies (ms ++ ns)) mark.file → ((l : List Mark) → Marked l → Now (l ++ mark ∷ []))
-      → MarksSoFar Marked marks bodies old Holds ms → MarksSoFar Now marks bodies old Then (ms ++ ns)
-  marked_looked Marked Now mark one more wire holds adds s =
-      let each = s.each in
-      let due : length (bodies (ms ++ ns)) ≡ 0 + length s.looks + 1 = omega (arith, each, more) in
-      let so_far : length (bodies ms) ≡ 0 + length s.looks = omega (arith, each) in
-      record {
-        looks = s.looks ++ mark ∷ [];
-        told = subst Now (append_assoc marks s.looks (mark ∷ [])) (adds (marks ++ s.looks) s.told);
-        each = length-append s.looks (mark ∷ []) ∙ (ap (λ n. n + 1) each ∙ sym more);
-        are = marks_more (MarksLook bodies (IsBehind old) Then (ms ++ ns)) 0 s.looks mark
-            (marks_later bodies (IsBehind old) Holds Then ms ns 0 s.looks follows s.are)
-            (record {
-              before = ms;
-              turn = ns;
-              later = [];
-              are = sym (append-nil (ms ++ ns));
-              one = one;
-              so_far = so_far;
-              due = due;
-              wire = wire;
-              holds = holds;
-            });
-      }
-
-pub marked_none : (bodies : List Move → List (List ℕ)) (old : WireHistory) (Holds : List (List ℕ) → Option (List ℕ) → Type 0) (marks : List Mark)
-    (Marked : List Mark → Type 0) → bodies [] ≡ [] → Marked marks → MarksSoFar Marked marks bodies old Holds []
-marked_none bodies old Holds marks Marked none told = record {
-  looks = [];
-  told = subst Marked (sym (append-nil marks)) told;
-  each = sym (ap length none);
-  are = tt;
-}
 
 up_to_end : (old new : WireState) (last : WireHistory) → EndsAfter old new last → IsUpToEnd new.history last
 up_to_end old new last (inl same) = subst (λ h. IsUpToEnd h last) (sym same) refl

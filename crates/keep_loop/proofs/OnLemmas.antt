@@ -44,7 +44,8 @@ module _ {W C D : Type 0} (every : ℕ) (of_world : BodyOf W) (step : EventStep 
       → Looked old_disk disk first now counts (bodies_looked_at every of_world step x.running.state moves)
 
   -- what was shown of turns says so of their moves
-  abbrev pub ShowsLooks : {K : Type 0} → (K → List Look → Type 0) → (Standing W C → Type 0) → WireHistory → D → D → StoreState → StoreState → SaveCounts → Type 1
+  abbrev pub ShowsLooks : {K : Type 0} → (K → List Look → Type 0) → (Standing W C → Type 0) → WireHistory → D → D → StoreState → StoreState → SaveCounts →
+      Type 1
   ShowsLooks Seen old_serves old old_disk disk first now counts = (new_serves : Standing W C → Type 0) (mid : WireHistory) (count : ℕ)
       (shows : ShowsTurns of_world step noted old_serves new_serves old mid count Seen)
       → LooksIn old_serves old old_disk disk first now counts shows.turns.moves
@@ -186,22 +187,6 @@ module _ {W C D : Type 0} (every : ℕ) (of_world : BodyOf W) (step : EventStep 
             };
       }
 
--- the look at the end is told, and memory did not end the run
-pub last_there : (r : KeptOn) (ended : End) (counts : SaveCounts) (Looks : SaveEnd → Type 0) → (ended ≡ end.Memory → ⊥) → EndsByLook r ended counts Looks
-    → (r.last ≡ None → r.ended ≡ end.Memory) × (r.ended ≡ end.Memory → r.last ≡ None)
-last_there r ended counts Looks other ends = (
-  λ none. absurd (let never : Some ends.by ≡ None = sym (ap (λ (k : KeptOn). k.last) ends.is) ∙ none in cc),
-  λ is. absurd (other (sym (ap (λ (k : KeptOn). k.ended) ends.is) ∙ is)),
-)
-
-pub never_memory : (r : KeptOn) (ended : End) (counts : SaveCounts) (Looks : SaveEnd → Type 0) → (ended ≡ end.Memory → ⊥) → EndsByLook r ended counts Looks
-    → r.ended ≡ end.Memory → ⊥
-never_memory r ended counts Looks other ends is = other (sym (ap (λ (k : KeptOn). k.ended) ends.is) ∙ is)
-
--- nothing is counted
-pub few_first : AreFew none_counted 0
-few_first = record { saved = omega arith; failed = omega arith; wanted = omega arith; over = omega arith }
-
 pub none_rose : (Failed : Type 0) (counts : SaveCounts) → counts ≡ none_counted → 0 < counts.failed → Failed
 none_rose Failed counts is more = absurd (let none : counts.failed ≡ 0 = ap (λ (c : SaveCounts). c.failed) is in omega (arith, none, more))
 
@@ -217,14 +202,6 @@ few_more save.Limit counts n few =
     record { saved = omega (arith, few.saved); failed = omega (arith, few.failed); wanted = omega (arith, few.wanted); over = omega (arith, few.over) }
 few_more save.Memory counts n few =
     record { saved = omega (arith, few.saved); failed = omega (arith, few.failed); wanted = omega (arith, few.wanted); over = omega (arith, few.over) }
-
-pub few_within : (counts : SaveCounts) (n most : ℕ) → n ≤ most → AreFew counts n → AreFew counts most
-few_within counts n most within few = record {
-  saved = omega (arith, few.saved, within);
-  failed = omega (arith, few.failed, within);
-  wanted = omega (arith, few.wanted, within);
-  over = omega (arith, few.over, within);
-}
 
 -- the count of failed looks rose only where the disk failed
 pub failed_rose : (by : SaveEnd) (counts : SaveCounts) (Failed : Type 0) → (by ≡ save.Failed → Failed) → 0 < (counted by counts).failed

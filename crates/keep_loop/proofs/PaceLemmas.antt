@@ -1,5 +1,5 @@
 -- Bodies that are looked at one tick after another: which are, and how many more are let pass.
-use Rattle.std.proofs.Common.{◌≡◌, ℕ, zero, suc, ◌-◌, ◌<◌, List, [], ◌∷◌, ◌++◌, refl, ap, ◌∙◌, arith}
+use Rattle.std.proofs.Common.{◌≡◌, ℕ, zero, suc, ◌-◌, ◌<◌, List, [], ◌∷◌, ◌++◌, refl, ap, arith}
 use Rattle.keep_loop.specs.Bodies.{paced}
 use Rattle.keep_loop.specs.Keeping.{left_behind}
 
@@ -16,10 +16,6 @@ unfolding left_behind
 left-append every left [] more = refl
 left-append every zero (body ∷ bodies) more = left-append every (every - 1) bodies more
 left-append every (suc left) (body ∷ bodies) more = left-append every left bodies more
-
-pub paced-none : (every left : ℕ) → paced every left [] ≡ []
-unfolding paced
-paced-none every left = refl
 
 pub left-none : (every left : ℕ) → left ≡ left_behind every left []
 unfolding left_behind

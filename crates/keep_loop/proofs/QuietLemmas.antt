@@ -1,6 +1,6 @@
 -- A call of the disk that changes nothing of its file, behind what was done before it.
-use Rattle.std.proofs.Common.{◌≡◌, ℕ, ◌≤◌, List, refl, sym, ◌∙◌}
-use Rattle.std.specs.Prelude.{Option, Some}
+use Rattle.std.proofs.Common.{ℕ, ◌≤◌, List, refl, sym, ◌∙◌}
+use Rattle.std.specs.Prelude.{Option}
 use Rattle.ads_outside.specs.WireState.{WireState}
 use Rattle.spec_machine.specs.Moves.{EventStep, state_after}
 use Rattle.ads_served.specs.Standing as served
@@ -15,7 +15,7 @@ use Rattle.keep_loop.specs.declared.keep_end.KeepEnd.{KeepEnd}
 use Rattle.keep_loop.specs.declared.keep_end.KeepEnd.TheVariants as keep
 use Rattle.keep_loop.specs.declared.kept_on.KeptOn.{KeptOn}
 use Rattle.keep_loop.specs.Bodies.{BodyOf, saves_in}
-use Rattle.keep_loop.specs.Keeping.{AllButLast, AfterKeep, FileStandsFor, StandsAfterSaves, StandsAtEnd}
+use Rattle.keep_loop.specs.Keeping.{AllButLast, AfterKeep, StandsAfterSaves, StandsAtEnd}
 use Rattle.keep_loop.specs.KeepingOn.{FileHolds, KeepsOn, LooksAt, ServesAndKeeps, body_standing, moves_served}
 use Rattle.keep_loop.specs.Looking.{FileSoFar}
 use Rattle.keep_loop.specs.Saving.{LeavesEach, StaysTold}

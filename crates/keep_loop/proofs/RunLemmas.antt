@@ -1,19 +1,18 @@
 -- What was shown of turns, in terms of a run with a store: its saves, how it ends, and its marks.
-use Rattle.std.proofs.Common.{◌≡◌, ℕ, ◌+◌, ◌-◌, ◌<◌, ◌≤◌, List, [], ◌∷◌, ◌++◌, true, false, refl, sym, ap, ◌∙◌, subst, append-nil, inl, inr, arith}
-use Rattle.std.proofs.Math.Nat.{le_refl}
-use Rattle.std.specs.Prelude.{Bool, Option, ◌⊎◌}
+use Rattle.std.proofs.Common.{◌≡◌, ℕ, ◌+◌, ◌-◌, ◌<◌, ◌≤◌, List, [], ◌∷◌, ◌++◌, false, refl, sym, ap, ◌∙◌, subst, inl, arith}
+use Rattle.std.specs.Prelude.{Bool, Option}
 use Rattle.ads_outside.specs.declared.end.End.{End}
 use Rattle.ads_outside.specs.declared.end.End.TheVariants as end
 use Rattle.ads_outside.specs.declared.moves.Move.{Move}
-use Rattle.ads_outside.specs.WireState.{WireState, WireHistory, history_after}
+use Rattle.ads_outside.specs.WireState.{WireState, WireHistory}
 use Rattle.spec_machine.specs.Moves.{EventStep}
 use Rattle.ads_served.specs.Standing.{Standing, Noting, standing_after_all}
 use Rattle.serve_loop.specs.declared.loop_end.LoopEnd.{LoopEnd}
 use Rattle.serve_loop.specs.declared.loop_end.LoopEnd.TheVariants as loop
 use Rattle.serve_loop.specs.declared.turn_end.Turn.TheVariants as turn
 use Rattle.serve_loop.specs.Beside.{AfterLoop, ShowsTurns, ShowsBroken}
-use Rattle.serve_loop.specs.Leads.{serves_any, events_in}
-use Rattle.serve_loop.specs.Looks.{Look, IsBodyOf}
+use Rattle.serve_loop.specs.Leads.{serves_any}
+use Rattle.serve_loop.specs.Looks.{Look, IsBodyOf, look_at}
 use Rattle.serve_loop.specs.TurnTaken.{StandsOver, StandsForSome, TakesEvent}
 use Rattle.persist_store.specs.Marks.{Mark, MarksStay}
 use Rattle.persist_store.specs.Store.{StoreState, IsReady, body_of}
@@ -23,16 +22,20 @@ use Rattle.keep_loop.specs.declared.run_end.RunEnd.{RunEnd}
 use Rattle.keep_loop.specs.declared.run_end.RunEnd.TheVariants as run
 use Rattle.keep_loop.specs.declared.save_end.SaveEnd.{SaveEnd}
 use Rattle.keep_loop.specs.declared.save_end.SaveEnd.TheVariants as save
-use Rattle.keep_loop.specs.Bodies.{BodyOf, bodies_at_ticks, bodies_looked_at, saves_in}
+use Rattle.keep_loop.specs.Bodies.{BodyOf, bodies_at_ticks, bodies_looked_at, is_standing, saves_in}
 use Rattle.keep_loop.specs.Ending.{EndsBySave, EndsAsStopped}
-use Rattle.keep_loop.specs.Keeping.{AfterKeep, TookTurns, CountsSaves, StandsAtEnd, KeepsSoFar, left_behind}
+use Rattle.keep_loop.specs.Keeping.{AfterKeep, Keeps, TookTurns, CountsSaves, StandsAtEnd, KeepsSoFar, left_behind}
 use Rattle.keep_loop.specs.Saving.{LeavesEach}
 use Rattle.keep_loop.specs.Marking.{HoldsSaves, MarksSoFar, is_to_end}
 use Rattle.keep_loop.specs.Saver.{BeginsAnew, KeepsDisk, SeenBy, StopsAtLook}
 use Rattle.keep_loop.specs.Wanting.{WantsInSave}
-use Rattle.serve_loop.proofs.ShowLemmas.{shows_more}
+use Rattle.serve_loop.proofs.ShowLemmas.{shows_more, tick_looks}
 use Rattle.keep_loop.proofs.AlsoLemmas.{Also, EndsMarked, ends_marked, stops_marked}
-use Rattle.keep_loop.proofs.EndLemmas.{CameOf, ends_after, ends_here, fails_at_tick, limit_at_tick, memory_at_tick, memory_broken, most_came}
+use Rattle.keep_loop.proofs.EndLemmas.{CameOf, ends_after, ends_here, fails_at_tick, limit_at_tick, memory_at_tick, memory_broken}
+use Rattle.keep_loop.specs.Shown.{looked_at}
+use Rattle.keep_loop.proofs.KeepLemmas.{other_adds}
+use Rattle.keep_loop.proofs.SaverLemmas.{due_more}
+use Rattle.keep_loop.proofs.TurnLemmas.{saves_more}
 use Rattle.keep_loop.proofs.ShownLemmas.{bodies_of_turns, looked_of_turns, marks_of_turns}
 
 -- how the turns of a run end, in terms of the loop
@@ -179,22 +182,9 @@ module _ {W C D : Type 0} (every : ℕ) (of_world : BodyOf W) (step : EventStep 
       (so_far_of old_serves new_serves old.history c.last c.count some c.shows) (ends_after ended old new limit c.count c.last c.came) (λ x stands. stands)
       ends ready stay
 
-  pub run_wants : (ended : RunEnd) (old_serves new_serves : Standing W C → Type 0) (old new : WireState) (limit : ℕ)
-      → AfterLoop (loop.Ended (end_of_turns ended)) of_world step noted old_serves new_serves old new limit Seen
-      → WantsInSave step noted old_serves new_serves old new limit
-  run_wants ended old_serves new_serves old new limit after =
-      let c = came_of ended old_serves new_serves old new limit after in
-      let most = most_came ended old new limit c.count c.last c.came in
-      record {
-        last = c.last;
-        count = c.count;
-        fewer = omega (arith, most);
-        turns = c.shows.turns;
-        then_ = ends_after ended old new limit c.count c.last c.came;
-      }
-
   -- how one ends that want of memory broke
-  pub broken_keeps : (old_serves new_serves : Standing W C → Type 0) (old new : WireState) (limit : ℕ) → StandsForSome (StandsOver old_serves old.history.opened)
+  pub broken_keeps : (old_serves new_serves : Standing W C → Type 0) (old new : WireState) (limit : ℕ) → StandsForSome (StandsOver old_serves
+      old.history.opened)
       → ShowsBroken of_world step noted old_serves old.history new.history limit Seen → IsReady contents may_leave disk now
       → RunEnds keep.Memory old_serves new_serves old new limit disk
   unfolding so_far_of
@@ -212,6 +202,33 @@ module _ {W C D : Type 0} (every : ℕ) (of_world : BodyOf W) (step : EventStep 
       old_disk disk disk first now saved broken.later
       (so_far_of old_serves serves_any old.history broken.last broken.count some broken.shows) broken.few (inl broken.logged) stay
 
+  -- the saves among the bodies of the turns up to a tick whose body is to be saved
+  tick_keeps : (old_serves mid_serves new_serves : Standing W C → Type 0) (old mid new : WireHistory) (count : ℕ) → left ≡ 0
+      → StandsForSome (StandsOver old_serves old.opened)
+      → (shows : ShowsTurns of_world step noted old_serves mid_serves old mid count Seen) → TakesEvent step noted mid_serves new_serves mid new turn.Tick
+      → (body : List ℕ) → IsBodyOf of_world new_serves body → is_standing (body_of now) body ≡ false
+      → Keeps step noted old_serves new_serves (bodies_looked_at every of_world step) (body_of first) old new (count + 1) (shows.kept ++ body ∷ [])
+  tick_keeps old_serves mid_serves new_serves old mid new count due some shows takes body is differs =
+      let stood = body_of first in
+      let Saves : List (List ℕ) → List Look → Type 0 = λ kept looks. shows.kept ++ body ∷ [] ≡ saves_in stood (looked_at every looks) in
+      let standing = ((shows.shown some.standing some.stands).seen anew).standing in
+      let more = shows_more of_world step noted old_serves mid_serves new_serves old mid new count turn.Tick Seen Saves shows takes (record {
+        more = shows.kept ++ body ∷ [];
+        sees = λ looks y seen serves.
+            let look = look_at (of_world y.running.state.world) new in
+            subst (λ (l : List Look). shows.kept ++ body ∷ [] ≡ saves_in stood (looked_at every (looks ++ l))) (sym (tick_looks takes.event look takes.kind))
+            (saves_more stood shows.kept (looked_at every looks) (look.body ∷ []) (body ∷ []) (looked_at every (looks ++ look ∷ [])) (seen anew).are
+            (other_adds first now shows.kept body look.body standing differs (is y serves)) (due_more every left looks look due (seen anew).pace));
+      }) in
+      record {
+        turns = more.turns;
+        are = λ x over.
+            let all = more.shown x over in
+            all.seen ∙ ap (saves_in stood)
+            (looked_of_turns every of_world step x.running.state old (λ looked file. Unit {0}) all.turns all.one
+            ∙ ap (bodies_looked_at every of_world step x.running.state) (sym all.are));
+      }
+
   -- how one ends that what became of a body ended
   pub stopped_keeps : (by : SaveEnd) (end : KeepEnd) (old_serves mid_serves new_serves : Standing W C → Type 0) (old : WireState) (mid : WireHistory)
       (new : WireState) (count limit : ℕ) (last_disk : D) (last : StoreState) → StandsForSome (StandsOver old_serves old.history.opened) → count < limit
@@ -219,26 +236,31 @@ module _ {W C D : Type 0} (every : ℕ) (of_world : BodyOf W) (step : EventStep 
       → StopsAtLook contents may_leave moment left_since marked names fault_count by left now last disk last_disk (IsBodyOf of_world new_serves)
       → EndsAsStopped by end → ((d : D) (t : ℕ) (c : List ℕ) → t ≤ moment d → may_leave d c → left_since d t c)
       → RunEnds end old_serves new_serves old new limit last_disk
+  unfolding so_far_of
   stopped_keeps save.Same end old_serves mid_serves new_serves old mid new count limit last_disk last some fewer shows takes stops so counts = absurd so
   stopped_keeps save.Saved end old_serves mid_serves new_serves old mid new count limit last_disk last some fewer shows takes stops so counts = absurd so
   stopped_keeps save.Failed end old_serves mid_serves new_serves old mid new count limit last_disk last some fewer shows takes stops so counts =
       subst (λ (e : KeepEnd). RunEnds e old_serves new_serves old new limit last_disk)
       (sym so) (fails_at_tick every of_world step noted contents may_leave moment left_since
       (Also every of_world step noted contents may_leave moment left_since marked old.history old_disk disk first) old_serves mid_serves new_serves
-      old mid new count left limit old_disk disk last_disk first now saved fewer stops.due
-      (so_far_of old_serves mid_serves old.history mid count some shows) takes stops.saves.0 stops.saves.1 counts)
+      old mid new count left limit old_disk disk last_disk first now saved fewer
+      (so_far_of old_serves mid_serves old.history mid count some shows)
+      (tick_keeps old_serves mid_serves new_serves old.history mid new.history count stops.due some shows takes) stops.saves.0 stops.saves.1 counts)
   stopped_keeps save.Limit end old_serves mid_serves new_serves old mid new count limit last_disk last some fewer shows takes stops so counts =
       subst (λ (e : KeepEnd). RunEnds e old_serves new_serves old new limit last_disk)
       (sym so) (limit_at_tick every of_world step noted contents may_leave moment left_since
       (Also every of_world step noted contents may_leave moment left_since marked old.history old_disk disk first) old_serves mid_serves new_serves
-      old mid new count left limit old_disk disk last_disk first now saved fewer stops.due
-      (so_far_of old_serves mid_serves old.history mid count some shows) takes stops.saves.0 stops.saves.1 stops.saves.2 stops.ready)
+      old mid new count left limit old_disk disk last_disk first now saved fewer
+      (so_far_of old_serves mid_serves old.history mid count some shows)
+      (tick_keeps old_serves mid_serves new_serves old.history mid new.history count stops.due some shows takes) stops.saves.0 stops.saves.1 stops.saves.2
+      stops.ready)
   stopped_keeps save.Memory end old_serves mid_serves new_serves old mid new count limit last_disk last some fewer shows takes stops so counts =
       subst (λ (e : KeepEnd). RunEnds e old_serves new_serves old new limit last_disk)
       (sym so) (memory_at_tick every of_world step noted contents may_leave moment left_since
       (Also every of_world step noted contents may_leave moment left_since marked old.history old_disk disk first) old_serves mid_serves new_serves
-      old mid new count left limit old_disk disk last_disk first now saved fewer stops.due
-      (so_far_of old_serves mid_serves old.history mid count some shows) takes stops.saves stops.ready counts)
+      old mid new count left limit old_disk disk last_disk first now saved fewer
+      (so_far_of old_serves mid_serves old.history mid count some shows) takes
+      (tick_keeps old_serves mid_serves new_serves old.history mid new.history count stops.due some shows takes) stops.saves stops.ready counts)
 
   pub stopped_marked : (end : KeepEnd) (by : SaveEnd) (old_serves mid_serves new_serves : Standing W C → Type 0) (old : WireState) (mid : WireHistory)
       (new : WireState) (count : ℕ) (last_disk : D) → StandsForSome (StandsOver old_serves old.history.opened)

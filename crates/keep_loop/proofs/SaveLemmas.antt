@@ -36,10 +36,6 @@ pub saves-other : (stood : Option (List ℕ)) (body : List ℕ) → is_standing 
 unfolding saves_in
 saves-other stood body other = rw other refl
 
-pub saves-none : (stood : Option (List ℕ)) → saves_in stood [] ≡ []
-unfolding saves_in
-saves-none stood = refl
-
 -- the body that stands after saves
 pub body_after : (saves : List (List ℕ)) (standing : Option Standing) → body_in (standing_after_all standing saves) ≡ last_of (body_in standing) saves
 unfolding standing_after_all last_of

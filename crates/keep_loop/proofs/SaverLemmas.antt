@@ -1,13 +1,13 @@
 -- What a saver that stops has done goes on with one body more.
-use Rattle.std.proofs.Common.{◌≡◌, ℕ, ◌+◌, ◌-◌, ◌<◌, ◌≤◌, List, [], ◌∷◌, ◌++◌, length, true, false, refl, sym, ap, ◌∙◌, subst, append-nil, arith}
+use Rattle.std.proofs.Common.{◌≡◌, ℕ, ◌+◌, ◌-◌, ◌<◌, ◌≤◌, List, [], ◌∷◌, ◌++◌, length, false, refl, sym, ap, ◌∙◌, append-nil, arith}
 use Rattle.std.proofs.Math.Nat.{le_trans}
-use Rattle.std.specs.Prelude.{Option, Some, None}
+use Rattle.std.specs.Prelude.{Option}
 use Rattle.spec_store.specs.Runs as runs
 use Rattle.serve_loop.specs.Looks.{Look}
 use Rattle.persist_store.specs.Marks.{Mark, MarksOne, MarksStay}
 use Rattle.persist_store.specs.Steps.{Passes}
 use Rattle.persist_store.specs.Store.{StoreState, IsReady, body_of}
-use Rattle.keep_loop.specs.Bodies.{paced, saves_in, is_any_over}
+use Rattle.keep_loop.specs.Bodies.{saves_in}
 use Rattle.keep_loop.specs.Keeping.{left_behind}
 use Rattle.keep_loop.specs.Marking.{HoldsSaves}
 use Rattle.keep_loop.specs.Saver.{MayBeShown, SavesShown, KeepsDisk}
@@ -16,8 +16,8 @@ use Rattle.keep_loop.specs.Shown.{bodies_shown, looked_at, MarksShownSoFar}
 use Rattle.keep_loop.proofs.KeepLemmas.{length_one, same_adds, other_adds}
 use Rattle.keep_loop.proofs.MarkLemmas.{holds_saves}
 use Rattle.keep_loop.proofs.PaceLemmas.{paced-passed, left-passed, paced-due, left-due}
-use Rattle.keep_loop.proofs.QuietLemmas.{told_quiet, left_quiet, ready_quiet}
-use Rattle.keep_loop.proofs.SaveLemmas.{last_of, over_then, standing_then, left_then, left_same, told_then, told_same}
+use Rattle.keep_loop.proofs.QuietLemmas.{told_quiet, left_quiet}
+use Rattle.keep_loop.proofs.SaveLemmas.{over_then, standing_then, left_then, left_same, told_then, told_same}
 use Rattle.keep_loop.proofs.ShownLemmas.{looked_at-more, pace-more}
 use Rattle.keep_loop.proofs.ShownLemmas.{marked_shown_passed, marked_shown_looked}
 use Rattle.keep_loop.proofs.TurnLemmas.{saves_more}
@@ -28,6 +28,12 @@ pub saved_shown : {D : Type 0} (contents : D → Option (List ℕ)) (may_leave :
     → now.shut ≡ false → MayBeShown contents may_leave n every then_ now disk
 saved_shown contents may_leave n every saved then_ old now old_disk disk most may ready open_ =
     record { some = may.some; few = (let few = may.few in omega (arith, few, most)); ready = ready; open_ = open_ }
+
+-- a body is due
+pub due_more : (every left : ℕ) (looks : List Look) (look : Look) → left ≡ 0 → left ≡ left_behind every (every - 1) (bodies_shown looks)
+    → looked_at every (looks ++ look ∷ []) ≡ looked_at every looks ++ look.body ∷ []
+due_more every left looks look due pace =
+    looked_at-more every left looks look pace ∙ ap (λ l. looked_at every looks ++ l) (paced-due every left look.body due)
 
 -- no file is opened, in one and then in another
 pub disk_then : {D : Type 0} (contents : D → Option (List ℕ)) (names : D → Option (List (List ℕ))) (fault_count : D → ℕ) (old mid new : D)
@@ -68,11 +74,6 @@ module _ {D : Type 0} (contents : D → Option (List ℕ)) (may_leave : D → Li
         keeps = s.keeps;
       }
 
-  due_more : (every left : ℕ) (looks : List Look) (look : Look) → left ≡ 0 → left ≡ left_behind every (every - 1) (bodies_shown looks)
-      → looked_at every (looks ++ look ∷ []) ≡ looked_at every looks ++ look.body ∷ []
-  due_more every left looks look due pace =
-      looked_at-more every left looks look pace ∙ ap (λ l. looked_at every looks ++ l) (paced-due every left look.body due)
-
   -- the disk is marked behind a look
   marked_look : (every left saved : ℕ) (first now : StoreState) (start mid disk last : D) (saves : List (List ℕ)) (looks : List Look) (look : Look)
       → left ≡ 0 → left ≡ left_behind every (every - 1) (bodies_shown looks)
@@ -99,7 +100,8 @@ module _ {D : Type 0} (contents : D → Option (List ℕ)) (may_leave : D → Li
       → MarksStay marked mid disk → KeepsDisk contents names fault_count mid disk → MarksOne marked disk last look.wire (contents disk)
       → Passes contents may_leave moment left_since disk last → names last ≡ names disk → fault_count disk ≤ fault_count last
       → Sees every every_now (every_now - 1) saved first now start last saves (looks ++ look ∷ [])
-  sees_same counts IsBody every every_now left saved first mid_store now start mid disk last saves looks look due s body same ready stays keeps one quiet named later =
+  sees_same counts IsBody every every_now left saved first mid_store now start mid disk last saves looks look due s body same ready stays keeps one quiet
+      named later =
       let told : StaysTold contents start disk = told_same contents moment left_since start mid disk s.told same.disk in
       let open_ : now.shut ≡ false = ap (λ (t : StoreState). t.shut) same.store ∙ s.open_ in
       let standing : now.standing ≡ runs.standing_after_all first.standing saves = ap (λ (t : StoreState). t.standing) same.store ∙ s.standing in
@@ -118,7 +120,12 @@ module _ {D : Type 0} (contents : D → Option (List ℕ)) (may_leave : D → Li
         left = left_quiet contents may_leave moment left_since counts start disk last first.standing saves
             (left_same contents moment left_since start mid disk first.standing saves s.left same.disk) quiet;
         marks = marked_look every left saved first now start mid disk last saves looks look due s.pace are told ready open_ standing stays one s.marks;
-        keeps = disk_then contents names fault_count start mid last s.keeps (disk_then contents names fault_count mid disk last keeps (record { untold = λ e. quiet.same ∙ e; named = named; later = later }));
+        keeps = disk_then contents names fault_count start mid last s.keeps (disk_then contents names fault_count mid disk last keeps (record {
+          untold = λ
+              e. quiet.same ∙ e;
+          named = named;
+          later = later;
+        }));
       }
 
   -- one that was saved
@@ -153,5 +160,10 @@ module _ {D : Type 0} (contents : D → Option (List ℕ)) (may_leave : D → Li
             (left_then contents moment left_since start mid disk first.standing mid_store.standing saves (made.body ∷ []) s.left s.told s.standing made.left)
             quiet;
         marks = marked_look every left saved first now start mid disk last all looks look due s.pace are told ready open_ standing stays one s.marks;
-        keeps = disk_then contents names fault_count start mid last s.keeps (disk_then contents names fault_count mid disk last keeps (record { untold = λ e. quiet.same ∙ e; named = named; later = later }));
+        keeps = disk_then contents names fault_count start mid last s.keeps (disk_then contents names fault_count mid disk last keeps (record {
+          untold = λ
+              e. quiet.same ∙ e;
+          named = named;
+          later = later;
+        }));
       }

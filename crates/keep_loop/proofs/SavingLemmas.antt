@@ -52,9 +52,6 @@ pub failed_within : (store : StoreState) (body : List ℕ) → store.shut ≡ fa
 failed_within store body open_ refused =
     not_over (is_over_limit store.standing body) (λ over. (let e : saved.Failed ≡ saved.Limit = refused.1.1 open_ over in cc))
 
-pub never_shut : (store : StoreState) (body : List ℕ) → store.shut ≡ false → IsRefused store body saved.Shut → ⊥
-never_shut store body open_ refused = (let both = sym open_ ∙ refused.0.0 refl in cc)
-
 -- a body may be seen otherwise
 pub saved_to : {D : Type 0} (by : SaveEnd) (First Then : List ℕ → Type 0) (contents : D → Option (List ℕ))
     (moment : D → ℕ) (left_since : D → ℕ → List ℕ → Type 0) (old_disk new_disk : D) (old new : StoreState)

@@ -3,11 +3,10 @@ use Rattle.std.proofs.Common.{◌≡◌, ℕ, ◌+◌, ◌-◌, List, [], ◌∷
 use Rattle.std.specs.Prelude.{Option, ◌⊎◌}
 use Rattle.std.specs.List.{All, flat_map}
 use Rattle.std.proofs.lemmas.Grind.{flat_map-append}
-use Rattle.std.proofs.lemmas.List.{length-append, map-append}
+use Rattle.std.proofs.lemmas.List.{length-append}
 use Rattle.std.proofs.lemmas.List.Elements.{All-head, All-tail, All-nil, All-cons, All-append}
 use Rattle.ads_outside.specs.declared.event.Event.{Event}
 use Rattle.ads_outside.specs.declared.event.Event.TheVariants as event
-use Rattle.ads_outside.specs.declared.moves.Move.{Move}
 use Rattle.ads_outside.specs.WireState.{WireHistory, history_after}
 use Rattle.spec_machine.specs.MachineState.{MachineState}
 use Rattle.spec_machine.specs.Moves.{EventStep, state_after}
@@ -175,7 +174,8 @@ split_at {W} {C} body_of step (t ∷ ts) s h before look later are =
         → SplitsAt body_of step s h (t ∷ ts) before look
     split_tick body_of step t ts s h [] look later one are goes =
         let here = look_at (body_of (state_after step s (moves_of_turn t)).world) (history_after h (moves_of_turn t)) in
-        let is : here ≡ look = head_is here look (looks_of_turns body_of step (state_after step s (moves_of_turn t)) (history_after h (moves_of_turn t)) ts) later are in
+        let is : here ≡ look = head_is here look (looks_of_turns body_of step (state_after step s (moves_of_turn t)) (history_after h (moves_of_turn t))
+        ts) later are in
         split_here body_of step t ts s h look (one ∙ ap (λ l. l ∷ []) is) is
     split_tick body_of step t ts s h (b ∷ before) look later one are goes =
         let here = look_at (body_of (state_after step s (moves_of_turn t)).world) (history_after h (moves_of_turn t)) in
@@ -226,12 +226,12 @@ module _ {W C : Type 0} (every : ℕ) (body_of : BodyOf W) (step : EventStep W C
       let one = all_one r.front r.back r.turn all in
       let front = all_front r.front (r.turn ∷ r.back) all in
       let both : All HasOne (r.front ++ r.turn ∷ []) =
-          All-append HasOne r.front (r.turn ∷ []) front (All-cons HasOne r.turn [] one (All-nil HasOne)) in
+      All-append HasOne r.front (r.turn ∷ []) front (All-cons HasOne r.turn [] one (All-nil HasOne)) in
       let so_far : looked_at every m.before ≡ bodies_looked_at every body_of step s first =
-          ap (looked_at every) (sym r.shown) ∙ looked_of_turns r.front front in
+      ap (looked_at every) (sym r.shown) ∙ looked_of_turns r.front front in
       let due : looked_at every (m.before ++ m.look ∷ []) ≡ bodies_looked_at every body_of step s (first ++ turn) =
-          ap (looked_at every) (sym r.more) ∙ (looked_of_turns (r.front ++ r.turn ∷ []) both
-          ∙ ap (bodies_looked_at every body_of step s) (flat_one r.front r.turn)) in
+      ap (looked_at every) (sym r.more) ∙ (looked_of_turns (r.front ++ r.turn ∷ []) both
+      ∙ ap (bodies_looked_at every body_of step s) (flat_one r.front r.turn)) in
       record {
         before = first;
         turn = turn;

@@ -1,5 +1,5 @@
 -- What becomes of a body that is looked at where an earlier save may have failed. No public clause cites it.
-use Rattle.std.specs.Prelude.{◌≡◌, ◌⊎◌, ℕ, ◌+◌, ◌<◌, ◌≤◌, List, [], ◌∷◌, false, Option, Some, None}
+use Rattle.std.specs.Prelude.{◌≡◌, ◌⊎◌, ℕ, ◌+◌, ◌<◌, ◌≤◌, List, false, Option, Some, None}
 use Rattle.ads_outside.specs.declared.end.End.{End}
 use Rattle.spec_store.specs.Disk.{LeavesOnly}
 use Rattle.spec_store.specs.Slots.{Standing, standing_of}

@@ -17,12 +17,12 @@ ghost use Rattle.keep_loop.specs.Marking.{HoldsSaves, MarksBeforeEnd, MarksRun, 
 ghost use Rattle.keep_loop.specs.Saver.{BeginsAnew, KeepsDisk, MayBeShown, SeenBy, StopsAtLook, is_stop};
 ghost use Rattle.keep_loop.specs.Wanting.{WantsToKeep};
 
+use crate::KeepEnd;
 use crate::marking::{mark_behind, mark_end};
 use crate::run_end::RunEnd;
 use crate::save_end::SaveEnd;
 use crate::saves_or_stops::SavesOrStops;
 use crate::saving::save_body;
-use crate::KeepEnd;
 use ads_outside::{End, Wire};
 use ads_served::Served;
 use persist_store::{Disk, Store};

@@ -63,7 +63,13 @@ impl<'a, M: Served, D: Disk, N: Told<M> + Drop> Beside<M, D> for SavesOn<'a, N> 
 
     ghost begins = { λ s n disk ready. (tt, λ anew. anew) };
 
-    ghost fewer = { λ s n disk ready. record { every = ready.every; most = ready.most; few = ready.few; room = (let room = ready.room in omega (arith, room)); ready = ready.ready } };
+    ghost fewer = { λ s n disk ready. record {
+      every = ready.every;
+      most = ready.most;
+      few = ready.few;
+      room = (let room = ready.room in omega (arith, room));
+      ready = ready.ready;
+    } };
 }
 
 // A tick whose body is looked at.

@@ -6,9 +6,9 @@ ghost use Rattle.serve_loop.specs.Looks.{Look, IsBodyOf, SeesMore};
 ghost use Rattle.keep_loop.specs.Saver.{MayBeShown, SeenBy, StopsAtLook};
 ghost use Rattle.keep_loop.specs.Saving.{StandsForSome};
 
+use crate::SaveEnd;
 use crate::marking::mark_behind;
 use crate::saving::save_body;
-use crate::SaveEnd;
 use ads_outside::{Event, Wire};
 use ads_served::Served;
 use persist_store::{Disk, Store};
@@ -55,8 +55,11 @@ impl<M: Served, D: Disk> Beside<M, D> for SavesOrStops {
         look_due(self, alloc, served, wire, disk)
     }
 
-    ghost begins = { λ first n disk ready. ([], λ anew. sees_none D.contents D.may_leave D.moment D.left_since D.marked D.names D.fault_count D.only_now
-        first.every first.left first.saved first.store disk anew ready.ready ready.open_) };
+    ghost begins = { λ first n disk ready. (
+      [],
+      λ anew. sees_none D.contents D.may_leave D.moment D.left_since D.marked D.names D.fault_count D.only_now
+          first.every first.left first.saved first.store disk anew ready.ready ready.open_,
+    ) };
 
     ghost fewer = { λ now n disk ready. fewer_shown D.contents D.may_leave n now.every now.saved now.store disk ready };
 }

@@ -1,8 +1,7 @@
 -- What was shown of the turns, and the look at their end.
-use Rattle.std.proofs.Common.{◌≡◌, ℕ, List, true, false, sym, ◌∙◌, subst}
+use Rattle.std.proofs.Common.{ℕ, List, sym, ◌∙◌, subst}
 use Rattle.persist_store.proofs.NameLemmas.{only_join}
 use Rattle.persist_store.specs.Disk.{OpensOnly}
-use Rattle.keep_loop.specs.Marking.{comes_to_end}
 use Rattle.keep_loop.specs.SavingOn.{saver}
 use Rattle.keep_loop.proofs.LoopOnLemmas.{looks_in, marks_in, known, some_at_end}
 use Rattle.keep_loop.proofs.OnLemmas.{ends_looked, ends_wanting}

@@ -1,5 +1,5 @@
 -- The saver begins with nothing shown; what holds of the turns and the looks holds behind the mark of their end.
-use Rattle.std.proofs.Common.{◌≡◌, ℕ, List, ◌-◌, ◌∙◌, refl, sym, subst, arith}
+use Rattle.std.proofs.Common.{ℕ, List, ◌-◌, ◌∙◌, refl, sym, subst, arith}
 use Rattle.std.specs.Prelude.{Option}
 use Rattle.persist_store.specs.Disk.{OpensOnly}
 use Rattle.keep_loop.specs.Marking.{HoldsWhole, comes_to_end}

@@ -1,5 +1,5 @@
 -- What became of the look at the end.
-use Rattle.std.proofs.Common.{◌≡◌, ◌<◌, ap, subst, sym}
+use Rattle.std.proofs.Common.{◌<◌, ap, subst, sym}
 use Rattle.std.specs.Prelude.{Some}
 use Rattle.keep_loop.specs.declared.kept_on.KeptOn.{KeptOn}
 use Rattle.keep_loop.specs.declared.save_counts.SaveCounts.{SaveCounts}

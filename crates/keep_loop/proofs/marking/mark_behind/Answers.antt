@@ -1,5 +1,4 @@
 -- A mark writes nothing.
-use Rattle.std.proofs.Common.{List, ℕ}
 use Rattle.persist_store.proofs.Moments.{started, goes_on}
 use Rattle.keep_loop.proofs.marking.mark_behind.Goals as goal
 

@@ -1,5 +1,5 @@
 -- A body that stands already, and one that was saved, are seen.
-use Rattle.std.proofs.Common.{◌≡◌, ◌≤◌, ◌+◌, ◌++◌, ◌∷◌, [], ◌∙◌, ap, arith}
+use Rattle.std.proofs.Common.{◌+◌, ◌++◌, ◌∷◌, [], ◌∙◌, ap, arith}
 use Rattle.persist_store.specs.Store.{StoreState}
 use Rattle.keep_loop.proofs.QuietLemmas.{ready_quiet}
 use Rattle.keep_loop.proofs.SaverLemmas.{saved_shown, sees_same, sees_saved}

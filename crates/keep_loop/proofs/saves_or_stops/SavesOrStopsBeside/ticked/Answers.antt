@@ -1,5 +1,4 @@
 -- A body that is let pass is seen.
-use Rattle.std.proofs.Common.{◌<◌, ◌-◌}
 use Rattle.keep_loop.proofs.SaverLemmas.{sees_passed}
 use Rattle.keep_loop.proofs.saves_or_stops.SavesOrStopsBeside.ticked.Goals as goal
 
