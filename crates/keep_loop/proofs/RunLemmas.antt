@@ -1,5 +1,5 @@
 -- What was shown of turns, in terms of a run with a store: its saves, how it ends, and its marks.
-use Rattle.std.proofs.Common.{◌≡◌, ℕ, ◌+◌, ◌-◌, ◌<◌, ◌≤◌, List, [], ◌∷◌, ◌++◌, false, refl, sym, ap, ◌∙◌, subst, inl, arith}
+use Rattle.std.proofs.Common.{◌≡◌, ℕ, ◌+◌, ◌<◌, ◌≤◌, List, [], ◌∷◌, ◌++◌, false, refl, sym, ap, ◌∙◌, subst, inl, arith}
 use Rattle.std.specs.Prelude.{Bool, Option}
 use Rattle.ads_outside.specs.declared.end.End.{End}
 use Rattle.ads_outside.specs.declared.end.End.TheVariants as end

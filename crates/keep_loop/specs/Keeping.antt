@@ -17,7 +17,7 @@ use Rattle.keep_loop.specs.declared.keep_end.KeepEnd.{KeepEnd}
 use Rattle.keep_loop.specs.declared.keep_end.KeepEnd.TheVariants as keep
 use Rattle.keep_loop.specs.declared.run_end.RunEnd.{RunEnd}
 use Rattle.keep_loop.specs.declared.run_end.RunEnd.TheVariants as run
-use Rattle.keep_loop.specs.Bodies.{BodyOf, bodies_at_ticks, bodies_looked_at, bodies_to_end, saves_in, is_any_over}
+use Rattle.keep_loop.specs.Bodies.{BodyOf, bodies_looked_at, bodies_to_end, saves_in, is_any_over}
 use Rattle.keep_loop.specs.Saving.{LeavesEach, StaysTold}
 
 -- the bodies of a log from a state on
