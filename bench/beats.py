@@ -9,7 +9,7 @@ line: how many samples came in S seconds (60 unless told), the mean gap between 
 moments of the samples. The program ends with 1 where the mean gap of the 10 ms cycle is above 10.5 ms (5 % above the cycle for the others), or where a moment does not lie a whole
 number of cycles behind the last.
 
-With --wall the system's wall clock is set for the program alone (bench/set_clocks.c, which gcc builds). For a server: an hour forward, and then two hours
+With --wall the system's wall clock is set for the program alone (tries/set_clocks.c, which gcc builds). For a server: an hour forward, and then two hours
 back, while samples come; it prints how the moments follow. For a client: an hour forward just before each answer comes, which must time nothing out; and two
 hours back while no answer comes, which must end it after its five seconds all the same.
 """

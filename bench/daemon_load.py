@@ -8,7 +8,7 @@ PROGRAM is the built adsd; gcc builds the load (bench/serve_client.c). `--short`
 four bytes for each of the connections that ask (`--asking`), all of them persistent, and a block of 64 bytes. There are:
 
 - connections with 32 requests in flight each, reads, writes, states and sums of own symbols, in the profile `wide` also reads of greater buffers by handle
-  and sums that tell lengths. Each byte is compared with the model of the protocol (bench/model.py), so a read must give what was written;
+  and sums that tell lengths. Each byte is compared with the model of the protocol (model/protocol.py), so a read must give what was written;
 - eight connections with 512 notifications each of a symbol that changes at each tick: each tick must bring the next value, with a moment that rises;
 - one that writes the block, all 64 bytes in one request, and reads it back, some twenty times a second;
 - page.py, whose /values.json and /healthz are read each second; history.py, which records the block and the symbol of the ticks into SQLite; mqtt.py, which
@@ -37,11 +37,10 @@ import tempfile
 import threading
 import time
 
-sys.dont_write_bytecode = True
 HERE = os.path.dirname(os.path.abspath(__file__))
-sys.path[:0] = [HERE, os.path.join(HERE, "..", "tools")]
+sys.dont_write_bytecode = True
+sys.path[1:1] = [f"{sys.path[0]}/../{room}" for room in ("model", "tools", "tries")]
 import daemon  # noqa: E402
-import model  # noqa: E402
 import serve  # noqa: E402
 import store  # noqa: E402
 from daemon import expect  # noqa: E402

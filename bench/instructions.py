@@ -25,6 +25,7 @@ import sys
 import tempfile
 
 sys.dont_write_bytecode = True
+sys.path[1:1] = [f"{sys.path[0]}/../{room}" for room in ("model", "tools", "tries")]
 import serve  # noqa: E402
 from random_runs import toml_of  # noqa: E402
 
@@ -36,10 +37,10 @@ SAMPLE = "sample"
 
 def frames(k, asked, first_id):
     """One text of frames of connection k, a frame a request."""
-    head = serve.model.net_of(serve.NET) + serve.model.u16(851) + serve.model.net_of(serve.ME) + serve.model.u16(32905 + k)
+    head = serve.protocol.net_of(serve.NET) + serve.protocol.u16(851) + serve.protocol.net_of(serve.ME) + serve.protocol.u16(32905 + k)
     text = b""
     for number, (command, payload) in enumerate(asked, first_id):
-        ams = head + serve.model.u16(command) + serve.model.u16(4) + serve.words(len(payload), 0, number) + payload
+        ams = head + serve.protocol.u16(command) + serve.protocol.u16(4) + serve.words(len(payload), 0, number) + payload
         text += bytes(2) + serve.words(len(ams)) + ams
     return text
 

@@ -8,7 +8,6 @@ times, the least of five runs, and the greatest memory. `load 100000` is to take
 whether the time is linear.
 """
 import os
-import resource
 import subprocess
 import sys
 import tempfile

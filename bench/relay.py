@@ -22,7 +22,8 @@ import sys
 import tempfile
 
 sys.dont_write_bytecode = True
-from model import net_of, u16, u32  # noqa: E402
+sys.path[1:1] = [f"{sys.path[0]}/../{room}" for room in ("model", "tools", "tries")]
+from protocol import net_of, u16, u32  # noqa: E402
 from random_runs import toml_of  # noqa: E402
 from serve import Bench  # noqa: E402
 

@@ -9,7 +9,7 @@
 
 PROGRAM is crates/ads/out/ads, which `rt run -- selftest ../../examples/state.script` in crates/ads builds; gcc builds the C server and the load (bench/serve_client.c).
 
-The plant has 6,400 symbols of four bytes. Each connection asks over loopback for 100 of its own. What it must be told comes from bench/model.py: a wrong byte, or five
+The plant has 6,400 symbols of four bytes. Each connection asks over loopback for 100 of its own. What it must be told comes from model/protocol.py: a wrong byte, or five
 seconds of nothing (a minute with --minutes), ends the run with the connection and the byte. Of 20 requests of the mixture 6 are reads by group, 5 reads by handle, 2 writes by group, 2 writes
 by handle, 4 states, and one a sum of 100 reads. Each figure is the median of five turns, in which both servers come one after the other, and each ratio the median of the turns'
 ratios; with --quick of one short turn. Processor time is that of all threads of the server. Other work on the machine spoils all figures, so its load average is told first.
@@ -31,7 +31,8 @@ import tempfile
 import time
 
 sys.dont_write_bytecode = True
-import model  # noqa: E402
+sys.path[1:1] = [f"{sys.path[0]}/../{room}" for room in ("model", "tools", "tries")]
+import protocol  # noqa: E402
 from random_runs import toml_of  # noqa: E402
 
 HERE = os.path.dirname(os.path.abspath(__file__))
@@ -50,7 +51,7 @@ def plant(first, count):
 
 
 def words(*numbers):
-    return b"".join(map(model.u32, numbers))
+    return b"".join(map(protocol.u32, numbers))
 
 
 def request(kind, first, r):
@@ -64,11 +65,11 @@ def request(kind, first, r):
 
 def plan(k, once, again, ticks=0, wide=False):
     """The plan of connection k (see serve_client.c). What is asked again and again is asked once before, so that each time finds what the last one left."""
-    server, asks = model.Server(plant(OWN * k, OWN), [range(1000)], wide), []
-    model.turn(server, ("open", 1), [])
-    client, head = server.conns[1], model.net_of(NET) + model.u16(851) + model.net_of(ME) + model.u16(32905 + k)
+    server, asks = protocol.Server(plant(OWN * k, OWN), [range(1000)], wide), []
+    protocol.turn(server, ("open", 1), [])
+    client, head = server.conns[1], protocol.net_of(NET) + protocol.u16(851) + protocol.net_of(ME) + protocol.u16(32905 + k)
     for number, (command, payload) in enumerate(once + again + again):
-        ams = head + model.u16(command) + model.u16(4) + words(len(payload), 0, number) + payload
+        ams = head + protocol.u16(command) + protocol.u16(4) + words(len(payload), 0, number) + payload
         asks.append(bytes(2) + words(len(ams)) + ams)
         client.stream += asks[-1]
         server.take(client)
@@ -263,7 +264,7 @@ def change_description(version):
 
 def version_of(server):
     """How often the description of a server was replaced, modulo 256, as its symbol version tells."""
-    ams = model.net_of(NET) + model.u16(851) + model.net_of(ME) + model.u16(40000) + model.u16(2) + model.u16(4) + words(12, 0, 1) + words(0xF008, 0, 1)
+    ams = protocol.net_of(NET) + protocol.u16(851) + protocol.net_of(ME) + protocol.u16(40000) + protocol.u16(2) + protocol.u16(4) + words(12, 0, 1) + words(0xF008, 0, 1)
     with socket.create_connection(("127.0.0.1", int(server[0])), timeout=10) as s:
         s.sendall(bytes(2) + words(len(ams)) + ams)
         return s.recv(100)[-1]

@@ -1,0 +1,232 @@
+#!/usr/bin/env python3
+"""A thousand connections that end in each way: what `ads serve` and `ads relay --listen`, or `adsd` in both profiles, keep of them.
+
+    python3 tries/endings.py [PROGRAM] [--count N]
+    python3 tries/endings.py --adsd PROGRAM [--count N]
+
+For each way N connections (1,000) come, 32 at a time, and end so. Behind them a good client asks, and must be told each byte; the process must have as many descriptors
+and threads as before the first, and what it holds of memory is told before and behind. The program ends with 1 where anything is left over or a client is told otherwise.
+"""
+import os
+import socket
+import struct
+import subprocess
+import sys
+import tempfile
+import time
+
+sys.dont_write_bytecode = True
+import held  # noqa: E402
+
+HERE = os.path.dirname(os.path.abspath(__file__))
+PROGRAM = os.path.join(HERE, "..", "crates", "ads", "out", "ads")
+PLANT = os.path.join(HERE, "..", "examples", "plant.toml")
+TOGETHER = 32
+NET, PANEL, PORT = bytes([5, 1, 2, 3, 1, 1]), bytes([192, 168, 0, 9, 1, 1]), 32905
+
+
+def frame(target, source, command, payload=b"", flags=4, error=0, number=1):
+    head = target[0] + struct.pack("<H", target[1]) + source[0] + struct.pack("<HHHIII", source[1], command, flags, len(payload), error, number)
+    return bytes(2) + struct.pack("<I", len(head) + len(payload)) + head + payload
+
+
+def to_server(command, payload=b""):
+    return frame((NET, 851), (PANEL, PORT), command, payload)
+
+
+STATE, STATE_TOLD = to_server(4), frame((PANEL, PORT), (NET, 851), 4, struct.pack("<IHH", 0, 5, 0), flags=5)
+LONG = to_server(2, struct.pack("<III", 0x4040, 0, 100))
+NOTES = to_server(6, struct.pack("<IIIIII", 0x4040, 60, 2, 3, 0, 100000) + bytes(16))
+
+
+def of_server(k):
+    return STATE, STATE_TOLD
+
+
+def of_relay(k):
+    """A request to a NetId that nobody owns, and the relay's own answer. A relay has one connection for each NetId."""
+    own = bytes([192, 168, 0, k, 1, 1])
+    return frame((NET, 851), (own, PORT), 4), frame((own, PORT), (NET, 851), 4, flags=5, error=7)
+
+
+def routes():
+    """A description with a route for each of the connections of a relay, and one for the good client."""
+    return "schema = 1\nnet = \"5.1.2.3.1.1\"\n" + "".join(f"[[route]]\nnet = \"192.168.0.{k}.1.1\"\nrights = \"write\"\n" for k in range(TOGETHER + 1)) \
+        + "[[port]]\nport = 851\nname = \"A\"\nmajor = 1\nminor = 1\nbuild = 1\ndata = 8\n"
+
+
+def exactly(s, want):
+    got = b""
+    while len(got) < len(want):
+        piece = s.recv(len(want) - len(got))
+        if not piece:
+            break
+        got += piece
+    if got != want:
+        raise ValueError(f"told {got.hex()} in place of {want.hex()}")
+
+
+def until_end(s):
+    try:
+        while s.recv(65536):
+            pass
+    except ConnectionResetError:
+        pass
+
+
+def reset(s):
+    s.setsockopt(socket.SOL_SOCKET, socket.SO_LINGER, struct.pack("ii", 1, 0))
+    s.close()
+
+
+class Ways:
+    """Each takes a connection to its end, and is given what to ask and what must be told."""
+
+    @staticmethod
+    def closed_at_once(s, ask, want):
+        s.close()
+
+    @staticmethod
+    def closed_behind_its_replies(s, ask, want):
+        s.sendall(ask * 3)
+        exactly(s, want * 3)
+        s.close()
+
+    @staticmethod
+    def closed_before_its_replies(s, ask, want):
+        s.sendall(ask * 3)
+        s.close()
+
+    @staticmethod
+    def reset_in_mid_frame(s, ask, want):
+        s.sendall(ask + ask[:10])
+        reset(s)
+
+    @staticmethod
+    def reset_at_once(s, ask, want):
+        reset(s)
+
+    @staticmethod
+    def stream_ended_in_mid_frame(s, ask, want):
+        s.sendall(ask * 2 + ask[:20])
+        s.shutdown(socket.SHUT_WR)
+        exactly(s, want * 2)
+        until_end(s)
+        s.close()
+
+    @staticmethod
+    def broken_frame(s, ask, want):
+        s.sendall(ask + b"\x01\x00" + ask[2:])
+        exactly(s, want)
+        until_end(s)
+        s.close()
+
+    @staticmethod
+    def unknown_source(s, ask, want):
+        s.sendall(ask[:14] + bytes([9] * 6) + ask[20:])
+        s.settimeout(0.2)
+        try:
+            s.recv(100)
+        except TimeoutError:
+            pass
+        s.close()
+
+    @staticmethod
+    def reset_while_replies_wait(s, ask, want):
+        s.sendall(ask * 500)
+        reset(s)
+
+    @staticmethod
+    def half_of_it_read(s, ask, want):
+        s.sendall(ask * 50)
+        exactly(s, want * 25)
+        s.close()
+
+
+class OfServer(Ways):
+    @staticmethod
+    def reset_with_notifications(s, ask, want):
+        s.sendall(NOTES * 20)
+        s.recv(46)
+        reset(s)
+
+    @staticmethod
+    def closed_with_handles(s, ask, want):
+        name = b"Main.count"
+        s.sendall(to_server(9, struct.pack("<IIII", 0xF003, 0, 4, len(name)) + name) * 5 + LONG)
+        s.recv(46)
+        s.close()
+
+
+def ways_of(of):
+    return [(name, getattr(of, name)) for name in dir(of) if not name.startswith("_")]
+
+
+class Process:
+    def __init__(self, command, description):
+        with socket.socket() as free:
+            free.bind(("127.0.0.1", 0))
+            self.port = free.getsockname()[1]
+        words = [command, description, "--events", str(2 ** 64 - 1)] if command in ("serve", "relay") else [description, "--log", "none", "--profile", command]
+        self.process = subprocess.Popen([PROGRAM, *words, "--listen", f"127.0.0.1:{self.port}"], stdout=subprocess.PIPE)
+        if self.process.stdout.readline() != b"listening\n":
+            sys.exit(f"{command} does not listen")
+
+    def open(self):
+        s = socket.create_connection(("127.0.0.1", self.port), timeout=10.0)
+        s.setsockopt(socket.IPPROTO_TCP, socket.TCP_NODELAY, 1)
+        return s
+
+    def asks(self, ask, want):
+        """A good client, who is let in once the others are gone."""
+        with self.open() as s:
+            s.sendall(ask)
+            exactly(s, want)
+
+
+def play(command, description, of, words_of, count):
+    """How many ways left something over, of a command of `ads` or of a profile of `adsd`."""
+    it, wrong = Process(command, description), 0
+    try:
+        it.asks(*words_of(TOGETHER))
+        time.sleep(0.3)
+        before = held.counts(it.process.pid)
+        for name, way in ways_of(of):
+            for _ in range(count // TOGETHER + 1):
+                some = [it.open() for _ in range(TOGETHER)]
+                for k, s in enumerate(some):
+                    way(s, *words_of(k))
+                held.settled(it.process.pid, before)
+            it.asks(*words_of(TOGETHER))
+            left = held.left_over(it.process.pid, before)
+            wrong += left[:2] != (0, 0)
+            print(f"| {command} | {name.replace('_', ' ')} | {count // TOGETHER * TOGETHER + TOGETHER:,} | {' | '.join(map(str, left))} |", flush=True)
+        if it.process.poll() is not None:
+            print(f"{command} ended with {it.process.returncode}")
+            wrong += 1
+        return wrong
+    finally:
+        it.process.kill()
+        it.process.wait()
+
+
+def main():
+    global PROGRAM
+    words = sys.argv[1:]
+    count = int(words.pop(words.index("--count") + 1)) if "--count" in words else 1000
+    of_daemon = "--adsd" in words
+    words = [word for word in words if word not in ("--count", "--adsd")]
+    PROGRAM = os.path.abspath(words[0] if words else PROGRAM)
+    print("| of | how the connections ended | how many | descriptors left over | threads | KiB more than before the first |\n|---|---|---|---|---|---|")
+    if of_daemon:
+        sys.exit(1 if sum(play(profile, PLANT, OfServer, of_server, count) for profile in ("strict", "wide")) else 0)
+    wrong = play("serve", PLANT, OfServer, of_server, count)
+    with tempfile.NamedTemporaryFile("w", suffix=".toml") as description:
+        description.write(routes())
+        description.flush()
+        wrong += play("relay", description.name, Ways, of_relay, count)
+    sys.exit(1 if wrong else 0)
+
+
+if __name__ == "__main__":
+    main()
