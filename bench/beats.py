@@ -24,37 +24,21 @@ import tempfile
 import threading
 import time
 
-HERE = os.path.dirname(os.path.abspath(__file__))
-PLANT = os.path.join(HERE, "..", "examples", "plant.toml")
-NET, ME = bytes([5, 1, 2, 3, 1, 1]), bytes([192, 168, 0, 9, 1, 1])
+sys.dont_write_bytecode = True
+sys.path[1:1] = [f"{sys.path[0]}/../{room}" for room in ("model", "tries")]
+from ams import request, size_of_first, watched  # noqa: E402
+from under_test import ADS, PLANT, Clocks, Program, connected, serve_words  # noqa: E402
+
 CYCLES = (10, 20, 50, 100)
 MS = 10_000
 ASKING, PROCESSES = 60, 2
 
 
-def frame(command, number, payload):
-    head = NET + struct.pack("<H", 851) + ME + struct.pack("<HHHIII", 32905, command, 4, len(payload), 0, number)
-    return bytes(2) + struct.pack("<I", len(head) + len(payload)) + head + payload
+STATE = request(4, 1)
 
 
-STATE = frame(4, 1, b"")
-
-
-def start(program, **more):
-    """A server, and its port."""
-    with socket.socket() as s:
-        s.bind(("127.0.0.1", 0))
-        port = s.getsockname()[1]
-    process = subprocess.Popen([program, "serve", PLANT, "--listen", f"127.0.0.1:{port}", "--events", str(2 ** 64 - 1)], stdout=subprocess.PIPE, **more)
-    if process.stdout.readline() != b"listening\n":
-        sys.exit("the server does not listen")
-    return process, port
-
-
-def connect(port):
-    s = socket.create_connection(("127.0.0.1", port), timeout=10)
-    s.setsockopt(socket.IPPROTO_TCP, socket.TCP_NODELAY, 1)
-    return s
+def served(program, **how):
+    return Program(program, serve_words(PLANT), **how)
 
 
 class Cycle:
@@ -62,14 +46,13 @@ class Cycle:
 
     def __init__(self, port, cycle):
         self.cycle, self.rest, self.came, self.moments = cycle, b"", [], []
-        self.socket = connect(port)
-        self.socket.sendall(frame(6, 5, struct.pack("<IIIIII", 0x4040, 64, 2, 3, 0, cycle * MS) + bytes(16)))
+        self.socket = connected(port)
+        self.socket.sendall(request(6, 5, watched(0x4040, 64, 2, 3, cycle * MS)))
 
     def hear(self):
         self.rest += self.socket.recv(65536)
         now = time.monotonic()
-        while len(self.rest) >= 6 and len(self.rest) >= 6 + struct.unpack_from("<I", self.rest, 2)[0]:
-            size = 6 + struct.unpack_from("<I", self.rest, 2)[0]
+        while size := size_of_first(self.rest):
             if self.rest[22:24] == b"\x08\x00":
                 self.came.append(now)
                 self.moments.append(struct.unpack_from("<Q", self.rest, 46)[0])
@@ -103,7 +86,7 @@ def ask(port, count):
     """So many connections ask for the state without end."""
     with selectors.DefaultSelector() as poll:
         for _ in range(count):
-            s = connect(port)
+            s = connected(port)
             poll.register(s, selectors.EVENT_READ)
             s.sendall(STATE)
         while True:
@@ -127,21 +110,22 @@ def load(port):
     return children
 
 
-def measure(program, seconds, loaded):
-    server, port = start(program)
+def measure(program, seconds, is_loaded):
     children = []
     try:
-        cycles = [Cycle(port, cycle) for cycle in CYCLES]
-        if loaded:
-            children = load(port)
-            time.sleep(1)
+        with served(program) as server:
+            cycles = [Cycle(server.port, cycle) for cycle in CYCLES]
+            if is_loaded:
+                children = load(server.port)
+                time.sleep(1)
+                for it in cycles:
+                    it.socket.setblocking(False)
+            listen(cycles, 1)
             for it in cycles:
-                it.socket.setblocking(False)
-        listen(cycles, 1)
-        for it in cycles:
-            it.came, it.moments = [], []
-        listen(cycles, seconds)
-        print(f"{'under load of 60 connections' if loaded else 'at rest'}, load average {os.getloadavg()[0]:.1f}")
+                it.came, it.moments = [], []
+            listen(cycles, seconds)
+        how = f"under load of {ASKING} connections" if is_loaded else "at rest"
+        print(f"{how}, load average {os.getloadavg()[0]:.1f}")
         print("   cycle   samples    mean gap    longest gap   missed")
         lines = [it.line() for it in cycles]
         for text, _ in lines:
@@ -151,35 +135,26 @@ def measure(program, seconds, loaded):
         for child in children:
             os.kill(child, 9)
             os.waitpid(child, 0)
-        server.kill()
-        server.wait()
 
 
 def wall(program):
     """The wall clock of a server alone, and then of clients alone, is set forward and back."""
     with tempfile.TemporaryDirectory() as folder:
-        shim, clocks = os.path.join(folder, "set_clocks.so"), os.path.join(folder, "clocks")
-        subprocess.run(["gcc", "-O2", "-shared", "-fPIC", "-o", shim, os.path.join(HERE, "set_clocks.c")], check=True)
-        env = {**os.environ, "LD_PRELOAD": shim, "SET_CLOCKS": clocks}
-        return all([wall_of_server(program, clocks, env), wall_of_clients(program, clocks, env)])
+        clocks = Clocks(folder)
+        return all([wall_of_server(program, clocks), wall_of_clients(program, clocks)])
 
 
-def wall_of_server(program, clocks, env):
+def wall_of_server(program, clocks):
     """The wall clock of the server is set while a cycle of 10 ms goes on."""
     right = True
-    set_clock(clocks, 0)
-    server, port = start(program, env=env)
-    try:
-        it = Cycle(port, 10)
+    with served(program, env=clocks.env) as server:
+        it = Cycle(server.port, 10)
         listen([it], 1)
         for name, seconds in (("an hour forward", 3600), ("two hours back", -3600)):
-            set_clock(clocks, seconds)
+            clocks.set(seconds)
             it.came, it.moments = it.came[-1:], it.moments[-1:]
             listen([it], 10)
             right = told_of(it, name, seconds) and right
-    finally:
-        server.kill()
-        server.wait()
     return right
 
 
@@ -188,26 +163,22 @@ ASKED = ((["state"], "ads 5 device 0\n"), (["get", "Main.count"], "42\n"), (["se
          (["watch", "Main.count", "--mode", "cycle", "--cycle", "200000", "--count", "3"], "42\n42\n42\n"))
 
 
-def wall_of_clients(program, clocks, env):
+def wall_of_clients(program, clocks):
     """The wall clock of clients is set: before each piece that the server sends, and while it sends nothing."""
     right = True
-    server, port = start(program)
-    try:
+    with served(program) as server:
         for words, wanted in ASKED:
-            with between(port, lambda: set_clock(clocks, clock_of(clocks) + 3600)) as near:
-                set_clock(clocks, 0)
-                status, printed, took = ended(program, words, near, env)
+            with between(server.port, lambda: clocks.set(clocks.wall + 3600)) as near:
+                clocks.set(0)
+                status, printed, took = ended(program, words, near, clocks.env)
             good = (status, printed) == (0, wanted)
             print(f"wall clock of {words[0]} an hour forward before each answer: status {status}, {took:.1f} s", flush=True)
             right = right and good
-    finally:
-        server.kill()
-        server.wait()
     with socket.create_server(("127.0.0.1", 0)) as silent:
-        set_clock(clocks, 0)
-        later = threading.Timer(1, set_clock, (clocks, -7200))
+        clocks.set(0)
+        later = threading.Timer(1, clocks.set, (-7200,))
         later.start()
-        status, printed, took = ended(program, ["state"], silent.getsockname()[1], env)
+        status, printed, took = ended(program, ["state"], silent.getsockname()[1], clocks.env)
         later.cancel()
     print(f"wall clock of state two hours back without an answer: status {status}, {took:.1f} s", flush=True)
     return right and status == 11 and 4.5 < took < 7
@@ -239,7 +210,7 @@ class between:
 
     def serve(self):
         client, _ = self.door.accept()
-        server = connect(self.port)
+        server = connected(self.port)
         threading.Thread(target=pass_on, args=(client, server, lambda: None), daemon=True).start()
         pass_on(server, client, self.call)
 
@@ -252,16 +223,6 @@ def pass_on(one, other, call):
         other.shutdown(socket.SHUT_WR)
     except OSError:
         pass
-
-
-def clock_of(clocks):
-    with open(clocks, "rb") as it:
-        return struct.unpack("<qq", it.read())[0]
-
-
-def set_clock(clocks, seconds):
-    with open(clocks, "r+b" if os.path.exists(clocks) else "wb") as it:
-        it.write(struct.pack("<qq", seconds, 0))
 
 
 def told_of(it, name, seconds):
@@ -278,14 +239,15 @@ def told_of(it, name, seconds):
 
 def main():
     words = argparse.ArgumentParser(description=__doc__.splitlines()[0])
-    words.add_argument("program", nargs="?", default=os.path.join(HERE, "..", "crates", "ads", "out", "ads"))
+    words.add_argument("program", nargs="?", default=ADS)
     words.add_argument("--seconds", type=float, default=60)
     words.add_argument("--wall", action="store_true")
     told = words.parse_args()
     program = os.path.abspath(told.program)
     if told.wall:
         sys.exit(0 if wall(program) else 1)
-    sys.exit(0 if all([measure(program, told.seconds, loaded) for loaded in (False, True)]) else 1)
+    sys.exit(0 if all([measure(program, told.seconds, is_loaded) for is_loaded in (False, True)]) else 1)
 
 
-main()
+if __name__ == "__main__":
+    main()

@@ -40,16 +40,19 @@ import time
 HERE = os.path.dirname(os.path.abspath(__file__))
 sys.dont_write_bytecode = True
 sys.path[1:1] = [f"{sys.path[0]}/../{room}" for room in ("model", "tools", "tries")]
-import daemon  # noqa: E402
+import adsd  # noqa: E402
+import ams  # noqa: E402
 import serve  # noqa: E402
 import store  # noqa: E402
-from daemon import expect  # noqa: E402
+from adsd import expect, reply  # noqa: E402
+from ams import area, u32  # noqa: E402
 from random_runs import toml_of  # noqa: E402
 from tries.fake_broker import Broker  # noqa: E402
 from tries.history_checks import of_sqlite, sound  # noqa: E402
 from tries.of_mqtt import interpreter  # noqa: E402
 from tries.paged import Page  # noqa: E402
 from tries.running import Wrong  # noqa: E402
+from under_test import free_port  # noqa: E402
 
 TOOLS = os.path.join(HERE, "..", "tools")
 WATCHING, NOTES, BLOCK, SIZE, MOST_GROWN = 8, 512, serve.RAMP + 64, 64, 16384
@@ -78,23 +81,23 @@ def block_of(number):
 def request(kind, first, r):
     """A request as bench/serve.py makes it, or one of the wide profile: a greater buffer by handle, or a sum of reads that tells lengths."""
     if kind == "H":
-        return 2, serve.words(0xF005, 1 + r.randrange(serve.OWN), 1024)
+        return 2, u32(0xF005, 1 + r.randrange(serve.OWN), 1024)
     if kind == "T":
         places = [4 * (first + r.randrange(serve.OWN)) for _ in range(100)]
-        return 9, serve.words(0xF084, 100, 1200, 1200) + b"".join(serve.words(0x4040, place, 4) for place in places)
+        return 9, u32(0xF084, 100, 1200, 1200) + b"".join(u32(0x4040, place, 4) for place in places)
     return serve.request(kind, first, r)
 
 
 def plan_of_load(k, wide):
     r, first = random.Random(k), serve.OWN * k
     names = [f"v{first + i}".encode() for i in range(serve.OWN)]
-    once = [(3, serve.words(0x4040, 4 * first, 4 * serve.OWN) + r.randbytes(4 * serve.OWN))]
-    once += [(9, serve.words(0xF003, 0, 4, len(name)) + name) for name in names]
+    once = [(3, u32(0x4040, 4 * first, 4 * serve.OWN) + r.randbytes(4 * serve.OWN))]
+    once += [(9, u32(0xF003, 0, 4, len(name)) + name) for name in names]
     return serve.plan(k, once, [request(kind, first, r) for kind in (WIDE if wide else STRICT) * 25], wide=wide)
 
 
 def plan_of_notes(k, wide):
-    add = serve.words(0x4040, serve.RAMP, 2, 6 if wide else 4, 0, 0) + bytes(16)
+    add = ams.watched(0x4040, serve.RAMP, 2, 6 if wide else 4)
     return serve.plan(k, [(6, add)] * NOTES, [], 1, wide)
 
 
@@ -111,9 +114,9 @@ class Load(serve.Bench):
         self.server = (str(self.daemon.port), self.daemon.process)
 
     def started(self):
-        port = daemon.free_port()
+        port = free_port()
         given = ["load.toml", "--listen", f"127.0.0.1:{port}", "--store", "kept", "--save-each", "1", "--status", "status.prom", "--profile", self.profile]
-        return daemon.Daemon(self.stack, self.program, given, bare=True, folder=os.getcwd(), port=port, stderr=self.stack.enter_context(open("log", "ab")))
+        return adsd.Daemon(self.stack, self.program, given, bare=True, folder=os.getcwd(), port=port, stderr=self.stack.enter_context(open("log", "ab")))
 
     def describe(self):
         """The next description takes the place of the one that is served."""
@@ -122,14 +125,14 @@ class Load(serve.Bench):
         os.replace("load.new", "load.toml")
 
     def asked(self, link, number, command, payload):
-        link.sendall(daemon.frame(number, command, payload))
-        got = daemon.reply(link)
+        link.sendall(ams.request(command, number, payload))
+        got = reply(link)
         expect(got is not None and got[0] == number and got[1][:4] == bytes(4), f"request {number} was answered by {got!r}")
         return got[1][4:]
 
     def read(self, place, size):
         with self.daemon.link() as link:
-            return self.asked(link, 1, 2, struct.pack("<III", 0x4040, place, size))[4:]
+            return self.asked(link, 1, 2, area(0x4040, place, size))[4:]
 
 
 class Writer(threading.Thread):
@@ -145,16 +148,16 @@ class Writer(threading.Thread):
                 link.settimeout(60)
                 while not self.stops.wait(0.04):
                     self.turn(link)
-        except (OSError, daemon.Failed) as fault:
+        except (OSError, adsd.Failed) as fault:
             self.fault = f"the writer: {fault}"
 
     def turn(self, link):
         given, began = block_of(self.number + 1), time.monotonic()
         self.number += 1
-        link.sendall(daemon.frame(1, 3, struct.pack("<III", 0x4040, BLOCK, SIZE) + given) + daemon.frame(2, 2, struct.pack("<III", 0x4040, BLOCK, SIZE)))
-        wrote, read = daemon.reply(link), daemon.reply(link)
+        link.sendall(ams.request(3, 1, area(0x4040, BLOCK, SIZE) + given) + ams.request(2, 2, area(0x4040, BLOCK, SIZE)))
+        wrote, read = reply(link), reply(link)
         expect(wrote == (1, bytes(4)), f"the write of {self.number} was answered by {wrote!r}")
-        expect(read == (2, struct.pack("<II", 0, SIZE) + given), f"behind the write of {self.number} the block is {read!r}")
+        expect(read == (2, u32(0, SIZE) + given), f"behind the write of {self.number} the block is {read!r}")
         self.longest = max(self.longest, time.monotonic() - began)
 
 
@@ -384,7 +387,7 @@ def main():
     with contextlib.ExitStack() as stack:
         try:
             tried(stack, given)
-        except (daemon.Failed, Wrong, OSError, subprocess.SubprocessError) as why:
+        except (adsd.Failed, Wrong, OSError, subprocess.SubprocessError) as why:
             print(f"WRONG: {why}")
             return 1
     return 0

@@ -9,7 +9,6 @@ for the disk of the working folder and for memory (/dev/shm), with the processor
 import argparse
 import os
 import pathlib
-import resource
 import subprocess
 import sys
 import tempfile
@@ -18,6 +17,7 @@ import time
 sys.dont_write_bytecode = True
 sys.path[1:1] = [f"{sys.path[0]}/../{room}" for room in ("model", "tools", "tries")]
 import hostile  # noqa: E402
+from timed import spent  # noqa: E402
 
 SYMBOLS = 10_000
 
@@ -36,17 +36,17 @@ def script(ticks, changes):
     return "".join(line[2:] + "\n" for event in events for line in hostile.lines_of(event, ""))
 
 
-def spent(program, folder, store, ticks, changes):
+def cost(program, folder, store, ticks, changes):
     """Seconds by the clock and of the processor."""
     (folder / "it.script").write_text(script(ticks, changes))
     if store.exists():
         store.unlink()
-    before, began = resource.getrusage(resource.RUSAGE_CHILDREN), time.monotonic()
+    before, began = spent(), time.monotonic()
     done = subprocess.run([program, "keep", "plant.toml", "it.script", str(store)], cwd=folder, stdout=subprocess.PIPE, text=True)
-    lasted, after = time.monotonic() - began, resource.getrusage(resource.RUSAGE_CHILDREN)
+    lasted, after = time.monotonic() - began, spent()
     if done.returncode:
-        raise SystemExit(f"kept.py: status {done.returncode}, {done.stdout[-80:]!r}")
-    return lasted, after.ru_utime + after.ru_stime - before.ru_utime - before.ru_stime
+        raise SystemExit(f"keep_ticks.py: status {done.returncode}, {done.stdout[-80:]!r}")
+    return lasted, after - before
 
 
 def main():
@@ -58,11 +58,12 @@ def main():
     with tempfile.TemporaryDirectory(dir=".") as disk, tempfile.TemporaryDirectory(dir="/dev/shm") as memory:
         folder, store = pathlib.Path(disk).resolve(), pathlib.Path(memory) / "store"
         (folder / "plant.toml").write_text(described())
-        def least(ticks): return min(spent(program, folder, store, ticks, False)[1] for _ in range(3))
+        def least(ticks): return min(cost(program, folder, store, ticks, False)[1] for _ in range(3))
         print(f"a tick without a change, {SYMBOLS:,} persistent symbols: {1e3 * (least(given.ticks) - least(0)) / given.ticks:.3f} ms of the processor")
         for what, place in (("/dev/shm", store), ("the disk", folder / "store")):
-            lasted, processor = spent(program, folder, place, given.ticks, True)
+            lasted, processor = cost(program, folder, place, given.ticks, True)
             print(f"a tick with a save, {place.stat().st_size:,} bytes of file, on {what}: {1e3 * lasted / given.ticks:.3f} ms, {1e3 * processor / given.ticks:.3f} ms of the processor")
 
 
-main()
+if __name__ == "__main__":
+    main()

@@ -16,16 +16,16 @@ import itertools
 import os
 import pathlib
 import re
-import resource
 import subprocess
 import sys
 import tempfile
 
 sys.dont_write_bytecode = True
 sys.path[1:1] = [f"{sys.path[0]}/../{room}" for room in ("model", "tools", "tries")]
-from protocol import net_of, u16, u32  # noqa: E402
+from ams import framed, net_of, u16, u32  # noqa: E402
 from random_runs import toml_of  # noqa: E402
 from serve import Bench  # noqa: E402
+from timed import seconds_of  # noqa: E402
 
 ROUTES = 1024
 
@@ -41,9 +41,9 @@ def described():
 
 def frame(target, source, flags, number):
     """A read of four bytes, or the response to one."""
-    payload = u32(0x4040) + u32(64) + u32(4) if flags == 4 else u32(0) + u32(4) + u32(42)
-    ams = net_of(net(target)) + u16(851) + net_of(net(source)) + u16(851) + u16(2) + u16(flags) + u32(len(payload)) + u32(0) + u32(number) + payload
-    return (bytes(2) + u32(len(ams)) + ams).hex()
+    payload = u32(0x4040, 64, 4) if flags == 4 else u32(0, 4, 42)
+    ends = [net_of(net(k)) + u16(851) for k in (target, source)]
+    return framed(*ends, 2, flags, 0, number, payload).hex()
 
 
 def loopback(bench):
@@ -65,21 +65,12 @@ def script(connections, requests):
 
 def seconds(program, text, passed, times):
     """The least processor time of so many runs of a script, which passes so many frames on."""
-    pathlib.Path("it.script").write_text(text)
-    least = None
-    for _ in range(times):
-        before = resource.getrusage(resource.RUSAGE_CHILDREN)
-        said = subprocess.run([program, "relay", "plant.toml", "it.script"], stdout=subprocess.PIPE, check=True).stdout
-        after = resource.getrusage(resource.RUSAGE_CHILDREN)
-        if f" passed {passed} unknown 0\n".encode() not in said[-80:]:
-            sys.exit(f"the last line is {said.splitlines()[-1]!r}")
-        took = after.ru_utime + after.ru_stime - before.ru_utime - before.ru_stime
-        least = took if least is None else min(least, took)
-    return least
+    texts = {"plant.toml": toml_of(described()), "it.script": text}
+    right = f" passed {passed} unknown 0"
+    return seconds_of([program, "relay", *texts], texts, times, lambda status, last: status == 0 and last.endswith(right))[0]
 
 
 def scripted(program, quick):
-    pathlib.Path("plant.toml").write_text(toml_of(described()))
     requests, times, first = (500, 1, None) if quick else (50000, 5, None)
     print("| connections | processor ns a frame | of that with 2 |\n|---|---|---|")
     for connections in (2, 10, 100, 1000):

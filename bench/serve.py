@@ -23,7 +23,6 @@ import os
 import pathlib
 import random
 import signal
-import socket
 import statistics
 import subprocess
 import sys
@@ -32,8 +31,11 @@ import time
 
 sys.dont_write_bytecode = True
 sys.path[1:1] = [f"{sys.path[0]}/../{room}" for room in ("model", "tools", "tries")]
+import ams  # noqa: E402
 import protocol  # noqa: E402
+from ams import u32  # noqa: E402
 from random_runs import toml_of  # noqa: E402
+from under_test import FOREVER, connected, free_port  # noqa: E402
 
 HERE = os.path.dirname(os.path.abspath(__file__))
 NET, ME = "5.1.2.3.1.1", "192.168.0.9.1.1"
@@ -50,16 +52,17 @@ def plant(first, count):
     return {"schema": 1, "net": NET, "route": [{"net": ME, "rights": "write"}], "port": [port]}
 
 
-def words(*numbers):
-    return b"".join(map(protocol.u32, numbers))
+def request_of(k, command, number, payload):
+    """A request of connection k in its frame."""
+    return ams.request(command, number, payload, source_port=ams.OWN_PORT + k)
 
 
 def request(kind, first, r):
     """The command and the payload of a request to the symbols from the first on."""
     places = [4 * (first + r.randrange(OWN)) for _ in range(100 if kind == "S" else 1)]
-    by_group, by_handle, given = words(0x4040, places[0], 4), words(0xF005, 1 + r.randrange(OWN), 4), r.randbytes(4)
+    by_group, by_handle, given = u32(0x4040, places[0], 4), u32(0xF005, 1 + r.randrange(OWN), 4), r.randbytes(4)
     if kind == "S":
-        return 9, words(0xF080, 100, 800, 1200) + b"".join(words(0x4040, place, 4) for place in places)
+        return 9, u32(0xF080, 100, 800, 1200) + b"".join(u32(0x4040, place, 4) for place in places)
     return {"s": (4, b""), "r": (2, by_group), "h": (2, by_handle), "w": (3, by_group + given), "W": (3, by_handle + given)}[kind]
 
 
@@ -67,25 +70,24 @@ def plan(k, once, again, ticks=0, wide=False):
     """The plan of connection k (see serve_client.c). What is asked again and again is asked once before, so that each time finds what the last one left."""
     server, asks = protocol.Server(plant(OWN * k, OWN), [range(1000)], wide), []
     protocol.turn(server, ("open", 1), [])
-    client, head = server.conns[1], protocol.net_of(NET) + protocol.u16(851) + protocol.net_of(ME) + protocol.u16(32905 + k)
+    client = server.conns[1]
     for number, (command, payload) in enumerate(once + again + again):
-        ams = head + protocol.u16(command) + protocol.u16(4) + words(len(payload), 0, number) + payload
-        asks.append(bytes(2) + words(len(ams)) + ams)
+        asks.append(request_of(k, command, number, payload))
         client.stream += asks[-1]
         server.take(client)
     for moment in range(ticks):
         asks.append(b"")
         server.tick(moment)
     begins = zip(*(itertools.accumulate(map(len, it), initial=0) for it in (asks, client.queue)))
-    body = b"".join([words(*it) for it in begins] + asks + client.queue)
+    body = b"".join([u32(*it) for it in begins] + asks + client.queue)
     body += bytes(-len(body) % 4)
-    return words(12 + len(body), len(once + again), len(asks)) + body
+    return u32(12 + len(body), len(once + again), len(asks)) + body
 
 
 def plan_of_load(k, kinds):
     r, first = random.Random(k), OWN * k
     names = [f"v{first + i}".encode() for i in range(OWN)]
-    once = [(3, words(0x4040, 4 * first, 4 * OWN) + r.randbytes(4 * OWN))] + [(9, words(0xF003, 0, 4, len(name)) + name) for name in names]
+    once = [(3, u32(0x4040, 4 * first, 4 * OWN) + r.randbytes(4 * OWN))] + [(9, u32(0xF003, 0, 4, len(name)) + name) for name in names]
     return plan(k, once, [request(kind, first, r) for kind in kinds])
 
 
@@ -107,7 +109,7 @@ class Bench:
         for name in (f"{command}_limit", f"{command}_client"):
             compile_c(name)
         pathlib.Path("plant.toml").write_text(toml_of(description or plant(0, SYMBOLS)))
-        self.servers = [self.serve([program, command, "plant.toml", "--events", str(2 ** 64 - 1), "--listen"], "127.0.0.1:"), self.serve([f"./{command}_limit"], "")]
+        self.servers = [self.serve([program, command, "plant.toml", "--events", FOREVER, "--listen"], "127.0.0.1:"), self.serve([f"./{command}_limit"], "")]
 
     def start(self, command, stdout=subprocess.PIPE, **more):
         process = subprocess.Popen(command, stdout=stdout, **more)
@@ -117,9 +119,7 @@ class Bench:
 
     def serve(self, command, address):
         """The port and the process of a server whose last word is the address and a port."""
-        with socket.socket() as free:
-            free.bind(("127.0.0.1", 0))
-            port = str(free.getsockname()[1])
+        port = str(free_port())
         process = self.start(command + [address + port])
         said = process.stdout.readline()
         if said != b"listening\n":
@@ -172,7 +172,7 @@ def requests(bench, plot):
 
 
 def notes(bench):
-    plan_all(lambda k: plan(k, [(6, words(0x4040, RAMP, 2, 4, 0, 0) + bytes(16))] * NOTES, [], 1))
+    plan_all(lambda k: plan(k, [(6, ams.watched(0x4040, RAMP, 2, 4))] * NOTES, [], 1))
     rows, (_, ratio) = bench.medians(CONNECTIONS, 0, 1 if bench.quick else 4)
     print("| server | samples a second | longest gap between two frames, ms | processor ns a sample |\n|---|---|---|---|")
     for name, (rate, cost, gap) in zip(("ads", "C"), rows):
@@ -191,7 +191,7 @@ def memory(bench, minutes, reloads):
     plan_all(lambda k: plan_of_load(k, LOADS["mixture"]))
     clients = [bench.load(server, asking, 32, 60 * minutes + 2)]
     if reloads:
-        plan_all(lambda k: plan(k, [(6, words(0x4040, RAMP, 2, 4, 0, 0) + bytes(16))] * NOTES, [], 1))
+        plan_all(lambda k: plan(k, [(6, ams.watched(0x4040, RAMP, 2, 4))] * NOTES, [], 1))
         clients.append(bench.load(server, WATCHING, 0, 60 * minutes + 2))
         compile_c("stolen")
         watch = bench.start("./stolen", stdout=open("stolen.txt", "w"))
@@ -264,9 +264,8 @@ def change_description(version):
 
 def version_of(server):
     """How often the description of a server was replaced, modulo 256, as its symbol version tells."""
-    ams = protocol.net_of(NET) + protocol.u16(851) + protocol.net_of(ME) + protocol.u16(40000) + protocol.u16(2) + protocol.u16(4) + words(12, 0, 1) + words(0xF008, 0, 1)
-    with socket.create_connection(("127.0.0.1", int(server[0])), timeout=10) as s:
-        s.sendall(bytes(2) + words(len(ams)) + ams)
+    with connected(int(server[0])) as s:
+        s.sendall(request_of(1, 2, 1, u32(0xF008, 0, 1)))
         return s.recv(100)[-1]
 
 

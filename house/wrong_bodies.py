@@ -7,6 +7,8 @@
     python3 house/wrong_bodies.py --table FOLDER          proves nothing: a table of what the files NAME.txt of a folder say
     python3 house/wrong_bodies.py --look     proves nothing: tells which edits of must-fail/ and of wrong-bodies/ no longer apply
     python3 house/wrong_bodies.py --named    proves nothing: the list of wrong_bodies.md; status 1 where an edit or its clause is gone
+    python3 house/wrong_bodies.py --due      proves nothing: which edits that the gate leaves out must be tried again, by refused.txt; status 1 where one must
+    python3 house/wrong_bodies.py --record FILE..         puts into refused.txt what rt ci, rt must-fail or this script printed of this text
 
 An edit has the form of those in must-fail/: a line `file: src/lib.rt`, and pairs of lines `old: TEXT` and `new: TEXT`. The tree is copied into a scratch
 folder without what rt made; there the edits stand in must-fail/, alone, and `rt must-fail NAME` tries them. Nothing in the tree is changed. It begins with
@@ -19,15 +21,20 @@ check` does, whether it is proved. An edit of which that call says nothing of it
 is not tried again.
 
 It prints for each crate which edits the prover refuses, which are still proved (a contract is too weak there, or the edit means the same as before), which no
-longer apply or can't be read, and which were not tried. The status is 0 where all are refused.
+longer apply or can't be read, and which were not tried. The status is 0 where all are refused. What is refused comes into refused.txt, with the day and
+sums of what its crate promised and of its text; the gate fails where a crate promises something else since.
 """
 import os
+import pathlib
 import re
 import shutil
 import subprocess
 import sys
 import tempfile
 import time
+
+sys.dont_write_bytecode = True
+import refusals  # noqa: E402
 
 HEADS = (
     ("refused", "refused"),
@@ -389,6 +396,12 @@ def main():
     if sys.argv[1:] == ["--named"]:
         return 1 if named() else 0
     words = sys.argv[1:]
+    if words == ["--due"]:
+        return 1 if refusals.due() else 0
+    if words[:1] == ["--record"]:
+        texts = [pathlib.Path(it).read_text(errors="replace") for it in words[1:]]
+        print(f"{refusals.record(refusals.refused_in(''.join(texts)))} refused are in {refusals.TABLE.name} now")
+        return 0
     command = None
     if words[:1] == ["--by"] and len(words) > 1:
         command, words = words[1], words[2:]
@@ -403,6 +416,7 @@ def main():
         said = {}
         for name in names:
             said.update(tried_by(command, name, os.environ.get("WRONG_LOGS")))
+    refusals.record({it for it, word in said.items() if word.startswith("refused")})
     return 1 if sum([told(name, said) for name in names]) else 0
 
 

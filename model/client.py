@@ -8,10 +8,10 @@ import re
 import struct
 
 import protocol
-from protocol import u16, u32
+from ams import OWN_PORT, framed, net_of, u16, u32
 
 OUTSTANDING_FOR, MOST_QUIET, BUFFER = 50000000, 1000000, 65536
-ENTRY, BIGGEST, OWN_PORT, DEEPEST = 65536, 1048576, 32905, 16
+ENTRY, BIGGEST, DEEPEST = 65536, 1048576, 16
 TEXTS = {
     0x6: "target port not found", 0x7: "target machine not found", 0x8: "unknown command id", 0xB: "unknown AMS command", 0xE: "invalid AMS length",
     0x700: "general device error", 0x701: "service not supported", 0x702: "invalid index group", 0x703: "invalid index offset", 0x704: "reading or writing not permitted",
@@ -421,7 +421,7 @@ class Client:
     """What a client hears of what came. `parts` are what it does, in order: ("sent", frame), ("put", text), ("kept", row)."""
 
     def __init__(self, words, me, peer, port):
-        self.me, self.peer = protocol.net_of(me) + u16(OWN_PORT), protocol.net_of(peer) + u16(port)
+        self.me, self.peer = net_of(me) + u16(OWN_PORT), net_of(peer) + u16(port)
         self.recording = recording_of(words) if words[0] == "record" else None
         self.call, self.parts, self.stream, self.samples = self.recording.call() if self.recording else call_of(words), [], b"", []
         self.moment, self.id, self.waits, self.late, self.over, self.wants = 0, 0, None, None, None, None
@@ -448,8 +448,7 @@ class Client:
             if it[0] == "send":
                 self.id += 1
                 self.waits = (self.id, it[1], self.moment)
-                ams = self.peer + self.me + u16(it[1]) + u16(4) + u32(len(it[2])) + u32(0) + u32(self.id) + it[2]
-                self.parts.append(("sent", b"\0\0" + u32(len(ams)) + ams))
+                self.parts.append(("sent", framed(self.peer, self.me, it[1], 4, 0, self.id, it[2])))
             return
 
     def take(self, kind, moment, given=b""):

@@ -17,7 +17,8 @@ import time
 import random_runs
 import store
 import wide_runs
-from daemon import BLOCKED
+from adsd import BLOCKED
+from under_test import daemon_words, free_port
 
 TOLD = re.compile(r" reload (accepted: version \d+|refused: rule \d+|refused: it is no TOML)")
 SUMMARY = re.compile(r"connections (\d+) requests (\d+) replies (\d+) samples (\d+) reloads (\d+) (\d+)\nsaved \d+\n")
@@ -92,8 +93,8 @@ def one_daemon(program, seed, folder, has):
         put(folder, random_runs.toml_of(d))
         machine = wide_runs.machine_of(store.with_stored(d, body) if body else d, profile, others, has)
         events = list(events_of(r, d, profile))
-        words = wide_runs.daemon_words(program, wide_runs.free_port(), profile, others)
-        words = [*(it if it != "none" else "plain" for it in words), "--store", "kept", "--save-each", "1"]
+        words = [it if it != "none" else "plain" for it in daemon_words("plant.toml", profile, others)]
+        words = [program, *words, "--listen", f"127.0.0.1:{free_port()}", "--store", "kept", "--save-each", "1"]
         said = lived(words, folder, machine, events, r.choice((signal.SIGTERM, signal.SIGINT)))
         if said:
             return f"life {life}, {profile}, other_routes {others}: {said}"

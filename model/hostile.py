@@ -21,7 +21,7 @@ HERE = os.path.dirname(os.path.abspath(__file__))
 sys.dont_write_bytecode = True
 sys.path[1:1] = [f"{sys.path[0]}/../{room}" for room in ("tools", "tries")]
 import protocol  # noqa: E402
-from protocol import u16, u32  # noqa: E402
+from ams import OWN_PORT, PORT, any_frame, net_of, u16, u32  # noqa: E402
 
 # The wide server is played by cases_wide, without signals.
 WIDE = "--wide" in sys.argv[1:]
@@ -40,10 +40,10 @@ def described(name):
 PLANT, PLANT2 = described("plant.toml"), described("plant2.toml")
 
 
-def frame(command, number, payload, *, source=ME, net=NET, port=851, flags=4, length=None, head=None, reserved=0):
-    ams = protocol.net_of(net) + u16(port) + protocol.net_of(source) + u16(32905) + u16(command) + u16(flags)
-    ams += u32(len(payload) if length is None else length) + u32(0) + u32(number) + payload
-    return u16(reserved) + u32(len(ams) if head is None else head) + ams
+def frame(command, number, payload, *, source=ME, net=NET, port=PORT, **said):
+    """A request of the plant's server, or one that says something else of itself."""
+    ends = net_of(net) + u16(port), net_of(source) + u16(OWN_PORT)
+    return any_frame(*ends, payload, **{"command": command, "number": number, **said})
 
 
 def read(number, group, at, some, **other):
@@ -163,11 +163,11 @@ def lengths():
                 yield asked(f"Command {command}: the length before its data is {lie:+} of what it is.", frame(command, 7, payload[:k] + u32(own) + payload[k + 4:]))
         for lie in (1, -1):
             yield asked(f"Command {command}: the frame's length is {lie:+} of what it is, so the next frame begins elsewhere.",
-                        frame(command, 7, payload, head=32 + len(payload) + lie))
+                        frame(command, 7, payload, whole=32 + len(payload) + lie))
     for command, k in at.items():
         yield asked(f"Command {command}: the length before its data is 4,294,967,295.", frame(command, 7, good[command][:k] + u32(2 ** 32 - 1) + good[command][k + 4:]))
     for head in (0, 1, 31, 2097153, 2 ** 32 - 1):
-        yield asked(f"A frame that says that it has {head} bytes.", frame(4, 7, b"", head=head))
+        yield asked(f"A frame that says that it has {head} bytes.", frame(4, 7, b"", whole=head))
     for reserved in (1, 0x100, 0xFFFF):
         yield asked(f"Reserved bytes {reserved:#06x}.", frame(4, 7, b"", reserved=reserved))
 

@@ -15,8 +15,9 @@ HERE = os.path.dirname(os.path.abspath(__file__))
 sys.dont_write_bytecode = True
 sys.path[1:1] = [f"{sys.path[0]}/../{room}" for room in ("tools", "tries")]
 import client  # noqa: E402
+from ams import any_frame, net_of, u16, u32  # noqa: E402
 import protocol  # noqa: E402
-from hostile import ME, NET, OTHER, PLANT, SIGNALS, u16, u32  # noqa: E402
+from hostile import ME, NET, OTHER, PLANT, SIGNALS  # noqa: E402
 
 TO = "127.0.0.1:48898"
 COMMANDS = {
@@ -141,9 +142,9 @@ def fields(step):
 
 def frame(it, *, length=0, head=0, reserved=0):
     """A frame of such fields, whose data length and length may lie by so much."""
-    ams = it["target"] + it["source"] + u16(it["command"]) + u16(it["flags"])
-    ams += u32((len(it["payload"]) + length) % 2 ** 32) + u32(it["error"]) + u32(it["id"]) + it["payload"]
-    return u16(reserved) + u32((len(ams) + head) % 2 ** 32) + ams
+    size, said = len(it["payload"]), {name: it[name] for name in ("command", "flags", "error")}
+    said.update(number=it["id"], length=(size + length) % 2 ** 32, whole=(32 + size + head) % 2 ** 32)
+    return any_frame(it["target"], it["source"], it["payload"], reserved=reserved, **said)
 
 
 def changed(step, **how):
@@ -227,12 +228,12 @@ def pieces():
 def strays(step):
     """Responses that answer nothing that was asked."""
     own = fields(step)
-    wrong_net, wrong_port = protocol.net_of(OTHER) + own["source"][6:], own["source"][:6] + u16(852)
+    wrong_net, wrong_port = net_of(OTHER) + own["source"][6:], own["source"][:6] + u16(852)
     return {
         "its invoke id is one more": {"id": own["id"] + 1}, "its invoke id is one less": {"id": own["id"] - 1}, "its invoke id is the greatest": {"id": 2 ** 32 - 1},
         "its command is another": {"command": own["command"] % 9 + 1}, "its command is 10": {"command": 10}, "its command is 8": {"command": 8},
         "it is from another machine": {"source": wrong_net}, "it is from another port": {"source": wrong_port},
-        "it is to another machine": {"target": protocol.net_of(OTHER) + own["target"][6:]}, "it is to another port": {"target": own["target"][:6] + u16(1)},
+        "it is to another machine": {"target": net_of(OTHER) + own["target"][6:]}, "it is to another port": {"target": own["target"][:6] + u16(1)},
         "it is a response to itself": {"source": own["target"], "target": own["source"]},
         "it is no response, though it has an answer's data": {"flags": 4}, "it has no flag at all": {"flags": 0}, "it is an error to another request": {"id": own["id"] + 5, "error": 7},
     }

@@ -10,7 +10,7 @@ import protocol
 import random_runs
 import wide_runs
 from hostile import NET, PLANT, asked, frame, read, state, write
-from protocol import u16, u32
+from ams import u16, u32
 
 BY_CLOCK = ("tick", "reload", "room", "fail")
 STRANGER = "10.9.8.7.1.1"

@@ -70,7 +70,7 @@ def plant_with(edit):
 
 
 GREETED = [("open", 1), put(1, HELLO), ("tick", 1)]
-BODY = store.body_of(store.model.Server(PLANT, SIGNALS))
+BODY = store.body_of(store.protocol.Server(PLANT, SIGNALS))
 ENTRY = store.entries_of(BODY)[0]
 
 

@@ -7,6 +7,8 @@ import math
 import re
 import struct
 
+from ams import framed, in_frame, net_of, u16, u32
+
 PLAIN = {
     "BOOL": (1, 33), "SINT": (1, 16), "USINT": (1, 17), "BYTE": (1, 17), "INT": (2, 2), "UINT": (2, 18), "WORD": (2, 18), "DINT": (4, 3), "UDINT": (4, 19),
     "DWORD": (4, 19), "TIME": (4, 19), "LINT": (8, 20), "ULINT": (8, 21), "LWORD": (8, 21), "REAL": (4, 4), "LREAL": (8, 5),
@@ -36,18 +38,6 @@ class Refused(Exception):
     def __init__(self, code):
         super().__init__(hex(code))
         self.code = code
-
-
-def u16(n):
-    return struct.pack("<H", n)
-
-
-def u32(n):
-    return struct.pack("<I", n)
-
-
-def net_of(text):
-    return bytes(int(word) for word in text.split("."))
 
 
 # Types: ("plain", word), ("text", n), ("named", name), ("array", [(low, count)..], element).
@@ -326,11 +316,6 @@ class Connection:
         self.queue, self.queued, self.closing, self.blocked, self.room, self.fails = [], 0, False, False, None, False
         # (behind a local router: whether its first frame has begun)
         self.passed = False
-
-
-def framed(target, source, command, flags, error, number, payload):
-    ams = target + source + u16(command) + u16(flags) + u32(len(payload)) + u32(error) + u32(number) + payload
-    return b"\0\0" + u32(len(ams)) + ams
 
 
 def queued(conn, frame):
@@ -838,7 +823,7 @@ class Relay:
     def frame(self, conn, ams):
         target, source = ams[:8], ams[8:16]
         command, flags, length, _, number = struct.unpack("<HHIII", ams[16:32])
-        whole, own = b"\0\0" + u32(len(ams)) + ams, self.owned.get(conn)
+        whole, own = in_frame(ams), self.owned.get(conn)
         if length != len(ams) - 32 or source[:6] not in self.routes or (own != source[:6] if own else self.owner(source[:6])):
             conn.closing = True
             return

@@ -28,14 +28,14 @@ import sys
 import tempfile
 import time
 
-HERE = os.path.dirname(os.path.abspath(__file__))
 sys.dont_write_bytecode = True
 sys.path[1:1] = [f"{sys.path[0]}/../{room}" for room in ("tools", "tries")]
 import client  # noqa: E402
 import protocol  # noqa: E402
 import store  # noqa: E402
+from ams import any_frame, framed, net_of, u16, u32  # noqa: E402
+from under_test import ADS, Program, connected  # noqa: E402
 
-PROGRAM = os.path.join(HERE, "..", "crates", "ads", "out", "ads")
 SIGNALS = [list(range(1000)), [0] * 10 + [1] * 10, [3, 1, 4, 1, 5, 9, 2, 6]]
 WORDS = ["alpha", "Beta", "gamma_1", "_d", "Main", "axis", "Pos", "x", "Y2", "Flag"]
 
@@ -191,7 +191,7 @@ def changed(r, d):
 
 
 def frame_of(r, d, net, source_port, command, number, payload):
-    target = protocol.net_of(d["net"])
+    target = net_of(d["net"])
     port = r.choice(d["port"])["port"]
     if r.random() < 0.03:
         target = bytes(6)
@@ -202,12 +202,10 @@ def frame_of(r, d, net, source_port, command, number, payload):
         flags = r.choice((0, 5, 1, 6, 0x44, 0xFFFF))
     if r.random() < 0.03:
         length += r.choice((1, -1 if length else 1))
-    ams = target + protocol.u16(port) + protocol.net_of(net) + protocol.u16(source_port) + protocol.u16(command) + protocol.u16(flags)
-    ams += protocol.u32(length) + protocol.u32(error) + protocol.u32(number) + payload
-    head = b"\0\0" + protocol.u32(len(ams))
+    said = {"command": command, "flags": flags, "length": length, "error": error, "number": number}
     if r.random() < 0.008:
-        head = r.choice((b"\1\0" + head[2:], b"\0\0" + protocol.u32(31), b"\0\0" + protocol.u32(2097153)))
-    return head + ams
+        said.update(r.choice(({"reserved": 1}, {"whole": 31}, {"whole": 2097153})))
+    return any_frame(target + u16(port), net_of(net) + u16(source_port), payload, **said)
 
 
 def count(r, near):
@@ -274,7 +272,6 @@ def request(r, d, handles, in_sum=False, notes=True):
     command = 4 if command == 6 and not notes else command
     if not in_sum and r.random() < 0.02:
         return r.choice((0, 8, 10, 65535)), r.randbytes(r.randrange(9))
-    u32 = protocol.u32
     if command == 2:
         group, at, some = place(r, d, handles)
         if r.random() < 0.3:
@@ -292,7 +289,7 @@ def request(r, d, handles, in_sum=False, notes=True):
         group, at, some = place(r, d, handles)
         payload = u32(group) + u32(at) + u32(2049 if r.random() < 0.05 else some) + u32(1 if r.random() < 0.05 else r.choice((3, 4, 4, 4))) + u32(r.randrange(9)) + u32(r.choice((0, 0, 5, 100, 2 ** 32 - 1))) + bytes(16)
     elif command == 5:
-        payload = protocol.u16(r.choice((5, 6, 6, 3))) + protocol.u16(r.randrange(9)) + u32(0)
+        payload = u16(r.choice((5, 6, 6, 3))) + u16(r.randrange(9)) + u32(0)
     elif command == 7:
         payload = u32(r.randrange(1, 6))
     else:
@@ -303,7 +300,6 @@ def request(r, d, handles, in_sum=False, notes=True):
 
 
 def asked(r, d, handles, in_sum):
-    u32 = protocol.u32
     if in_sum or r.random() < 0.75:
         group = 0xF002 if r.random() < 0.03 else r.choice((0xF003, 0xF003, 0xF003, 0xF004, 0xF007, 0xF009, 0xF011))
         given = a_type_text(r, d) if group == 0xF011 else a_path(r, d)
@@ -382,28 +378,27 @@ def script(r, d, notes=True):
 def relay_frame(r, machine, number, nets):
     """A frame of a connection of a relay: a request, a notification, or a response to what it was asked; some of them from others, or not as they should be."""
     conn = machine.conns[number]
-    free = [net for net in nets if not machine.owner(protocol.net_of(net))]
-    own = machine.owned.get(conn) or protocol.net_of(r.choice(free if free and r.random() < 0.95 else nets))
-    source, target = own + protocol.u16(r.choice((851, 851, 32905))), protocol.net_of(r.choice((*nets, "5.1.2.3.1.1"))) + protocol.u16(r.choice((851, 851, 32905)))
+    free = [net for net in nets if not machine.owner(net_of(net))]
+    own = machine.owned.get(conn) or net_of(r.choice(free if free and r.random() < 0.95 else nets))
+    source, target = own + u16(r.choice((851, 851, 32905))), net_of(r.choice((*nets, "5.1.2.3.1.1"))) + u16(r.choice((851, 851, 32905)))
     command, flags, invoke, payload = r.choice((2, 2, 2, 4, 8, 9, 0, 65535)), r.choice((4, 4, 4, 4, 5, 0, 0xFFFF)), r.randrange(3), r.randbytes(r.choice((0, 4, 12, 70)))
     asked = [wanted for _, to, wanted in machine.asked if to is conn]
     if asked and r.random() < 0.6:
         target, source, command, invoke = r.choice(asked)
         flags = r.choice((5, 5, 5, 1))
         if r.random() < 0.1:
-            target = target[:6] + protocol.u16(r.randrange(65536))
+            target = target[:6] + u16(r.randrange(65536))
         invoke ^= r.random() < 0.1
     if r.random() < 0.02:
-        source = protocol.net_of(r.choice((*nets, "9.9.9.9.1.1"))) + source[6:]
+        source = net_of(r.choice((*nets, "9.9.9.9.1.1"))) + source[6:]
     length = len(payload) + (r.choice((1, -1 if payload else 1)) if r.random() < 0.01 else 0)
-    ams = target + source + protocol.u16(command) + protocol.u16(flags) + protocol.u32(length) + protocol.u32(r.choice((0, 0, 7))) + protocol.u32(invoke) + payload
-    return (b"\1\0" if r.random() < 0.005 else b"\0\0") + protocol.u32(len(ams)) + ams
+    said = {"command": command, "flags": flags, "length": length, "error": r.choice((0, 0, 7)), "number": invoke}
+    return any_frame(target, source, payload, reserved=r.random() < 0.005, **said)
 
 
 def note_to_itself(frame):
     """A notification to the source of a frame."""
-    ams = frame[14:22] + frame[14:22] + protocol.u16(8) + protocol.u16(4) + bytes(12)
-    return b"\0\0" + protocol.u32(len(ams)) + ams
+    return framed(frame[14:22], frame[14:22], 8, 4, 0, 0, b"")
 
 
 def relay_script(r, d, is_served=False):
@@ -558,7 +553,7 @@ def talked(events, machine, port, described=None):
                 if said:
                     return said
             elif event[0] == "open":
-                conns[event[1]] = socket.create_connection(("127.0.0.1", port), timeout=20)
+                conns[event[1]] = connected(port, 20)
             elif conn is None:
                 continue
             elif event[0] == "close":
@@ -617,18 +612,12 @@ def one_relayed(program, seed, folder):
 
 def listened(program, command, d, events, machine, folder):
     write(folder, "plant.toml", toml_of(d))
-    with socket.socket() as free:
-        free.bind(("127.0.0.1", 0))
-        port = free.getsockname()[1]
-    words = [program, command, "plant.toml", "--listen", f"127.0.0.1:{port}", "--events", "1000000000"]
-    with subprocess.Popen(words, cwd=folder, stdout=subprocess.PIPE, stderr=subprocess.PIPE) as it:
-        try:
-            if it.stdout.readline() != b"listening\n":
-                return "it does not listen"
-            said = talked(events, machine, port)
-            return said or (f"it ended with {it.returncode}" if it.poll() is not None else None)
-        finally:
-            it.kill()
+    try:
+        with Program(program, [command, "plant.toml", "--events", "1000000000"], cwd=folder, stderr=subprocess.PIPE) as it:
+            said = talked(events, machine, it.port)
+            return said or (f"it ended with {it.process.returncode}" if it.process.poll() is not None else None)
+    except OSError as fault:
+        return str(fault)
 
 
 # Peers of client commands.
@@ -678,12 +667,11 @@ def note_frame(r, talker):
     samples = b"".join(u32_of(r.choice((1, 1, 2, 77))) + u32_of(len(given)) + given for given in (r.randbytes(r.choice((0, 1, 2, 4, 9))) for _ in range(r.randrange(4))))
     stamp = r.randbytes(8) + u32_of(r.choice((samples.count(b""), 0, 1, 2, 3))) + samples
     payload = u32_of(r.choice((4, 4, 8, 0)) + len(stamp)) + u32_of(r.choice((1, 1, 1, 0, 2))) + stamp
-    ams = talker.me + talker.peer + protocol.u16(8) + protocol.u16(4) + u32_of(len(payload)) + bytes(8) + payload
-    return b"\0\0" + u32_of(len(ams)) + ams
+    return framed(talker.me, talker.peer, 8, 4, 0, 0, payload)
 
 
 def u32_of(n):
-    return protocol.u32(n % 2 ** 32)
+    return u32(n % 2 ** 32)
 
 
 def spoiled(r, given, talker):
@@ -893,7 +881,7 @@ def kinds_of(given, folder):
 
     kinds, left_out = [], []
     if given.program or not (given.wide or given.adsd):
-        kinds, left_out = kinds_of_ads(os.path.abspath(given.program or PROGRAM), folder)
+        kinds, left_out = kinds_of_ads(os.path.abspath(given.program or ADS), folder)
     if given.wide:
         program = os.path.abspath(given.wide)
         cases = wide_runs.has_of_cases(program, folder)

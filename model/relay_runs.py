@@ -2,7 +2,7 @@
 (model/protocol.py). relay.runs has the plain cases, hostile_relay_*.runs the others."""
 import hostile
 import protocol
-from protocol import u16, u32
+from ams import OWN_PORT, PORT, any_frame, net_of, u16, u32
 
 D = hostile.described("relay.toml")
 # Panel and logger ask, rig and line are asked. The last two have no route: the one is the description's own NetId.
@@ -11,11 +11,10 @@ KINDS = {"request": {}, "response": {"flags": 5}, "notification": {"command": 8}
 QUEUED, LONGEST, ALL = protocol.QUEUED, 2097152 + 6, 2 ** 64 - 1
 
 
-def frame(source, target, number=1, *, command=4, flags=4, payload=b"", length=None, ports=(32905, 851), error=0, head=b"\0\0"):
+def frame(source, target, number=1, *, ports=(OWN_PORT, PORT), payload=b"", **said):
     """A frame between two machines, by its source's port and its target's."""
-    ams = protocol.net_of(target) + u16(ports[1]) + protocol.net_of(source) + u16(ports[0]) + u16(command) + u16(flags)
-    ams += u32(len(payload) if length is None else length) + u32(error) + u32(number) + payload
-    return head + u32(len(ams)) + ams
+    ends = net_of(target) + u16(ports[1]), net_of(source) + u16(ports[0])
+    return any_frame(*ends, payload, **{"command": 4, "number": number, **said})
 
 
 def ask(number=1, source=PANEL, target=RIG, **other):
@@ -151,7 +150,7 @@ def owners():
         yield run(f"A {name} from the description's own NetId, which has no route; and one to it.", [*opened(PANEL, RIG), *sent(1, ask(target=OWN, **kind)), *sent(2, frame(OWN, PANEL, **kind))])
         for said, length, payload in (("one less than", 3, bytes(4)), ("one more than", 5, bytes(4)), ("none of", 0, bytes(4)), ("far more than", 2 ** 32 - 1, b"")):
             yield run(f"The data length of a {name} is {said} its bytes of data.", [*opened(PANEL, RIG), *sent(1, ask(length=length, payload=payload, **kind), ask(2))])
-    net = protocol.net_of(PANEL)
+    net = net_of(PANEL)
     for at in range(6):
         near = ".".join(str(it ^ (k == at)) for k, it in enumerate(net))
         yield run(f"The source of a request is the panel's NetId, but for a bit of byte {at}; the target of another is.", [*opened(PANEL, RIG), *sent(2, ask(source=RIG, target=near)), *sent(1, ask(source=near))])

@@ -3,7 +3,7 @@ leaves of a file. model/keep_runs.py writes runs by it, and tries/killed.py look
 import struct
 
 import protocol
-from protocol import u16, u32
+from ams import u16, u32
 
 SECOND, LONGEST, LAST = 1048592, 1048576, 2 ** 64 - 1
 

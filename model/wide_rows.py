@@ -1,14 +1,14 @@
 """What the wide server answers otherwise than the strict one, and what it answers alike: requests as TwinCAT's clients send them, each with the reply that must come, by hand. model/hostile.py
 writes them as runs of `cases_wide`, and compares each reply with that of the model of the protocol (model/protocol.py)."""
 import protocol
-from hostile import ME, NET, OTHER, PLANT, PLANT2, ask, add, frame, lines_of, played_wide, read, u16, u32, write
+from ams import OWN_PORT, PORT, framed, net_of, u16, u32
+from hostile import ME, NET, OTHER, PLANT, PLANT2, ask, add, frame, lines_of, played_wide, read, write
 
 TITLE = bytes.fromhex("4d69780000000000")
 
 
 def reply(command, number, payload, *, error=0, to=ME):
-    ams = protocol.net_of(to) + u16(32905) + protocol.net_of(NET) + u16(851) + u16(command) + u16(5) + u32(len(payload)) + u32(error) + u32(number) + payload
-    return u16(0) + u32(len(ams)) + ams
+    return framed(net_of(to) + u16(OWN_PORT), net_of(NET) + u16(PORT), command, 5, error, number, payload)
 
 
 def given(number, data, command=2):
@@ -35,9 +35,7 @@ def added(number, handle):
 
 def stamp(moment, *samples):
     stamps = u32(1) + moment.to_bytes(8, "little") + u32(len(samples)) + b"".join(u32(handle) + u32(len(data)) + data for handle, data in samples)
-    payload = u32(len(stamps)) + stamps
-    ams = protocol.net_of(ME) + u16(32905) + protocol.net_of(NET) + u16(851) + u16(8) + u16(4) + u32(len(payload)) + u32(0) + u32(0) + payload
-    return u16(0) + u32(len(ams)) + ams
+    return framed(net_of(ME) + u16(OWN_PORT), net_of(NET) + u16(PORT), 8, 4, 0, 0, u32(len(stamps)) + stamps)
 
 
 def by_name(number, name, group=0xF003, most=4):

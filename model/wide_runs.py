@@ -6,13 +6,13 @@ What a program does not have yet is found out first (`has_of_cases`, `has_of`), 
 """
 import contextlib
 import random
-import socket
 import struct
 import subprocess
 
 import protocol
 import random_runs
-from protocol import u16, u32
+from ams import framed, request, u16, u32
+from under_test import Program, connected, daemon_words
 
 NAMES = (0xF003, 0xF004, 0xF007, 0xF009)
 MORE = protocol.MORE_SUMS
@@ -106,8 +106,9 @@ def wider_frame(r, frame):
     length, (command, flags, count) = struct.unpack("<I", frame[2:6])[0], struct.unpack("<HHI", frame[22:30])
     if length != len(frame) - 6 or flags != 4 or count != length - 32:
         return frame
+    error, number = struct.unpack("<II", frame[30:38])
     command, payload = wider(r, command, frame[38:])
-    return b"\0\0" + u32(32 + len(payload)) + frame[6:22] + u16(command) + frame[24:26] + u32(len(payload)) + frame[30:38] + payload
+    return framed(frame[6:14], frame[14:22], command, flags, error, number, payload)
 
 
 def wider_event(r, event):
@@ -142,9 +143,7 @@ def of_cases(program, folder, d, events, script, more, others=None):
 
 def empty_sum(group):
     """A frame with a sum of no part: a server that has the group gives no data, and any other 0x702."""
-    payload = u32(group) + bytes(12)
-    ams = protocol.net_of(NET) + u16(851) + protocol.net_of(ME) + u16(32905) + u16(9) + u16(4) + u32(len(payload)) + u32(0) + u32(group) + payload
-    return bytes(2) + u32(len(ams)) + ams
+    return request(9, group, u32(group) + bytes(12))
 
 
 def has_of_cases(program, folder):
@@ -169,34 +168,18 @@ def one_wide(program, seed, folder, has):
 # Clients over sockets, by `adsd`.
 
 
-def daemon_words(program, port, profile, others):
-    return [program, "plant.toml", "--listen", f"127.0.0.1:{port}", "--log", "none", "--profile", profile, *(["--other-routes", others] if others else [])]
-
-
-def free_port():
-    with socket.socket() as it:
-        it.bind(("127.0.0.1", 0))
-        return it.getsockname()[1]
-
-
 @contextlib.contextmanager
 def served(program, folder, d, profile, others=None):
     """A daemon over this description: its process and port."""
     random_runs.write(folder, "plant.toml", random_runs.toml_of(d))
-    port = free_port()
-    with subprocess.Popen(daemon_words(program, port, profile, others), cwd=folder, stdout=subprocess.PIPE, stderr=subprocess.PIPE) as it:
-        try:
-            if it.stdout.readline() != b"listening\n":
-                raise OSError("it does not listen")
-            yield it, port
-        finally:
-            it.kill()
+    with Program(program, daemon_words("plant.toml", profile, others), cwd=folder, stderr=subprocess.PIPE) as it:
+        yield it.process, it.port
 
 
 def has_of(program, folder):
     """What this program of the daemon has; found out by asking it."""
     more = []
-    with served(program, folder, SMALL, "wide") as (_, port), socket.create_connection(("127.0.0.1", port), timeout=20) as conn:
+    with served(program, folder, SMALL, "wide") as (_, port), connected(port, 20) as conn:
         for group in MORE:
             conn.sendall(empty_sum(group))
             answer = random_runs.received(conn, 46)

@@ -9,8 +9,8 @@
 A line each that came otherwise, then the count; status 1 where there is one. What a program does not have is named. house/docs.py runs the first, and looks at the table.
 """
 import contextlib
+import os
 import pathlib
-import signal
 import socket
 import struct
 import subprocess
@@ -22,9 +22,10 @@ sys.path[1:1] = [f"{sys.path[0]}/../{room}" for room in ("model", "tools")]
 import client_sessions  # noqa: E402
 import protocol  # noqa: E402
 import wide_runs  # noqa: E402
+from ams import OWN_PORT, REQUEST, framed, u16  # noqa: E402
 from client_sessions import ME, NET, add, outcome_of, part, read, read_write  # noqa: E402
+from under_test import ADS, PLANT, ROOT, Program, connected, daemon_words, next_frame, serve_words, taken  # noqa: E402
 
-ROOT = pathlib.Path(__file__).resolve().parent.parent
 DATA, HANDLE, BY_NAME, VALUE, VERSION, EXTENDED, TYPE_BY_NAME = 0x4040, 0xF003, 0xF004, 0xF005, 0xF008, 0xF009, 0xF011
 STATE, CONTROL = 4, 5
 PART = part()
@@ -56,32 +57,24 @@ class Link:
     """A connection of a client with this NetId."""
 
     def __init__(self, port, net=ME):
-        self.net, self.number = net, 0
-        self.socket = socket.create_connection(("127.0.0.1", port), timeout=20)
+        self.net, self.number, self.socket = net, 0, connected(port, 20)
 
     def ask(self, port, command, data):
         """The AMS error of the answer and its data; notifications are passed over."""
         self.number += 1
-        header = NET + struct.pack("<H", port) + self.net + struct.pack("<HHHIII", 32905, command, 4, len(data), 0, self.number)
-        self.socket.sendall(struct.pack("<HI", 0, len(header) + len(data)) + header + data)
+        ends = NET + u16(port), self.net + u16(OWN_PORT)
+        self.socket.sendall(framed(*ends, command, REQUEST, 0, self.number, data))
         packet = self.answer()
         return struct.unpack("<I", packet[24:28])[0], packet[32:]
 
     def answer(self):
         """The next packet that is no notification: samples come whenever a cycle is over, before an answer too."""
         while True:
-            packet = self.take(struct.unpack("<HI", self.take(6))[1])
-            if packet[16:18] != b"\x08\x00":
-                return packet
-
-    def take(self, count):
-        got = b""
-        while len(got) < count:
-            piece = self.socket.recv(count - len(got))
-            if not piece:
+            frame = next_frame(self.socket)
+            if len(frame) < 38:
                 raise ConnectionError
-            got += piece
-        return got
+            if frame[22:24] != b"\x08\x00":
+                return frame[6:]
 
     def is_closed(self, text):
         """Whether the server closes the connection behind these bytes."""
@@ -102,16 +95,12 @@ class Server(Link):
     """`ads serve` over the example, and a connection to it."""
 
     def __init__(self, program):
-        port = wide_runs.free_port()
-        self.process = subprocess.Popen([program, "serve", ROOT / "examples/plant.toml", "--listen", f"127.0.0.1:{port}", "--events",
-                                         "18446744073709551615"], stdout=subprocess.PIPE)
-        self.process.stdout.readline()
-        super().__init__(port)
+        self.program = Program(program, serve_words(PLANT))
+        super().__init__(self.program.port)
 
     def stop(self):
         self.close()
-        self.process.terminate()
-        self.process.wait()
+        self.program.stop()
 
 
 def try_steps(program):
@@ -142,7 +131,7 @@ SYSTEM = '[[port]]\nport = 10000\nname = "System"\nmajor = 3\nminor = 1\nbuild =
 
 def plant_with(nets):
     """The example without its signal, whose routes are these."""
-    text = (ROOT / "examples/plant.toml").read_text().replace("signal = 2\n", "")
+    text = pathlib.Path(PLANT).read_text().replace("signal = 2\n", "")
     routes = "".join(f'[[route]]\nnet = "{".".join(map(str, net))}"\nrights = "write"\n' for net in nets)
     begun, ended = text.index("[[route]]"), text.index("[[type]]")
     return text[:begun] + routes + text[ended:]
@@ -153,13 +142,9 @@ def daemon(program, text, profile, others=None):
     """The daemon over this description; its port."""
     with tempfile.TemporaryDirectory() as folder:
         pathlib.Path(folder, "plant.toml").write_text(text)
-        port = wide_runs.free_port()
-        with subprocess.Popen(wide_runs.daemon_words(program, port, profile, others), cwd=folder, stdout=subprocess.PIPE, stderr=subprocess.DEVNULL) as it:
-            try:
-                it.stdout.readline()
-                yield port
-            finally:
-                it.send_signal(signal.SIGKILL)
+        words = daemon_words("plant.toml", profile, others)
+        with Program(program, words, cwd=folder, stderr=subprocess.DEVNULL) as it:
+            yield it.port
 
 
 def told_of(error, came):
@@ -183,8 +168,10 @@ def ask_router(link):
     """Asks a local router for a port, as ads-client does; the NetId that it gives, None where it closes."""
     link.socket.sendall(protocol.ASKS_PORT + b"\0\0")
     try:
-        answer = link.take(14)
+        answer = taken(link.socket, 14)
     except ConnectionError:
+        return None
+    if not answer:
         return None
     return answer[6:12] if answer[:6] == b"\0\x10\x08\0\0\0" and answer[12:] == struct.pack("<H", 32768) else b""
 
@@ -277,8 +264,8 @@ def main(words):
         print(client_sessions.table(), end="")
         return 0
     if words[:1] == ["--adsd"]:
-        return 1 if try_clients(str(pathlib.Path(words[1]).resolve())) + try_table() else 0
-    return 1 if try_steps(words[0] if words else str(ROOT / "crates/ads/out/ads")) + try_table() else 0
+        return 1 if try_clients(os.path.abspath(words[1])) + try_table() else 0
+    return 1 if try_steps(words[0] if words else ADS) + try_table() else 0
 
 
 if __name__ == "__main__":

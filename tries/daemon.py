@@ -11,7 +11,6 @@ import contextlib
 import os
 import pathlib
 import re
-import resource
 import select
 import shutil
 import signal
@@ -25,131 +24,14 @@ import time
 
 sys.dont_write_bytecode = True
 sys.path[1:1] = [f"{sys.path[0]}/../{room}" for room in ("model", "tools")]
-HERE = os.path.dirname(os.path.abspath(__file__))
-PLANT = os.path.join(HERE, "..", "examples", "plant.toml")
-NET, ME = bytes([5, 1, 2, 3, 1, 1]), bytes([192, 168, 0, 9, 1, 1])
-BLOCKED = {signal.SIGTERM, signal.SIGINT, signal.SIGHUP}
-SUMMARY = re.compile(r"connections \d+ requests (\d+) replies (\d+) samples \d+ reloads \d+ \d+\n")
-TRIES = {}
-COUNTS = {"kills": 12}
-
-
-class Failed(Exception):
-    """A try saw something else than it is to see."""
-
-
-def tried(function):
-    TRIES[function.__name__] = function
-    return function
-
-
-def expect(holds, what):
-    if not holds:
-        raise Failed(what)
-
-
-def frame(number, command, payload, me=ME):
-    head = NET + struct.pack("<H", 851) + me + struct.pack("<HHHIII", 32905, command, 4, len(payload), 0, number)
-    return bytes(2) + struct.pack("<I", 32 + len(payload)) + head + payload
-
-
-def reading(number, me=ME):
-    """A read of Main.count, which is 42."""
-    return frame(number, 2, struct.pack("<III", 0x4040, 0, 4), me)
-
-
-def reply(stream):
-    """The invoke id and the payload of the next frame; None where the peer closed."""
-    head = exactly(stream, 6)
-    if head is None:
-        return None
-    ams = exactly(stream, struct.unpack("<I", head[2:])[0])
-    return None if ams is None else (struct.unpack("<I", ams[28:32])[0], ams[32:])
-
-
-def exactly(stream, count):
-    have = b""
-    while len(have) < count:
-        more = stream.recv(count - len(have))
-        if not more:
-            return None
-        have += more
-    return have
-
-
-def free_port():
-    with socket.socket() as it:
-        it.bind(("127.0.0.1", 0))
-        return it.getsockname()[1]
-
-
-class Daemon:
-    """A run of the program in a folder of its own."""
-
-    def __init__(self, stack, program, words=(), blocked=True, stderr=subprocess.PIPE, env=None, listens=True, folder=None, listen=None, port=None,
-                 bare=False, full=False, before=None, pass_fds=(), change=None, plant=True):
-        self.folder = folder or stack.enter_context(tempfile.TemporaryDirectory())
-        text, at = pathlib.Path(PLANT).read_text(), pathlib.Path(self.folder, "plant.toml")
-        if plant is True:
-            at.write_text(text.replace(*change) if change else text)
-        elif plant is None:
-            at.unlink(missing_ok=True)
-        else:
-            at.write_text(plant)
-        self.port = port or free_port()
-        listen = [word for it in (listen or [f"127.0.0.1:{self.port}"]) for word in ("--listen", it)]
-        words = [program, *words] if bare else [program, "plant.toml", *listen, *words]
-
-        def prepare():
-            signal.pthread_sigmask(signal.SIG_SETMASK, BLOCKED if blocked else set())
-            if full:      # no file may have a byte, and that is told by an error and not by a signal
-                signal.signal(signal.SIGXFSZ, signal.SIG_IGN)
-                resource.setrlimit(resource.RLIMIT_FSIZE, (0, resource.RLIM_INFINITY))
-            if before:
-                before()
-
-        self.process = subprocess.Popen(words, cwd=self.folder, stdout=subprocess.PIPE, stderr=stderr, env=env, preexec_fn=prepare, pass_fds=pass_fds)
-        stack.callback(self.end)
-        if listens:
-            said = self.process.stdout.readline()
-            expect(said == b"listening\n", f"it said {said!r}")
-
-    def end(self):
-        if self.process.poll() is None:
-            self.process.kill()
-        self.process.wait()
-        for pipe in (self.process.stdout, self.process.stderr):
-            if pipe:
-                pipe.close()
-
-    def link(self):
-        it = socket.create_connection(("127.0.0.1", self.port), timeout=10)
-        it.setsockopt(socket.IPPROTO_TCP, socket.TCP_NODELAY, 1)
-        return it
-
-    def asks(self, number=1):
-        """One round trip; its seconds."""
-        with self.link() as it:
-            began = time.monotonic()
-            it.sendall(reading(number))
-            got = reply(it)
-            expect(got is not None and got[0] == number and got[1][8:] == struct.pack("<i", 42), f"a read was answered by {got!r}")
-            return time.monotonic() - began
-
-    def stopped(self, *signals, seconds=20):
-        """Sends the signals; what it printed, its status, and how long it took."""
-        began = time.monotonic()
-        for it in signals:
-            self.process.send_signal(it)
-        out, err = self.process.communicate(timeout=seconds)
-        return out.decode(), (err or b"").decode(), self.process.returncode, time.monotonic() - began
-
-
-def in_order(out, status):
-    expect(status == 0, f"it ended with {status}")
-    expect(SUMMARY.fullmatch(out) is not None, f"behind listening it printed {out!r}")
-    return out.strip()
-
+import daemon_disk  # noqa: E402, F401  (these register their tries)
+import daemon_ends  # noqa: E402, F401
+import daemon_files  # noqa: E402, F401
+import daemon_store  # noqa: E402, F401
+import store_file  # noqa: E402, F401
+from adsd import COUNTS, SUMMARY, TRIES, Daemon, Failed, expect, in_order, reading, reply, tried, waits_for  # noqa: E402
+from ams import request, u32  # noqa: E402
+from under_test import PLANT  # noqa: E402
 
 @tried
 def stop_at_start(program):
@@ -319,20 +201,6 @@ def description_that_cannot_be_read(program):
         return f"{', '.join(UNREADABLE)}: each told once, with {faults[1]} readings that failed"
 
 
-def until(holds, what, does=lambda: None, seconds=20):
-    """Waits until it holds, and does something again and again meanwhile."""
-    end = time.monotonic() + seconds
-    while not holds():
-        expect(time.monotonic() < end, what)
-        does()
-        time.sleep(0.3)
-
-
-def waits_for(log, line, count):
-    """Waits until this line stands so many times in the log."""
-    until(lambda: log.read_text().count(line) >= count, f"{line!r} is not told {count} times")
-
-
 @tried
 def machines_without_a_route(program):
     """`other_routes`: who has no route reads; a write of it is refused with 0x704, or done; the log says what it means."""
@@ -342,7 +210,7 @@ def machines_without_a_route(program):
             it = Daemon(stack, program, ["--log", "journal", "--other-routes", right])
             with it.link() as link:
                 link.settimeout(5)
-                link.sendall(reading(1, stranger) + frame(2, 3, struct.pack("<IIII", 0x4040, 0, 4, 7), stranger))
+                link.sendall(reading(1, stranger) + request(3, 2, u32(0x4040, 0, 4, 7), stranger))
                 expect(reply(link) == (1, struct.pack("<III", 0, 4, 42)), "a read of a stranger was not answered")
                 expect(reply(link) == (2, struct.pack("<I", code)), "a write of a stranger was answered otherwise")
             out, err, status, _ = it.stopped(signal.SIGTERM)
@@ -534,10 +402,6 @@ def words_of(words):
 
 
 def main():
-    import daemon_disk  # noqa: F401  (they register their tries)
-    import daemon_ends  # noqa: F401
-    import daemon_store  # noqa: F401
-    import store_file  # noqa: F401
     programs, given = words_of(sys.argv[1:])
     if not programs or programs[0].startswith("-") or not os.access(programs[0], os.X_OK) or set(given) - TRIES.keys():
         sys.exit(__doc__ + "\nThe tries: " + ", ".join(TRIES))
@@ -554,7 +418,4 @@ def main():
 
 
 if __name__ == "__main__":
-    # As a module, so that the tries of the other files stand in the same table.
-    import daemon
-    import daemon_files  # noqa: F401
-    sys.exit(daemon.main())
+    sys.exit(main())

@@ -11,19 +11,13 @@ import subprocess
 import tempfile
 import time
 
-from daemon import Daemon, expect, frame, free_port, reply, tried
+from adsd import Daemon, expect, reply, tried
+from ams import request, watched
 from daemon_store import kept_in_order, read_title, title_of, write_title
+from under_test import free_port, preload
 
-HERE = os.path.dirname(os.path.abspath(__file__))
 SAVED = re.compile(r"saved (\d+), \d+ bytes, (\d+) ms")
 BEAT = 0.01
-
-
-def slow_sync(stack):
-    """The library that makes syncs slow, built by cc."""
-    shim = os.path.join(stack.enter_context(tempfile.TemporaryDirectory()), "slow_sync.so")
-    subprocess.run(["cc", "-O2", "-shared", "-fPIC", "-o", shim, os.path.join(HERE, "slow_sync.c")], check=True)
-    return shim
 
 
 def trips(link, number, is_over, seconds=60):
@@ -53,7 +47,7 @@ def slow_saves(log, slow_ms):
 def slow_daemon(stack, program, slow_ms, *words):
     """A daemon with a store, whose syncs are slow while the file `slow` is in its folder; its log is the file `log`."""
     folder = stack.enter_context(tempfile.TemporaryDirectory())
-    env = {**os.environ, "LD_PRELOAD": slow_sync(stack), "SLOW_MS": str(slow_ms), "SLOW_WHILE": os.path.join(folder, "slow")}
+    env = {**os.environ, "LD_PRELOAD": preload(folder, "tries/slow_sync.c"), "SLOW_MS": str(slow_ms), "SLOW_WHILE": os.path.join(folder, "slow")}
     log = stack.enter_context(open(os.path.join(folder, "log"), "wb"))
     return Daemon(stack, program, ["--store", "kept", "--save-each", "1", *words], folder=folder, env=env, stderr=log)
 
@@ -106,7 +100,7 @@ def slow_disk_beats(program, slow_ms=200):
         pathlib.Path(it.folder, "slow").touch()
         moments, number, late, ends = [], 10, 0, time.monotonic() + 60
         with it.link() as watcher, it.link() as writer:
-            watcher.sendall(frame(1, 6, struct.pack("<IIIIII", 0x4040, 0, 4, 3, 0, 0) + bytes(16)))
+            watcher.sendall(request(6, 1, watched(0x4040, 0, 4, 3)))
             expect(reply(watcher)[1][:4] == bytes(4), "the addition was refused")
             while late < 3:
                 expect(time.monotonic() < ends, f"in a minute {late} stamps came late")
@@ -158,7 +152,7 @@ def recording_as_signal(program):
         it = Daemon(stack, program, folder=folder, port=port, words=configured(folder, port, "Main.wave"), bare=True)
         seen = []
         with it.link() as link:
-            link.sendall(frame(1, 6, struct.pack("<IIIIII", 0x4040, 64, 2, 3, 0, 0) + bytes(16)))
+            link.sendall(request(6, 1, watched(0x4040, 64, 2, 3)))
             expect(reply(link)[1][:4] == bytes(4), "the addition was refused")
             while len(seen) < 40:
                 seen.append(struct.unpack("<H", reply(link)[1][28:30])[0])

@@ -2,7 +2,7 @@
 import functools
 import os
 
-from daemon import Failed, tried
+from adsd import Failed, tried
 
 from tries import daemons
 from tries.running import Wrong

@@ -15,7 +15,9 @@ import time
 
 import killed
 import store
-from daemon import COUNTS, Daemon, expect, frame, free_port, reading, reply, tried, until
+from adsd import COUNTS, Daemon, expect, reading, reply, tried, until
+from ams import area, request, u32
+from under_test import free_port
 
 TITLE = 72                        # the place of Main.title in examples/plant.toml, a STRING(7) that is persistent
 KEPT = re.compile(r"connections \d+ requests \d+ replies \d+ samples \d+ reloads \d+ \d+\nsaved (\d+)\n")
@@ -27,15 +29,15 @@ def title_of(number):
 
 def write_title(link, number, text):
     """Writes Main.title and waits for the answer."""
-    link.sendall(frame(number, 3, struct.pack("<III", 0x4040, TITLE, 8) + text))
+    link.sendall(request(3, number, area(0x4040, TITLE, 8) + text))
     expect(reply(link) == (number, bytes(4)), "a write was not answered with 0")
 
 
 def read_title(daemon):
     with daemon.link() as it:
-        it.sendall(frame(1, 2, struct.pack("<III", 0x4040, TITLE, 8)))
+        it.sendall(request(2, 1, area(0x4040, TITLE, 8)))
         got = reply(it)
-        expect(got is not None and got[1][:8] == struct.pack("<II", 0, 8), f"a read was answered with {got!r}")
+        expect(got is not None and got[1][:8] == u32(0, 8), f"a read was answered with {got!r}")
         return got[1][8:]
 
 
@@ -198,7 +200,7 @@ def several_addresses(program):
         it.asks()
         with socket.create_connection(("::1", port), timeout=5) as link:
             link.sendall(reading(2))
-            expect(reply(link)[1][8:] == struct.pack("<i", 42), "nothing came over IPv6")
+            expect(reply(link)[1][8:] == u32(42), "nothing came over IPv6")
         _, err, status, _ = it.stopped(signal.SIGTERM)
         expect(status == 0 and f"[::1]:{port}" in err, f"the log says {err!r}")
         seen.append("two doors")
@@ -208,7 +210,7 @@ def several_addresses(program):
         it.asks()
         with socket.create_connection(("::1", port), timeout=5) as link:
             link.sendall(reading(2))
-            expect(reply(link)[1][8:] == struct.pack("<i", 42), "nothing came over IPv6")
+            expect(reply(link)[1][8:] == u32(42), "nothing came over IPv6")
         it.stopped(signal.SIGTERM)
         seen.append("[::] takes both")
     return ", ".join(seen)
@@ -259,13 +261,13 @@ def given_socket(program):
 def wide_profile(program):
     """A read of 1,024 bytes by a handle gives a STRING of 8; the strict profile refuses it."""
     seen = []
-    for words, wanted in (([], struct.pack("<II", 0, 8) + b"Mix\0\0\0\0\0"), (["--profile", "strict"], struct.pack("<II", 0x705, 0))):
+    for words, wanted in (([], u32(0, 8) + b"Mix\0\0\0\0\0"), (["--profile", "strict"], u32(0x705, 0))):
         with contextlib.ExitStack() as stack:
             it = Daemon(stack, program, words)
             with it.link() as link:
-                link.sendall(frame(1, 9, struct.pack("<IIII", 0xF003, 0, 4, 10) + b"Main.title"))
+                link.sendall(request(9, 1, u32(0xF003, 0, 4, 10) + b"Main.title"))
                 handle = reply(link)[1][8:]
-                link.sendall(frame(2, 2, struct.pack("<II", 0xF005, struct.unpack("<I", handle)[0]) + struct.pack("<I", 1024)))
+                link.sendall(request(2, 2, u32(0xF005) + handle + u32(1024)))
                 got = reply(link)[1]
                 expect(got[:len(wanted)] == wanted, f"{words}: a read of 1,024 bytes was answered with {got!r}")
             it.stopped(signal.SIGTERM)
@@ -288,7 +290,7 @@ def signals_as_data(program):
         ends = time.monotonic() + 2
         with it.link() as link:
             while time.monotonic() < ends:
-                link.sendall(frame(1, 2, struct.pack("<III", 0x4040, 64, 2)))
+                link.sendall(request(2, 1, area(0x4040, 64, 2)))
                 seen.add(struct.unpack("<H", reply(link)[1][8:])[0])
         expect(seen - {0} == {7, 8, 9}, f"it gave {sorted(seen)}")     # 0 is its first value, before the first tick
         it.stopped(signal.SIGTERM)

@@ -9,34 +9,19 @@ and threads as before the first, and what it holds of memory is told before and 
 """
 import os
 import socket
-import struct
-import subprocess
 import sys
 import tempfile
 import time
 
 sys.dont_write_bytecode = True
+sys.path.insert(1, f"{sys.path[0]}/../model")
 import held  # noqa: E402
+from ams import NET, OWN_PORT, PORT, area, framed, net_of, request, response, u16, u32, watched  # noqa: E402
+from under_test import ADS, PLANT, Program, daemon_words, reset, serve_words, taken, until_end  # noqa: E402
 
-HERE = os.path.dirname(os.path.abspath(__file__))
-PROGRAM = os.path.join(HERE, "..", "crates", "ads", "out", "ads")
-PLANT = os.path.join(HERE, "..", "examples", "plant.toml")
 TOGETHER = 32
-NET, PANEL, PORT = bytes([5, 1, 2, 3, 1, 1]), bytes([192, 168, 0, 9, 1, 1]), 32905
-
-
-def frame(target, source, command, payload=b"", flags=4, error=0, number=1):
-    head = target[0] + struct.pack("<H", target[1]) + source[0] + struct.pack("<HHHIII", source[1], command, flags, len(payload), error, number)
-    return bytes(2) + struct.pack("<I", len(head) + len(payload)) + head + payload
-
-
-def to_server(command, payload=b""):
-    return frame((NET, 851), (PANEL, PORT), command, payload)
-
-
-STATE, STATE_TOLD = to_server(4), frame((PANEL, PORT), (NET, 851), 4, struct.pack("<IHH", 0, 5, 0), flags=5)
-LONG = to_server(2, struct.pack("<III", 0x4040, 0, 100))
-NOTES = to_server(6, struct.pack("<IIIIII", 0x4040, 60, 2, 3, 0, 100000) + bytes(16))
+STATE, STATE_TOLD = request(4, 1), response(4, 1, u32(0) + u16(5) + u16(0))
+LONG, NOTES = request(2, 1, area(0x4040, 0, 100)), request(6, 1, watched(0x4040, 60, 2, 3, 100000))
 
 
 def of_server(k):
@@ -45,8 +30,8 @@ def of_server(k):
 
 def of_relay(k):
     """A request to a NetId that nobody owns, and the relay's own answer. A relay has one connection for each NetId."""
-    own = bytes([192, 168, 0, k, 1, 1])
-    return frame((NET, 851), (own, PORT), 4), frame((own, PORT), (NET, 851), 4, flags=5, error=7)
+    own, nobody = net_of(f"192.168.0.{k}.1.1") + u16(OWN_PORT), NET + u16(PORT)
+    return framed(nobody, own, 4, 4, 0, 1, b""), framed(own, nobody, 4, 5, 7, 1, b"")
 
 
 def routes():
@@ -56,27 +41,9 @@ def routes():
 
 
 def exactly(s, want):
-    got = b""
-    while len(got) < len(want):
-        piece = s.recv(len(want) - len(got))
-        if not piece:
-            break
-        got += piece
+    got = taken(s, len(want))
     if got != want:
         raise ValueError(f"told {got.hex()} in place of {want.hex()}")
-
-
-def until_end(s):
-    try:
-        while s.recv(65536):
-            pass
-    except ConnectionResetError:
-        pass
-
-
-def reset(s):
-    s.setsockopt(socket.SOL_SOCKET, socket.SO_LINGER, struct.pack("ii", 1, 0))
-    s.close()
 
 
 class Ways:
@@ -153,7 +120,7 @@ class OfServer(Ways):
     @staticmethod
     def closed_with_handles(s, ask, want):
         name = b"Main.count"
-        s.sendall(to_server(9, struct.pack("<IIII", 0xF003, 0, 4, len(name)) + name) * 5 + LONG)
+        s.sendall(request(9, 1, u32(0xF003, 0, 4, len(name)) + name) * 5 + LONG)
         s.recv(46)
         s.close()
 
@@ -162,33 +129,18 @@ def ways_of(of):
     return [(name, getattr(of, name)) for name in dir(of) if not name.startswith("_")]
 
 
-class Process:
-    def __init__(self, command, description):
-        with socket.socket() as free:
-            free.bind(("127.0.0.1", 0))
-            self.port = free.getsockname()[1]
-        words = [command, description, "--events", str(2 ** 64 - 1)] if command in ("serve", "relay") else [description, "--log", "none", "--profile", command]
-        self.process = subprocess.Popen([PROGRAM, *words, "--listen", f"127.0.0.1:{self.port}"], stdout=subprocess.PIPE)
-        if self.process.stdout.readline() != b"listening\n":
-            sys.exit(f"{command} does not listen")
-
-    def open(self):
-        s = socket.create_connection(("127.0.0.1", self.port), timeout=10.0)
-        s.setsockopt(socket.IPPROTO_TCP, socket.TCP_NODELAY, 1)
-        return s
-
-    def asks(self, ask, want):
-        """A good client, who is let in once the others are gone."""
-        with self.open() as s:
-            s.sendall(ask)
-            exactly(s, want)
+def asks(it, ask, want):
+    """A good client, who is let in once the others are gone."""
+    with it.open() as s:
+        s.sendall(ask)
+        exactly(s, want)
 
 
-def play(command, description, of, words_of, count):
+def play(words, of, words_of, count):
     """How many ways left something over, of a command of `ads` or of a profile of `adsd`."""
-    it, wrong = Process(command, description), 0
-    try:
-        it.asks(*words_of(TOGETHER))
+    command, wrong = words[0] if words[0] in ("serve", "relay") else words[-1], 0
+    with Program(PROGRAM, words) as it:
+        asks(it, *words_of(TOGETHER))
         time.sleep(0.3)
         before = held.counts(it.process.pid)
         for name, way in ways_of(of):
@@ -197,17 +149,15 @@ def play(command, description, of, words_of, count):
                 for k, s in enumerate(some):
                     way(s, *words_of(k))
                 held.settled(it.process.pid, before)
-            it.asks(*words_of(TOGETHER))
+            asks(it, *words_of(TOGETHER))
             left = held.left_over(it.process.pid, before)
             wrong += left[:2] != (0, 0)
-            print(f"| {command} | {name.replace('_', ' ')} | {count // TOGETHER * TOGETHER + TOGETHER:,} | {' | '.join(map(str, left))} |", flush=True)
+            many = count // TOGETHER * TOGETHER + TOGETHER
+            print(f"| {command} | {name.replace('_', ' ')} | {many:,} | {' | '.join(map(str, left))} |", flush=True)
         if it.process.poll() is not None:
             print(f"{command} ended with {it.process.returncode}")
             wrong += 1
-        return wrong
-    finally:
-        it.process.kill()
-        it.process.wait()
+    return wrong
 
 
 def main():
@@ -216,15 +166,15 @@ def main():
     count = int(words.pop(words.index("--count") + 1)) if "--count" in words else 1000
     of_daemon = "--adsd" in words
     words = [word for word in words if word not in ("--count", "--adsd")]
-    PROGRAM = os.path.abspath(words[0] if words else PROGRAM)
+    PROGRAM = os.path.abspath(words[0] if words else ADS)
     print("| of | how the connections ended | how many | descriptors left over | threads | KiB more than before the first |\n|---|---|---|---|---|---|")
     if of_daemon:
-        sys.exit(1 if sum(play(profile, PLANT, OfServer, of_server, count) for profile in ("strict", "wide")) else 0)
-    wrong = play("serve", PLANT, OfServer, of_server, count)
+        sys.exit(1 if sum(play(daemon_words(PLANT, profile), OfServer, of_server, count) for profile in ("strict", "wide")) else 0)
+    wrong = play(serve_words(PLANT), OfServer, of_server, count)
     with tempfile.NamedTemporaryFile("w", suffix=".toml") as description:
         description.write(routes())
         description.flush()
-        wrong += play("relay", description.name, Ways, of_relay, count)
+        wrong += play(serve_words(description.name, "relay"), Ways, of_relay, count)
     sys.exit(1 if wrong else 0)
 
 

@@ -44,7 +44,8 @@ import time
 HERE = os.path.dirname(os.path.abspath(__file__))
 sys.dont_write_bytecode = True
 sys.path[1:1] = [f"{sys.path[0]}/../{room}" for room in ("model", "tools")]
-import daemon  # noqa: E402
+import adsd  # noqa: E402
+from ams import request  # noqa: E402
 import hostile  # noqa: E402
 import killed  # noqa: E402
 import recorded  # noqa: E402
@@ -52,6 +53,7 @@ import store  # noqa: E402
 from tries.fake_plant import FakePlant  # noqa: E402
 from tries.history_checks import of_sqlite, sound  # noqa: E402
 from tries.running import ME, NET, Wrong  # noqa: E402
+from under_test import free_port  # noqa: E402
 
 CALLS = ("openat", "write", "pwrite64", "fsync", "fdatasync", "link", "linkat", "rename", "renameat", "renameat2", "ftruncate", "truncate", "unlink", "unlinkat")
 FAULTS = {"EIO": "error=EIO:when={}", "KILL": "signal=KILL:when={}", "ENOSPC": "error=ENOSPC:when={}", "EIO from there on": "error=EIO:when={}+"}
@@ -196,10 +198,10 @@ class Run:
         self.folder, self.log = folder, folder / "log"
         self.log.unlink(missing_ok=True)
         (folder / "it.toml").write_text(plant)
-        port, stderr = daemon.free_port(), stack.enter_context(open(self.log, "wb"))
+        port, stderr = free_port(), stack.enter_context(open(self.log, "wb"))
         more = [str(folder / word) if word == "kept" else word for word in more]
         given = [*words, program, "it.toml", "--listen", f"127.0.0.1:{port}", "--status", str(folder / "status.prom"), *more]
-        self.it = daemon.Daemon(stack, given[0], given[1:], bare=True, listens=False, folder=str(folder), port=port, stderr=stderr)
+        self.it = adsd.Daemon(stack, given[0], given[1:], bare=True, listens=False, folder=str(folder), port=port, stderr=stderr)
         self.listens, self.link = self.it.process.stdout.readline() == b"listening\n", None
         if self.listens:
             with contextlib.suppress(ConnectionError):
@@ -213,8 +215,8 @@ class Run:
         got = None
         with contextlib.suppress(OSError):
             if self.link:
-                self.link.sendall(daemon.frame(number, command, payload))
-                got = daemon.reply(self.link)
+                self.link.sendall(request(command, number, payload))
+                got = adsd.reply(self.link)
         see(got is None or got[0] == number and got[1][:4] == bytes(4), f"a request was answered by {got!r}")
         return got and got[1][4:]
 
@@ -502,7 +504,7 @@ def tried(scene, call, fault, at):
             spot = Spot(folder, call, fault, at)
             seen = scene.go(spot)
             return "not reached" if spot.missed else seen
-        except (Differs, Wrong, daemon.Failed, recorded.Differs, OSError, ValueError, sqlite3.Error, subprocess.SubprocessError) as why:
+        except (Differs, Wrong, adsd.Failed, recorded.Differs, OSError, ValueError, sqlite3.Error, subprocess.SubprocessError) as why:
             return f"WRONG: {type(why).__name__}: {why}"
 
 

@@ -17,86 +17,31 @@ import os
 import selectors
 import socket
 import struct
-import subprocess
 import sys
 import tempfile
 import time
 
 sys.dont_write_bytecode = True
-import held  # noqa: E402
+sys.path.insert(1, f"{sys.path[0]}/../model")
+from ams import NET, area, request, response, u16, u32, watched  # noqa: E402
+from under_test import (  # noqa: E402
+    ADS, PLANT, Clocks, Program, daemon_words, is_closed, play, reset, serve_words, taken, told_in, until_end,
+)
 
-HERE = os.path.dirname(os.path.abspath(__file__))
-PLANT = os.path.join(HERE, "..", "examples", "plant.toml")
-NET = bytes([5, 1, 2, 3, 1, 1])
-ME = bytes([192, 168, 0, 9, 1, 1])
 MOST = 64
+# The program that is tried, and its profile; none for `ads serve`.
+TRIED = [ADS, None]
+
+STATE = request(4, 1)
+STATE_REPLY = response(4, 1, u32(0) + u16(5) + u16(0))
+COUNT = request(2, 2, area(0x4040, 60, 2))
+COUNT_REPLY = response(2, 2, u32(0, 2) + u16(1000))
 
 
-def frame(command, number, payload, flags=4, port=32905, ours=ME):
-    head = NET + struct.pack("<H", 851) + ours + struct.pack("<HHHIII", port, command, flags, len(payload), 0, number)
-    return bytes(2) + struct.pack("<I", len(head) + len(payload)) + head + payload
-
-
-def reply(command, number, payload):
-    head = ME + struct.pack("<H", 32905) + NET + struct.pack("<HHHIII", 851, command, 5, len(payload), 0, number)
-    return bytes(2) + struct.pack("<I", len(head) + len(payload)) + head + payload
-
-
-def read(group, offset, size):
-    return struct.pack("<III", group, offset, size)
-
-
-STATE = frame(4, 1, b"")
-STATE_REPLY = reply(4, 1, struct.pack("<IHH", 0, 5, 0))
-COUNT = frame(2, 2, read(0x4040, 60, 2))
-COUNT_REPLY = reply(2, 2, struct.pack("<II", 0, 2) + struct.pack("<H", 1000))
-
-
-class Server:
-    """The program that is tried. `program` and `profile` are set by the words; `profile` is none for `ads serve`."""
-    program, profile = os.path.join(HERE, "..", "crates", "ads", "out", "ads"), None
-
-    def __init__(self, plant=PLANT, **more):
-        with socket.socket() as s:
-            s.bind(("127.0.0.1", 0))
-            self.port = s.getsockname()[1]
-        words = [plant, "--log", "none", "--profile", self.profile] if self.profile else ["serve", plant, "--events", "18446744073709551615"]
-        self.process = subprocess.Popen([self.program, *words, "--listen", f"127.0.0.1:{self.port}"], stdout=subprocess.PIPE, **more)
-        said = self.process.stdout.readline()
-        if said != b"listening\n":
-            sys.exit(f"the server said {said!r}")
-
-    def open(self, seconds=5.0):
-        s = socket.create_connection(("127.0.0.1", self.port), timeout=seconds)
-        s.setsockopt(socket.IPPROTO_TCP, socket.TCP_NODELAY, 1)
-        return s
-
-    def stop(self):
-        self.process.kill()
-        self.process.wait()
-
-
-def take(s, count):
-    got = b""
-    while len(got) < count:
-        piece = s.recv(count - len(got))
-        if not piece:
-            return got
-        got += piece
-    return got
-
-
-def ends(s):
-    """The bytes until the peer ends the stream."""
-    got = b""
-    try:
-        while True:
-            piece = s.recv(65536)
-            if not piece:
-                return got
-            got += piece
-    except ConnectionResetError:
-        return got
+def served(plant=PLANT, **how):
+    """The program that is tried, over a plant."""
+    program, profile = TRIED
+    return Program(program, daemon_words(plant, profile) if profile else serve_words(plant), **how)
 
 
 def good(s):
@@ -104,7 +49,7 @@ def good(s):
     began = time.monotonic()
     s.sendall(STATE + COUNT)
     want = STATE_REPLY + COUNT_REPLY
-    got = take(s, len(want))
+    got = taken(s, len(want))
     if got != want:
         return f"the good client got {got.hex()}"
     if time.monotonic() - began > 1.0:
@@ -117,7 +62,7 @@ def byte_by_byte(server):
         for n in range(len(STATE)):
             s.sendall(STATE[n:n + 1])
             time.sleep(0.001)
-        got = take(s, len(STATE_REPLY))
+        got = taken(s, len(STATE_REPLY))
         return None if got == STATE_REPLY else got.hex()
 
 
@@ -125,7 +70,7 @@ def many_in_one_piece(server):
     with server.open() as s:
         s.sendall(STATE * 1000)
         want = STATE_REPLY * 1000
-        got = take(s, len(want))
+        got = taken(s, len(want))
         return None if got == want else f"{len(got)} bytes"
 
 
@@ -133,19 +78,19 @@ def half_closed(server):
     with server.open() as s:
         s.sendall(STATE * 50 + STATE[:20])
         s.shutdown(socket.SHUT_WR)
-        got = ends(s)
+        got = until_end(s)
         return None if got == STATE_REPLY * 50 else f"{len(got)} bytes in place of {len(STATE_REPLY) * 50}"
 
 
 def half_closed_large(server):
     """A stream that ends behind requests whose replies are far more than a socket takes at once."""
-    ask = frame(2, 3, read(0x4040, 1000, 990000))
-    want = reply(2, 3, struct.pack("<II", 0, 990000) + bytes(990000))
+    ask = request(2, 3, area(0x4040, 1000, 990000))
+    want = response(2, 3, u32(0, 990000) + bytes(990000))
     with server.open() as s:
         s.sendall(ask * 4)
         s.shutdown(socket.SHUT_WR)
         time.sleep(0.3)
-        got = ends(s)
+        got = until_end(s)
         return None if got == want * 4 else f"{len(got)} bytes in place of {len(want) * 4}"
 
 
@@ -153,14 +98,13 @@ def reset_in_mid_frame(server):
     for _ in range(200):
         s = server.open()
         s.sendall(STATE + STATE[:10])
-        s.setsockopt(socket.SOL_SOCKET, socket.SO_LINGER, struct.pack("ii", 1, 0))
-        s.close()
+        reset(s)
     return None
 
 
 def never_reads(server):
     """It asks for far more than is queued for it, and never reads: it is shut, and the other is served all the while."""
-    ask = frame(2, 3, read(0x4040, 0, 1000000))
+    ask = request(2, 3, area(0x4040, 0, 1000000))
     with server.open() as s, server.open() as other:
         s.settimeout(0.2)
         try:
@@ -180,14 +124,14 @@ def never_reads(server):
 def broken_frame(server):
     with server.open() as s:
         s.sendall(STATE + bytes.fromhex("010020000000"))
-        got = ends(s)
+        got = until_end(s)
         return None if got == STATE_REPLY else got.hex()
 
 
 def unknown_route(server):
     with server.open() as s:
-        s.sendall(STATE + frame(4, 1, b"", ours=bytes([9, 9, 9, 9, 1, 1])))
-        got = ends(s)
+        s.sendall(STATE + request(4, 1, b"", source=bytes([9, 9, 9, 9, 1, 1])))
+        got = until_end(s)
         return None if got == STATE_REPLY else got.hex()
 
 
@@ -206,7 +150,7 @@ def sixty_five(server):
         pass
     held.pop().close()
     late.settimeout(5.0)
-    got = take(late, len(STATE_REPLY))
+    got = taken(late, len(STATE_REPLY))
     late.close()
     for s in held:
         s.close()
@@ -215,16 +159,16 @@ def sixty_five(server):
 
 def notifications(server):
     """A cyclic notification of each tick: samples of rising moments, about a hundred in a second."""
-    spec = struct.pack("<IIIIII", 0x4040, 64, 2, 3, 0, 0) + bytes(16)
+    spec = watched(0x4040, 64, 2, 3)
     with server.open() as s:
-        s.sendall(frame(6, 5, spec))
-        added = take(s, 46)
+        s.sendall(request(6, 5, spec))
+        added = taken(s, 46)
         if added[38:42] != bytes(4):
             return added.hex()
         moments = []
         began = time.monotonic()
         while time.monotonic() - began < 2.0:
-            note = take(s, 38 + 28 + 2)
+            note = taken(s, 38 + 28 + 2)
             if len(note) < 68:
                 return "the stream ended"
             moments.append(struct.unpack("<Q", note[46:54])[0])
@@ -236,13 +180,13 @@ def notifications(server):
 
 def notifications_in_time(server):
     """Each sample of a cycle of 10 ms comes, its moment one beat behind the last."""
-    spec = struct.pack("<IIIIII", 0x4040, 64, 2, 3, 0, 100_000) + bytes(16)
+    spec = watched(0x4040, 64, 2, 3, 100_000)
     with server.open() as s:
-        s.sendall(frame(6, 5, spec))
-        added = take(s, 46)
+        s.sendall(request(6, 5, spec))
+        added = taken(s, 46)
         if added[38:42] != bytes(4):
             return added.hex()
-        moments = [struct.unpack("<Q", take(s, 68)[46:54])[0] for _ in range(300)]
+        moments = [struct.unpack("<Q", taken(s, 68)[46:54])[0] for _ in range(300)]
         steps = [b - a for a, b in zip(moments, moments[1:])]
         off = [step for step in steps if step % 100_000 or step <= 0]
         mean = sum(steps) / len(steps) / 10_000
@@ -254,79 +198,53 @@ def reload(server_unused):
     with tempfile.TemporaryDirectory() as folder:
         name = os.path.join(folder, "plant.toml")
         open(name, "w").write(text)
-        server = Server(name)
-        try:
+        with served(name) as server:
             with server.open() as s:
-                version = frame(2, 4, read(0xF008, 0, 1))
+                version = request(2, 4, area(0xF008, 0, 1))
                 s.sendall(version)
-                before = take(s, 47)[-1]
+                before = taken(s, 47)[-1]
                 with open(name + ".new", "w") as f:
                     f.write(text.replace("initial = \"2a000000\"", "initial = \"2b000000\""))
                 os.replace(name + ".new", name)
                 time.sleep(2.5)
                 s.sendall(version)
-                after = take(s, 47)[-1]
+                after = taken(s, 47)[-1]
                 os.remove(name)
                 time.sleep(1.5)
                 wrong = good(s)
                 if wrong:
                     return wrong
                 return None if (before, after) == (1, 2) else f"versions {before} and {after}"
-        finally:
-            server.stop()
 
 
-class Clocks:
+class Later:
     """A server whose steady clock can be set forward."""
 
     def __init__(self, stack):
-        folder = stack.enter_context(tempfile.TemporaryDirectory())
-        shim, self.file, self.seconds = os.path.join(folder, "set_clocks.so"), os.path.join(folder, "clocks"), 0
-        subprocess.run(["gcc", "-O2", "-shared", "-fPIC", "-o", shim, os.path.join(HERE, "set_clocks.c")], check=True)
-        self.wait(0)
-        self.server = Server(env={**os.environ, "LD_PRELOAD": shim, "SET_CLOCKS": self.file})
-        stack.callback(self.server.stop)
+        self.clocks = Clocks(stack.enter_context(tempfile.TemporaryDirectory()))
+        self.server = stack.enter_context(served(env=self.clocks.env))
 
     def wait(self, seconds):
         """So many seconds pass for the server."""
-        self.seconds += seconds
-        with open(self.file, "r+b" if os.path.exists(self.file) else "wb") as it:
-            it.write(struct.pack("<qq", 0, self.seconds))
+        self.clocks.set(steady=self.clocks.steady + seconds)
         time.sleep(0.1)
-
-
-def is_closed(s):
-    s.settimeout(2.0)
-    try:
-        return ends(s) == b""
-    except (TimeoutError, socket.timeout):
-        return False
 
 
 def is_served(s, seconds=2.0):
     s.settimeout(seconds)
     try:
         s.sendall(STATE)
-        return take(s, len(STATE_REPLY)) == STATE_REPLY
+        return taken(s, len(STATE_REPLY)) == STATE_REPLY
     except (ConnectionError, TimeoutError, socket.timeout):
         return False
-
-
-def waits(s, seconds=0.5):
-    """What it is told in so many seconds."""
-    s.settimeout(seconds)
-    try:
-        return s.recv(65536)
-    except (TimeoutError, socket.timeout):
-        return b""
 
 
 def silent_longest(server_unused):
     """All places are taken, and two are silent for five minutes: they go for two that wait, the one that is silent longest first; a third waits."""
     with contextlib.ExitStack() as stack:
-        clocks = Clocks(stack)
+        clocks = Later(stack)
         subscriber = stack.enter_context(clocks.server.open())
-        subscriber.sendall(frame(6, 5, struct.pack("<IIIIII", 0x4040, 64, 2, 3, 0, 100_000) + bytes(16)))
+        subscriber.sendall(request(6, 5, watched(0x4040, 64, 2, 3, 100_000)))
         held = [stack.enter_context(clocks.server.open()) for _ in range(MOST - 1)]
         for s in held:
             if not is_served(s):
@@ -343,15 +261,15 @@ def silent_longest(server_unused):
         clocks.wait(140)
         for late in waiting:
             late.sendall(STATE)
-        if waits(waiting[0]):
+        if told_in(waiting[0], 0.5):
             return "a 65th was served"
         for s, late, seconds in zip((held[9], held[5]), waiting, (40, 30)):
             clocks.wait(seconds)
-            if not is_closed(s):
+            if not is_closed(s, 2.0):
                 return "the one that was silent longest was not closed"
-            if waits(late, 5.0) != STATE_REPLY:
+            if told_in(late, 5.0) != STATE_REPLY:
                 return "the one that waited was not served"
-        if waits(waiting[2]):
+        if told_in(waiting[2], 0.5):
             return "one was closed that was silent for less than five minutes"
         for s in held[:5] + held[6:9] + held[10:]:
             if not is_served(s):
@@ -367,7 +285,7 @@ def silent_longest(server_unused):
 def vanished(server_unused):
     """64 clients vanish without a word; five minutes later others are served."""
     with contextlib.ExitStack() as stack:
-        clocks = Clocks(stack)
+        clocks = Later(stack)
         for _ in range(MOST):
             s = clocks.server.open()
             if not is_served(s):
@@ -402,8 +320,8 @@ def two_in_one_write(server):
 
 def full_socket(server):
     """A peer that reads slowly gets each byte in order, though its socket was full many times."""
-    ask = frame(2, 3, read(0x4040, 1000, 990000))
-    want = (reply(2, 3, struct.pack("<II", 0, 990000) + bytes(990000)) + STATE_REPLY) * 4
+    ask = request(2, 3, area(0x4040, 1000, 990000))
+    want = (response(2, 3, u32(0, 990000) + bytes(990000)) + STATE_REPLY) * 4
     with server.open() as s, server.open() as other:
         s.setsockopt(socket.SOL_SOCKET, socket.SO_RCVBUF, 4096)
         s.sendall((ask + STATE) * 4)
@@ -454,7 +372,7 @@ def many_to_a_router(server):
     with server.open() as s:
         s.sendall(ASKS_NET * 10000 + STATE)
         want = TELLS_NET * 10000 + STATE_REPLY
-        got = take(s, len(want))
+        got = taken(s, len(want))
         return None if got == want else f"{len(got)} bytes"
 
 
@@ -463,12 +381,12 @@ def part_of_a_router_packet(server):
     for cut in range(1, len(ASKS_NET)):
         with server.open() as s:
             s.sendall(ASKS_NET + ASKS_NET[:cut])
-            if take(s, len(TELLS_NET)) != TELLS_NET or waits(s, 0.05):
+            if taken(s, len(TELLS_NET)) != TELLS_NET or told_in(s, 0.05):
                 return f"{cut} bytes of a packet were answered"
-            s.setsockopt(socket.SOL_SOCKET, socket.SO_LINGER, struct.pack("ii", 1, 0))
+            reset(s)
     with server.open() as s:
         s.sendall(ASKS_NET[:2] + b"\xff" * 100)
-        got = ends(s)
+        got = until_end(s)
         return None if got == b"" else got.hex()
 
 
@@ -493,53 +411,41 @@ LOADED = [two_in_one_write, half_closed, half_closed_large, full_socket, notific
 SLOW = {reload, silent_longest, vanished}
 
 
-def play(server, scenes, name=""):
-    """How many scenes went wrong."""
-    wrong = 0
+def play_scenes(server, scenes, more=""):
+    """How many scenes went wrong; a good client asks before and behind each."""
     with server.open() as s:
-        first, before = good(s), held.counts(server.process.pid)
-        for scene in scenes:
-            said = first or scene(server) or good(s)
-            print(f"{scene.__name__ + name:36}", said or "ok", flush=True)
-            wrong += said is not None
-        left = held.left_over(server.process.pid, before)
-        print(f"{'behind them':36}", held.told(left), flush=True)
-        return wrong + (left[:2] != (0, 0))
+        wrong = good(s)
+        return 1 if wrong else play(scenes, lambda scene: scene(server) or good(s), server.process, more)
 
 
 def play_all(is_short):
     """How many scenes of this program went wrong."""
     wrong, large = 0, open(PLANT).read().replace("data = 128", "data = 1000000")
-    small = [it for it in SCENES if not is_short or it not in SLOW] + (ROUTED if Server.profile == "wide" else [])
+    small = [it for it in SCENES if not is_short or it not in SLOW] + (ROUTED if TRIED[1] == "wide" else [])
     with tempfile.NamedTemporaryFile("w", suffix=".toml") as it:
         it.write(large)
         it.flush()
         for plant, scenes in ((PLANT, small), (it.name, LARGE), (it.name, None)):
-            server = Server(plant)
-            try:
+            with served(plant) as server:
                 if scenes:
-                    wrong += play(server, scenes)
+                    wrong += play_scenes(server, scenes)
                 else:
                     with load(server):
-                        wrong += play(server, LOADED, ", under load")
-                if server.process.poll() is not None:
-                    print("the server ended with", server.process.returncode)
-                    wrong += 1
-            finally:
-                server.stop()
+                        wrong += play_scenes(server, LOADED, ", under load")
     return wrong
 
 
 def main():
     it = argparse.ArgumentParser(description=__doc__, formatter_class=argparse.RawDescriptionHelpFormatter)
-    it.add_argument("program", nargs="?", default=Server.program)
+    it.add_argument("program", nargs="?", default=ADS)
     it.add_argument("--adsd")
     it.add_argument("--profile", choices=("strict", "wide"))
     it.add_argument("--short", action="store_true")
     given, wrong = it.parse_args(), 0
-    Server.program = os.path.abspath(given.adsd or given.program)
-    for Server.profile in ([given.profile] if given.profile else ["strict", "wide"]) if given.adsd else [None]:
-        print(f"{os.path.basename(Server.program)} {Server.profile or 'serve'}")
+    profiles = ([given.profile] if given.profile else ["strict", "wide"]) if given.adsd else [None]
+    for profile in profiles:
+        TRIED[:] = os.path.abspath(given.adsd or given.program), profile
+        print(f"{os.path.basename(TRIED[0])} {profile or 'serve'}")
         wrong += play_all(given.short)
     sys.exit(1 if wrong else 0)
 

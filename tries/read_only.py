@@ -27,7 +27,7 @@ sys.dont_write_bytecode = True
 sys.path[1:1] = [f"{sys.path[0]}/../{room}" for room in ("model", "tools")]
 import bad_stores  # noqa: E402
 import recorded  # noqa: E402
-from daemon import Daemon, Failed, expect, waits_for  # noqa: E402
+from adsd import Daemon, Failed, expect, waits_for  # noqa: E402
 from daemon_store import read_title, title_of, write_title  # noqa: E402
 from tries.history_checks import of_sqlite, sound  # noqa: E402
 from tries.running import Served, Wrong  # noqa: E402

@@ -109,7 +109,7 @@ def over_a_socket(program, folder, r):
             raise Differs("a moment falls")
         wanted("the line", out, f"Main.count count 20 last {rows[-1][2]} {values[-1]}\n")
     finally:
-        server.process.kill()
+        server.stop()
 
 
 def burst_of(first, count):

@@ -12,19 +12,19 @@ import pathlib
 import re
 import select
 import signal
-import socket
 import struct
 import subprocess
 import sys
 import tempfile
 import time
 
-import daemon
+import adsd
 import hostile
 import protocol
 import store
 from hostile import add, ask, frame, head, read, state, sum_of, write
 from random_runs import toml_of
+from under_test import connected, free_port
 
 # What may be printed where memory ran out: the first lines, and the first letters of the last one.
 PRINTED = re.compile(r"(listening\n)?(connections [a-z0-9 ]+\n(saved \d+\n)?)?(" + "".join(f"({letter}" for letter in "ads: memory\n") + ")?" * 12 + ")?")
@@ -95,9 +95,9 @@ class Try:
             (self.folder / "clock").write_bytes(bytes(16))
             if self.run.stands:
                 (self.folder / "kept").write_bytes(self.run.stands)
-            self.port, log = daemon.free_port(), stack.enter_context(open(self.folder / "log", "wb"))
+            self.port, log = free_port(), stack.enter_context(open(self.folder / "log", "wb"))
             words = ["it.toml", "--listen", f"127.0.0.1:{self.port}", *self.run.words]
-            self.it = daemon.Daemon(stack, self.program, words, bare=True, listens=False, folder=folder, port=self.port, stderr=log, env=self.env())
+            self.it = adsd.Daemon(stack, self.program, words, bare=True, listens=False, folder=folder, port=self.port, stderr=log, env=self.env())
             first, is_over = self.it.process.stdout.readline(), False
             if first == b"listening\n":
                 try:
@@ -135,7 +135,7 @@ class Try:
         self.number += 1
         protocol.turn(self.machine, ("open", self.number), [])
         try:
-            self.link = self.stack.enter_context(socket.create_connection(("127.0.0.1", self.port), timeout=20))
+            self.link = self.stack.enter_context(connected(self.port, 20))
         except OSError:
             raise Over from None
 
@@ -212,7 +212,7 @@ class Try:
         status = self.it.process.returncode
         if status not in ((0, 10, 14) if self.run.stands else (0, 10)):
             raise Wrong(f"it ended with {status}")
-        if status == 0 and (is_over or not daemon.SUMMARY.match(out[len("listening\n"):])):
+        if status == 0 and (is_over or not adsd.SUMMARY.match(out[len("listening\n"):])):
             raise Wrong(f"it ended with 0, printed {out!r} and {'closed a connection' if is_over else 'served all'}")
         if status == 10 and not PRINTED.fullmatch(out):
             raise Wrong(f"it ended with 10 and printed {out!r}")

@@ -13,18 +13,17 @@ import contextlib
 import os
 import socket
 import struct
-import subprocess
 import sys
 import tempfile
 import threading
 import time
 
 sys.dont_write_bytecode = True
-import endings  # noqa: E402
-import held  # noqa: E402
+sys.path.insert(1, f"{sys.path[0]}/../model")
+from ams import PORT, framed, text_of, u16  # noqa: E402
+from under_test import ADS, Program, is_closed, next_frame, play, reset, serve_words, taken, until_end  # noqa: E402
 
-HERE = os.path.dirname(os.path.abspath(__file__))
-MOST, PORT = 64, 851
+MOST = 64
 PANEL, RIG, SILENT, GONE = (bytes([192, 168, 0, k, 1, 1]) for k in (1, 2, 3, 4))
 TIMES = [10000]
 
@@ -35,40 +34,13 @@ def own(k):
 
 
 def frame(source, target, number, payload=b"", command=2, flags=4, error=0):
-    return endings.frame((target, PORT), (source, PORT), command, payload, flags, error, number)
+    return framed(target + u16(PORT), source + u16(PORT), command, flags, error, number, payload)
 
 
 def answer(asked):
     """The response of the rig to a frame: its payload again."""
     source, number = asked[14:20], struct.unpack("<I", asked[34:38])[0]
     return frame(RIG, source, number, asked[38:], flags=5)
-
-
-def next_frame(s):
-    """The next frame; none where the stream ends."""
-    head = taken(s, 6)
-    return head + taken(s, struct.unpack("<I", head[2:])[0]) if len(head) == 6 else b""
-
-
-def taken(s, count):
-    got = b""
-    while len(got) < count:
-        piece = s.recv(min(count - len(got), 1 << 20))
-        if not piece:
-            break
-        got += piece
-    return got
-
-
-def is_closed(s):
-    """Whether a peer is closed, and was told nothing."""
-    s.settimeout(5)
-    try:
-        return s.recv(65536) == b""
-    except ConnectionResetError:
-        return True
-    except TimeoutError:
-        return False
 
 
 def is_quiet(s, seconds=0.3):
@@ -82,29 +54,19 @@ def is_quiet(s, seconds=0.3):
         s.settimeout(10)
 
 
-class Relay:
+class Relay(Program):
     """A relay with a rig that answers with what it was asked, and a panel."""
 
     def __init__(self, program, folder):
         nets = [PANEL, RIG, SILENT, GONE, *(own(k) for k in range(MOST + 2))]
-        text = 'schema = 1\nnet = "5.1.2.3.1.1"\n' + "".join(f'[[route]]\nnet = "{".".join(map(str, net))}"\nrights = "write"\n' for net in nets)
+        routes = "".join(f'[[route]]\nnet = "{text_of(net)}"\nrights = "write"\n' for net in nets)
         place = os.path.join(folder, "relay.toml")
         with open(place, "w", encoding="utf-8") as it:
-            it.write(text + '[[port]]\nport = 851\nname = "A"\nmajor = 1\nminor = 1\nbuild = 1\ndata = 8\n')
-        with socket.socket() as free:
-            free.bind(("127.0.0.1", 0))
-            self.port = free.getsockname()[1]
-        words = [program, "relay", place, "--listen", f"127.0.0.1:{self.port}", "--events", str(2 ** 64 - 1)]
-        self.process, self.number = subprocess.Popen(words, stdout=subprocess.PIPE), 0
-        if self.process.stdout.readline() != b"listening\n":
-            sys.exit("relay does not listen")
-        self.rig, self.panel = self.claimed(RIG), self.claimed(PANEL)
+            it.write(f'schema = 1\nnet = "5.1.2.3.1.1"\n{routes}'
+                     '[[port]]\nport = 851\nname = "A"\nmajor = 1\nminor = 1\nbuild = 1\ndata = 8\n')
+        super().__init__(program, serve_words(place, "relay"))
+        self.number, self.rig, self.panel = 0, self.claimed(RIG), self.claimed(PANEL)
         threading.Thread(target=self.answers, daemon=True).start()
-
-    def open(self):
-        s = socket.create_connection(("127.0.0.1", self.port), timeout=10)
-        s.setsockopt(socket.IPPROTO_TCP, socket.TCP_NODELAY, 1)
-        return s
 
     def claimed(self, net):
         """A connection that owns a NetId: a notification to itself comes back."""
@@ -250,7 +212,7 @@ def reset_in_mid_frame(relay):
         s = relay.open()
         asked = frame(own(k % 32), RIG, k)
         s.sendall(asked * 2 + asked[:20])
-        endings.reset(s)
+        reset(s)
     return None
 
 
@@ -271,10 +233,7 @@ def half_closed(relay):
     with relay.open() as s:
         s.sendall(frame(own(0), GONE, 1) * 50)
         s.shutdown(socket.SHUT_WR)
-        got = b""
-        with contextlib.suppress(ConnectionResetError):
-            while piece := s.recv(65536):
-                got += piece
+        got = until_end(s)
         return None if got == frame(GONE, own(0), 1, flags=5, error=7) * 50 else f"{len(got)} bytes"
 
 
@@ -298,31 +257,13 @@ SCENES = [byte_by_byte, claims_of_others, broken_frames, responses_that_nobody_a
 
 def main():
     it = argparse.ArgumentParser(description=__doc__, formatter_class=argparse.RawDescriptionHelpFormatter)
-    it.add_argument("program", nargs="?", default=os.path.join(HERE, "..", "crates", "ads", "out", "ads"))
+    it.add_argument("program", nargs="?", default=ADS)
     it.add_argument("--short", action="store_true")
-    given, wrong = it.parse_args(), 0
+    given = it.parse_args()
     TIMES[0] = 1000 if given.short else 10000
-    with tempfile.TemporaryDirectory() as folder:
-        relay = Relay(os.path.abspath(given.program), folder)
-        try:
-            first, before = relay.good(), held.counts(relay.process.pid)
-            for scene in SCENES:
-                try:
-                    said = first or scene(relay) or relay.good()
-                except OSError as fault:
-                    said = f"{type(fault).__name__}: {fault}"
-                print(f"{scene.__name__.replace('_', ' '):36}", said or "ok", flush=True)
-                wrong += said is not None
-            left = held.left_over(relay.process.pid, before)
-            print(f"{'behind them':36}", held.told(left))
-            wrong += left[:2] != (0, 0)
-            if relay.process.poll() is not None:
-                print(f"the relay ended with {relay.process.returncode}")
-                wrong += 1
-        finally:
-            relay.process.kill()
-            relay.process.wait()
-    return 1 if wrong else 0
+    with tempfile.TemporaryDirectory() as folder, Relay(os.path.abspath(given.program), folder) as relay:
+        first = relay.good()
+        return 1 if play(SCENES, lambda scene: first or scene(relay) or relay.good(), relay.process) else 0
 
 
 if __name__ == "__main__":

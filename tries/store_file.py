@@ -12,8 +12,10 @@ import tempfile
 import time
 
 import store
-from daemon import expect, frame, free_port, reply, tried, until
+from adsd import expect, reply, tried, until
+from ams import request, u32
 from daemon_store import in_folder, read_title, save, title_of, write_title
+from under_test import PLANT, free_port
 
 WORDS = ["--store", "kept", "--save-each", "1"]
 MOMENT = re.compile(r"kept\.before-\d{8}T\d{6}(?:-[1-9]\d*)?")
@@ -234,7 +236,7 @@ def the_order_at_the_start(it):
             folder.mkdir()
             words = [it.program, "plant.toml", "--store", name, "--listen", f"127.0.0.1:{free_port()}"]
             if change:
-                text = pathlib.Path(__file__).resolve().parent.parent.joinpath("examples", "plant.toml").read_text()
+                text = pathlib.Path(PLANT).read_text()
                 (folder / "plant.toml").write_text(re.sub(r"(?m)^schema = \d+$", "schema = 9", text))
             done = subprocess.run(words, cwd=folder, capture_output=True, text=True, timeout=20)
             left = sorted(os.listdir(folder))
@@ -395,7 +397,7 @@ def newer_than_the_last_save(it):
 
 def handle_is_gone(link):
     """Whether no handle of Main.title is given any more."""
-    link.sendall(frame(9, 9, struct.pack("<IIII", 0xF003, 0, 4, 10) + b"Main.title"))
+    link.sendall(request(9, 9, u32(0xF003, 0, 4, 10) + b"Main.title"))
     return struct.unpack("<I", reply(link)[1][:4])[0] == 0x710
 
 
