@@ -580,9 +580,10 @@ def total_lines(keeper, entries):
     return text
 
 
-def run(words, comes, *, me, peer, port=851, to="", fail=0, fail_put=0, leave=0, keeper=None):
+def run(words, comes, *, me, peer, to="", keeper=None, **fails):
     """The status, what is printed, and what is done over the link, where this call of the link or this piece of the output fails, counted from 1."""
-    client, talk, out, calls, puts, quiet, at = Client(words, me, peer, port), [], "", 1, 0, 0, 0
+    fail, fail_put, leave = (fails.get(name, 0) for name in ("fail", "fail_put", "leave"))
+    client, talk, out, calls, puts, quiet, at = Client(words, me, peer, 851), [], "", 1, 0, 0, 0
     if client.recording and keeper.fails():
         return ended(16, "ads: keeper fault\n", talk, out, puts, fail_put, leave)
     if fail == 1:

@@ -416,11 +416,12 @@ def served(machine, fails, cuts, events, limit=1000):
 
 
 def serve(said, fails, cuts, events, puts=None):
-    return on_a_wire(said, "serve plant.toml", protocol.Server(PLANT, SIGNALS), fails, cuts, events, puts)
+    return on_a_wire(said, "serve plant.toml", protocol.Server(PLANT, SIGNALS), events, (fails, cuts, puts))
 
 
-def on_a_wire(said, words, machine, fails, cuts, events, puts=None, limit=1000):
-    """A run of `serve` or `relay` over a wire."""
+def on_a_wire(said, words, machine, events, faults=(0, (), None), limit=1000):
+    """A run of `serve` or `relay` over a wire; the faults: the call that fails, what offers take, the piece of the output that can't be written."""
+    fails, cuts, puts = faults
     status, out, log = served(machine, fails, cuts, events, limit)
     plant = words.split()[1]
     lines = [f"# {line}" for line in said.splitlines()] + [f"words {words} --listen 127.0.0.1:48898 --events {limit}", f"file {plant}", f"from {plant}"]

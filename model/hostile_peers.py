@@ -295,12 +295,23 @@ def frames():
 # Entries and values.
 
 
-def entry(name=b"Main.count", kind=b"DINT", comment=b"", size=4, number=3, group=0x4040, offset=0, flags=0, whole=0, lengths=(0, 0, 0), nul=(0, 0, 0), behind=b""):
-    """A symbol's entry, whose length and the lengths of whose texts may lie, and behind whose texts another byte than NUL may stand."""
-    texts = (name, kind, comment)
-    rest = b"".join(u16((len(it) + lie) % 65536) for it, lie in zip(texts, lengths)) + b"".join(it + bytes([end]) for it, end in zip(texts, nul)) + behind
-    head = u32(group) + u32(offset) + u32(size) + u32(number) + u32(flags)
-    return u32((4 + len(head) + len(rest) + whole) % 2 ** 32) + head + rest
+def entry(name=b"Main.count", kind=b"DINT", comment=b"", **said):
+    """A symbol's entry. It may say what is not so: how much more `whole` and the `lengths` of its texts are, another byte than
+    NUL behind these (`nul`), and bytes `behind` them."""
+    it = {"size": 4, "number": 3, "group": 0x4040, "offset": 0, "flags": 0, "whole": 0, "behind": b"", **said}
+    rest = lengths_of((name, kind, comment), it) + ended_texts((name, kind, comment), it) + it["behind"]
+    head = u32(it["group"], it["offset"], it["size"], it["number"], it["flags"])
+    return u32((4 + len(head) + len(rest) + it["whole"]) % 2 ** 32) + head + rest
+
+
+def lengths_of(texts, it):
+    """The lengths of texts, which may lie."""
+    return b"".join(u16((len(text) + lie) % 65536) for text, lie in zip(texts, it.get("lengths", (0, 0, 0))))
+
+
+def ended_texts(texts, it):
+    """The texts, each with its NUL, or another byte."""
+    return b"".join(text + bytes([end]) for text, end in zip(texts, it.get("nul", (0, 0, 0))))
 
 
 def got(said, data, value=b"\x2a\0\0\0", words=("get", "Main.count")):
@@ -463,12 +474,15 @@ def samples():
 # Types.
 
 
-def type_entry(name, size, subs=(), number=65, kind=b"", offset=0, flags=1, dims=(), lengths=(0, 0, 0), nul=(0, 0, 0), whole=0, count=None, behind=b"", comment=b"", version=1, dim_count=None):
-    texts = (name, kind, comment)
-    rest = u32(version) + u32(0) + u32(0) + u32(size) + u32(offset) + u32(number) + u32(flags) + b"".join(u16((len(it) + lie) % 65536) for it, lie in zip(texts, lengths))
-    rest += u16(len(dims) if dim_count is None else dim_count) + u16(len(subs) if count is None else count) + b"".join(it + bytes([end]) for it, end in zip(texts, nul))
-    rest += b"".join(u32(low % 2 ** 32) + u32(some) for low, some in dims) + b"".join(subs) + behind
-    return u32((4 + len(rest) + whole) % 2 ** 32) + rest
+def type_entry(name, size, subs=(), number=65, kind=b"", **said):
+    """The entry of a type or a member. It may say what is not so, as that of a symbol, and of how many dimensions and
+    members it has (`dim_count`, `count`)."""
+    it = {"offset": 0, "flags": 1, "dims": (), "whole": 0, "behind": b"", "comment": b"", "version": 1, **said}
+    texts, dims = (name, kind, it["comment"]), it["dims"]
+    rest = u32(it["version"], 0, 0, size, it["offset"], number, it["flags"]) + lengths_of(texts, it)
+    rest += u16(it.get("dim_count", len(dims))) + u16(it.get("count", len(subs))) + ended_texts(texts, it)
+    rest += b"".join(u32(low % 2 ** 32, some) for low, some in dims) + b"".join(subs) + it["behind"]
+    return u32((4 + len(rest) + it["whole"]) % 2 ** 32) + rest
 
 
 def member(name, kind, size, offset, number=3, **how):
@@ -478,12 +492,14 @@ def member(name, kind, size, offset, number=3, **how):
 AXIS = (member(b"active", b"BOOL", 1, 0, 33), member(b"pos", b"DINT", 4, 4), member(b"label", b"STRING(5)", 6, 8, 30))
 
 
-def typed(said, types, count=None, kind=b"Axis", size=16, value=None, told=None, name=b"Main.axis[2]"):
-    """A `show` of a symbol of this type and size, by these types of the peer."""
-    own = entry(name, kind, size=size, number=65)
-    data = b"".join(types)
-    sizes = u32(6) + u32(300) + u32(len(types) if count is None else count) + u32(len(data) if told is None else told) + bytes(8)
-    return linked(said, COMMANDS["show"], in_turn([given(9, 1, own), given(2, 2, sizes), given(2, 3, data), given(9, 4, bytes(range(1, size + 1)) if value is None else value)]))
+def typed(said, types, *, kind=b"Axis", size=16, name=b"Main.axis[2]", **other):
+    """A `show` of a symbol of this type and size, by these types of the peer; another number of types (`count`), of their bytes
+    (`told`) and another value may come."""
+    own, data = entry(name, kind, size=size, number=65), b"".join(types)
+    sizes = u32(6, 300, other.get("count", len(types)), other.get("told", len(data))) + bytes(8)
+    value = other.get("value", bytes(range(1, size + 1)))
+    steps = [given(9, 1, own), given(2, 2, sizes), given(2, 3, data), given(9, 4, value)]
+    return linked(said, COMMANDS["show"], in_turn(steps))
 
 
 def nested(depth):
@@ -504,9 +520,9 @@ def types():
     for some in (0, 8, 23, 25, 32):
         yield linked(f"{some} bytes tell how large the upload of the types is.", COMMANDS["show"], in_turn([STEPS["show"][0], given(2, 2, bytes(some)), *STEPS["show"][2:]]))
     for count in (0, 2, 2 ** 32 - 1):
-        yield typed(f"{count} types are counted, and one comes.", [axis], count)
+        yield typed(f"{count} types are counted, and one comes.", [axis], count=count)
     yield typed("The peer tells an upload of 4,294,967,295 bytes of types.", [axis], told=2 ** 32 - 1)
-    yield typed("A byte behind the last type.", [axis, b"\0"], 1)
+    yield typed("A byte behind the last type.", [axis, b"\0"], count=1)
     for lie in (1, -1, -60, 2 ** 32 - 100):
         yield typed(f"The length of a type's entry is {lie:+} of what it is.", [type_entry(b"Axis", 16, AXIS, whole=lie), type_entry(b"E", 1)])
         yield typed(f"The length of a member's entry is {lie:+} of what it is.", [type_entry(b"Axis", 16, [AXIS[0], member(b"pos", b"DINT", 4, 4, whole=lie), AXIS[2]])])

@@ -36,10 +36,10 @@ def changed(*numbers):
     return [("open", 1)] + [event for k, n in enumerate(numbers, 1) for event in (put(k, bytes([n])), ("tick", k))]
 
 
-def keep(said, events, file=b"", *, fails=(), stop=None, change=(), d=None, lines=()):
+def keep(said, events, file=b"", *, fails=(), stop=None, lines=(), **other):
     """A run of `keep` over a script: `change` are lines that change the text of the plant, and d the description that it then is."""
-    disk = store.Disk(file, fails, stop)
-    status, out, _ = store.kept(d or PLANT, SIGNALS, events, disk)
+    disk, change = store.Disk(file, fails, stop), other.get("change", ())
+    status, out, _ = store.kept(other.get("d") or PLANT, SIGNALS, events, disk)
     head = [f"# {line}" for line in said.splitlines()] + ["words keep plant.toml it.script store", "file plant.toml", "from plant.toml", *change, "file it.script"]
     script = [line for event in events for line in hostile.lines_of(event, "plant2.toml")]
     handed = [f"disk {file_text(file)}"] if file else []

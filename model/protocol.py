@@ -156,8 +156,8 @@ class Types:
         if kind[0] == "named":
             return self.entry(self.named[kind[1].lower()])
         if kind[0] == "array":
-            return type_entry(self.size(kind), 0, self.number(kind[2]), 1, self.text(kind), self.text(kind[2]), "", kind[1], [])
-        return type_entry(self.size(kind), 0, self.number(kind), 1, self.text(kind), "", "", [], [])
+            return type_entry(self.size(kind), 0, self.number(kind[2]), 1, (self.text(kind), self.text(kind[2]), ""), kind[1])
+        return type_entry(self.size(kind), 0, self.number(kind), 1, (self.text(kind), "", ""))
 
     def step(self, kind, step):
         """The place of a part within its whole, its type, and its declared name and comment where it is a member."""
@@ -194,14 +194,15 @@ class Types:
     def entry(self, it):
         if "base" in it:
             size, number = PLAIN[it["base"]]
-            return type_entry(size, 0, number, 1, it["name"], it["base"], "", [], [])
-        subs = [type_entry(self.size(kind), at, self.number(kind), 2, name, self.text(kind), comment, kind[1] if kind[0] == "array" else [], [])
+            return type_entry(size, 0, number, 1, (it["name"], it["base"], ""))
+        subs = [type_entry(self.size(kind), at, self.number(kind), 2, (name, self.text(kind), comment), kind[1] if kind[0] == "array" else [])
                 for name, kind, at, comment in it["members"]]
-        return type_entry(it["size"], 0, 65, 1, it["name"], "", "", [], subs)
+        return type_entry(it["size"], 0, 65, 1, (it["name"], "", ""), subs=subs)
 
 
-def type_entry(size, at, number, flags, name, kind, comment, dims, subs):
-    texts = [text.encode() for text in (name, kind, comment)]
+def type_entry(size, at, number, flags, texts, dims=(), subs=()):
+    """The entry of a type or a member: its texts are the name, the type and the comment."""
+    texts = [text.encode() for text in texts]
     head = u32(1) + u32(0) + u32(0) + u32(size) + u32(at) + u32(number) + u32(flags) + b"".join(u16(len(text)) for text in texts) + u16(len(dims)) + u16(len(subs))
     rest = b"".join(text + b"\0" for text in texts) + b"".join(struct.pack("<iI", low, count) for low, count in dims) + b"".join(subs)
     return u32(4 + len(head) + len(rest)) + head + rest
@@ -369,9 +370,10 @@ class Server:
 
     # Frames.
 
-    def produce(self, conn, target, source, command, flags, error, number, payload, kind, samples=0):
-        if queued(conn, framed(target, source, command, flags, error, number, payload)):
-            self.replies += kind == "reply"
+    def produce(self, conn, frame, replies=0, samples=0):
+        """Queues a frame, which counts for so much if it has room."""
+        if queued(conn, frame):
+            self.replies += replies
             self.samples += samples
 
     def take(self, conn):
@@ -385,7 +387,7 @@ class Server:
         payload = ams[32:]
 
         def answer(error, reply):
-            self.produce(conn, source, target, command, 5, error, number, reply, "reply")
+            self.produce(conn, framed(source, target, command, 5, error, number, reply), replies=1)
 
         if length != len(payload):
             return answer(0xE, b"")
@@ -421,30 +423,29 @@ class Server:
         if head and (len(payload) < head or struct.unpack("<I", payload[head - 4:head])[0] != len(payload) - head):
             raise Refused(0x705)
         words = struct.unpack(f"<{len(payload[:head or 24]) // 4}I", payload[:(head or 24) // 4 * 4]) if command not in (1, 4, 5) else ()
-        rights = self.rights_of(source[:6])
         if command == 1:
             return port.facts()
         if command == 2:
             given = self.read(conn, port, *words)
             return u32(len(given)) + given
         if command == 3:
-            self.write(conn, port, source, rights, words[0], words[1], payload[12:])
+            self.write(conn, port, source, words[0], words[1], payload[12:])
             return b""
         if command == 4:
             return u16(port.state[0]) + u16(port.state[1])
         if command == 5:
             ads, device = struct.unpack("<HH", payload[:4])
-            if rights < 3:
+            if self.rights_of(source[:6]) < 3:
                 raise Refused(0x704)
             if ads not in (5, 6):
                 raise Refused(0x706)
             port.state = ads, device
             return b""
         if command == 6:
-            return u32(self.add(conn, port, source, *words))
+            return u32(self.add(conn, port, source, words))
         if command == 7:
             return self.delete(conn, port, words[0])
-        given = self.read_write(conn, port, source, rights, words[0], words[1], words[2], payload[16:])
+        given = self.read_write(conn, port, source, words, payload[16:])
         return u32(len(given)) + given
 
     def handle(self, conn, port, number):
@@ -509,7 +510,7 @@ class Server:
             raise Refused(0x705)
         return given
 
-    def write(self, conn, port, source, rights, group, offset, given):
+    def write(self, conn, port, source, group, offset, given):
         if group == 0xF006:
             if len(given) != 4:
                 raise Refused(0x705)
@@ -521,7 +522,7 @@ class Server:
             return
         if group not in BYTES_OF and group not in BITS_OF and group != 0xF005:
             raise Refused(0x702)
-        if rights < 2:
+        if self.rights_of(source[:6]) < 2:
             raise Refused(0x704)
         if group in BITS_OF:
             area = BITS_OF[group]
@@ -541,10 +542,10 @@ class Server:
             port.guard(area, at, len(given), source[:6])
         port.put(area, at, given)
 
-    def read_write(self, conn, port, source, rights, group, offset, most, given):
-        if group in self.sums:
-            return self.sum(conn, port, source, rights, group, offset, most, given)
-        return self.ask(conn, port, group, most, given)
+    def read_write(self, conn, port, source, words, given):
+        if words[0] in self.sums:
+            return self.sum(conn, port, source, words, given)
+        return self.ask(conn, port, words[0], words[2], given)
 
     def ask(self, conn, port, group, most, given):
         if group == 0xF011 and self.wide:
@@ -587,7 +588,8 @@ class Server:
         given = given.split(b"\0")[0]
         return given[1:] if given.startswith(b".") else given
 
-    def sum(self, conn, port, source, rights, group, count, most, given):
+    def sum(self, conn, port, source, words, given):
+        group, count, most = words[:3]
         if count > 500:
             raise Refused(0x706)
         width = head_width(group, count, len(given))
@@ -605,7 +607,7 @@ class Server:
         for head, own, room in zip(heads, written, asked):
             code, got = 0, b""
             try:
-                got = self.part(conn, port, source, rights, group, head, given[at:at + own])
+                got = self.part(conn, port, source, group, head, given[at:at + own])
             except Refused as refused:
                 code = refused.code
             at += own
@@ -613,20 +615,21 @@ class Server:
             data += got.ljust(room, b"\0") if group in (0xF080, 0xF083) else got if group in (0xF082, 0xF084) else b""
         return results + data
 
-    def part(self, conn, port, source, rights, group, head, given):
+    def part(self, conn, port, source, group, head, given):
         """What a part of a sum of this group gives."""
         if group in (0xF080, *TOLD_SUMS):
             return self.read(conn, port, *head)
         if group == 0xF081:
-            self.write(conn, port, source, rights, head[0], head[1], given)
+            self.write(conn, port, source, head[0], head[1], given)
             return b""
         if group == 0xF085:
-            return u32(self.add(conn, port, source, *head[:6]))
+            return u32(self.add(conn, port, source, head[:6]))
         if group == 0xF086:
             return self.delete(conn, port, head[0])
         return self.ask(conn, port, head[0], head[2], given)
 
-    def add(self, conn, port, source, group, offset, count, mode, _delay, cycle):
+    def add(self, conn, port, source, words):
+        group, offset, count, mode, _, cycle = words
         mode = {5: 3, 6: 4}.get(mode, mode) if self.wide else mode
         if mode not in (3, 4):
             raise Refused(0x713)
@@ -680,7 +683,7 @@ class Server:
         for (port, to), found in groups.items():
             stamp = struct.pack("<Q", self.moment) + u32(len(found)) + b"".join(u32(number) + u32(len(given)) + given for number, given in found)
             payload = u32(4 + len(stamp)) + u32(1) + stamp
-            self.produce(conn, to, net + u16(port), 8, 4, 0, 0, payload, "note", len(found))
+            self.produce(conn, framed(to, net + u16(port), 8, 4, 0, 0, payload), samples=len(found))
 
     def tick(self, time):
         self.moment = max(self.moment, time)

@@ -74,7 +74,7 @@ def run(said, events, plant="relay.toml"):
 
 def wire(said, events, fails=0, cuts=(), puts=None, limit=1000):
     """A run of `relay` over a wire."""
-    return hostile.on_a_wire(said, "relay relay.toml", protocol.Relay(D), fails, cuts, events, puts, limit)
+    return hostile.on_a_wire(said, "relay relay.toml", protocol.Relay(D), events, (fails, cuts, puts), limit)
 
 
 # The plain cases.

@@ -66,8 +66,9 @@ def whole(path, least=0):
     return rows
 
 
-def record(program, names, mode, count, store, peer, cycle=0, **more):
-    return subprocess.run([program, "record", *names, "--mode", mode, "--cycle", str(cycle), "--count", str(count), "--store", str(store), *peer],
+def record(program, names, mode, count, store, peer, **more):
+    given = ["--mode", mode, "--cycle", "0", "--count", str(count), "--store", str(store)]
+    return subprocess.run([program, "record", *names, *given, *peer],
                           stdout=subprocess.PIPE, stderr=subprocess.DEVNULL, text=True, timeout=120, **more)
 
 
