@@ -3,16 +3,17 @@
 
     python3 bench/beats.py [PROGRAM] [--seconds S]
 
-PROGRAM is crates/ads/out/ads, which `rt run -- selftest ../../examples/state.script` in crates/ads builds. Four connections have a notification in cycle
-mode each, of 10, 20, 50 and 100 ms. Under load 60 more ask for the state without end, one request in flight on each, by two processes. Of each cycle one
-line: how many samples came in S seconds (60 unless told), the mean gap between two, the longest gap, and how many beats of the cycle were missed, by the
-moments of the samples. The program ends with 1 where the mean gap of the 10 ms cycle is above 10.5 ms (5 % above the cycle for the others), or where a moment does not lie a whole
-number of cycles behind the last.
+PROGRAM is crates/ads/out/ads, which `rt run -- selftest ../../examples/state.script` in crates/ads builds. Four
+connections have a notification in cycle mode each, of 10, 20, 50 and 100 ms. Under load 60 more ask for the state
+without end, one request in flight on each, by two processes. Of each cycle one line: how many samples came in S seconds
+(60 unless told), the mean gap between two, the longest gap, and how many beats of the cycle were missed, by the moments
+of the samples. The program ends with 1 where the mean gap of the 10 ms cycle is above 10.5 ms (5 % above the cycle for
+the others), or where a moment does not lie a whole number of cycles behind the last.
 
-With --wall the system's wall clock is set for the program alone (tries/set_clocks.c, which gcc builds). For a server: an hour forward, and then two hours
-back, while samples come; it prints how the moments follow. For a client: an hour forward just before each answer comes, which must time nothing out; and two
-hours back while no answer comes, which must end it after its five seconds all the same.
-"""
+With --wall the system's wall clock is set for the program alone (tries/set_clocks.c, which gcc builds). For a server:
+an hour forward, and then two hours back, while samples come; it prints how the moments follow. For a client: an hour
+forward just before each answer comes, which must time nothing out; and two hours back while no answer comes, which must
+end it after its five seconds all the same. """
 import argparse
 import os
 import selectors
@@ -68,7 +69,8 @@ class Cycle:
         steps = [b - a for a, b in zip(self.moments, self.moments[1:])]
         missed = sum(step // (self.cycle * MS) - 1 for step in steps)
         even = all(step > 0 and step % (10 * MS) == 0 for step in steps)
-        return (f"{self.cycle:5} ms {count:9} {mean:11.3f} ms {longest:11.1f} ms {missed:8}" + ("" if even else "  moments off the beats"),
+        return (f"{self.cycle:5} ms {count:9} {mean:11.3f} ms {longest:11.1f} ms {missed:8}"
+                + ("" if even else "  moments off the beats"),
                 even and mean <= 1.05 * self.cycle)
 
 
@@ -172,7 +174,8 @@ def wall_of_clients(program, clocks):
                 clocks.set(0)
                 status, printed, took = ended(program, words, near, clocks.env)
             good = (status, printed) == (0, wanted)
-            print(f"wall clock of {words[0]} an hour forward before each answer: status {status}, {took:.1f} s", flush=True)
+            print(f"wall clock of {words[0]} an hour forward before each answer: status {status}, {took:.1f} s",
+                  flush=True)
             right = right and good
     with socket.create_server(("127.0.0.1", 0)) as silent:
         clocks.set(0)
@@ -233,7 +236,8 @@ def told_of(it, name, seconds):
     off = it.moments[-1] / 1e7 - 11644473600 - time.time() - seconds
     steps = sorted(b - a for a, b in zip(it.moments, it.moments[1:]))
     longest = 1e3 * max(b - a for a, b in zip(it.came, it.came[1:]))
-    print(f"wall clock {name}: {len(it.came)} samples in 10 s, longest gap {longest:.0f} ms, greatest step of a moment {steps[-1] / 1e7:.2f} s, moments {off:+.2f} s off")
+    print(f"wall clock {name}: {len(it.came)} samples in 10 s, longest gap {longest:.0f} ms, greatest step of a moment "
+          f"{steps[-1] / 1e7:.2f} s, moments {off:+.2f} s off")
     return len(it.came) > 900 and steps[0] > 0 and all(step % (10 * MS) == 0 for step in steps)
 
 

@@ -3,9 +3,10 @@
 
     python3 bench/check.py [PROGRAM]      crates/ads/out/ads where it is absent
 
-One port of 1,000, 2,000, 5,000 and 10,000 symbols, and 16 ports of 10,000: the ratio of the greatest time per symbol to the least is to be at most 1.6. The
-other descriptions tell what grows with what: their times per element are printed for two sizes or more. Two of them rise: symbols in falling order of offset,
-which are put before those that came, and first values, which are looked for among an enumeration's values one by one.
+One port of 1,000, 2,000, 5,000 and 10,000 symbols, and 16 ports of 10,000: the ratio of the greatest time per symbol to
+the least is to be at most 1.6. The other descriptions tell what grows with what: their times per element are printed
+for two sizes or more. Two of them rise: symbols in falling order of offset, which are put before those that came, and
+first values, which are looked for among an enumeration's values one by one.
 
 Times are processor times of the program, the least of five runs.
 """
@@ -66,7 +67,8 @@ def of_enumerations(values, count):
 
 
 def of_routes(count):
-    rows = [f'[[route]]\nnet = "{i >> 16 & 255}.{i >> 8 & 255}.{i & 255}.1.1.1"\nrights = "read"\n' for i in range(count)]
+    rows = [f'[[route]]\nnet = "{i >> 16 & 255}.{i >> 8 & 255}.{i & 255}.1.1.1"\nrights = "read"\n'
+            for i in range(count)]
     return HEAD + "".join(rows) + plain_port(851, 1)
 
 
@@ -74,7 +76,8 @@ def nested_at_zero(count):
     """Symbols that all stand at offset 0, of a type that nests 16 structures of two members each."""
     rows = ['[[type]]\nname = "T0"\nmember = [{ name = "a", type = "BOOL" }, { name = "b", type = "BOOL" }]\n']
     for t in range(1, 16):
-        rows.append(f'[[type]]\nname = "T{t}"\nmember = [{{ name = "a", type = "T{t - 1}" }}, {{ name = "b", type = "T{t - 1}" }}]\n')
+        rows.append(f'[[type]]\nname = "T{t}"\nmember = [{{ name = "a", type = "T{t - 1}" }}, {{ name = "b", type = '
+                    f'"T{t - 1}" }}]\n')
     return HEAD + "".join(rows) + port(851, [symbol(f"v{i}", "T15", 0) for i in range(count)], 1 << 16)
 
 

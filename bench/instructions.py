@@ -1,17 +1,20 @@
 #!/usr/bin/env python3
-"""How many instructions `ads serve` or `adsd` takes for a request, by valgrind's callgrind: a figure that other work on the machine does not change.
+"""How many instructions `ads serve` or `adsd` takes for a request, by valgrind's callgrind: a figure that other work on
+the machine does not change.
 
-    python3 bench/instructions.py PROGRAM [--top N] [--still] [-- WORD ..]     a table (Markdown); with --top, the N functions that cost most of a request of each kind
+    python3 bench/instructions.py PROGRAM [--top N] [--still] [-- WORD ..]
+        a table (Markdown); with --top, the N functions that cost most of a request of each kind
 
-With --still the server's clocks stand still (still_clock.c), so that no tick comes: figures that a busy machine does not raise either, and that repeat to 1 in 1,000.
-PROGRAM is `ads` or `adsd`, which is known by its name; the words go to it, as in `bench/instructions.py crates/adsd/out/adsd -- --profile strict`.
+With --still the server's clocks stand still (still_clock.c), so that no tick comes: figures that a busy machine does
+not raise either, and that repeat to 1 in 1,000. PROGRAM is `ads` or `adsd`, which is known by its name; the words go to
+it, as in `bench/instructions.py crates/adsd/out/adsd -- --profile strict`.
 
-The plant and the requests are those of bench/serve.py. Eight connections each send 32 requests of a kind at once and wait for all replies; that is a round. Each kind is
-run for 4 rounds and for 20, and the difference of both counts, over the requests of 16 rounds, is what a request costs: the start, the handles and most ticks fall out.
-The kind "sample" is other: each connection has 512 notifications of a symbol that changes at each tick, and a sample is counted, of a run of 8 ticks and one of 40. Its
-clocks go, so that ticks come.
-Copies of the C library and its malloc are in the count. Every reply's length and result are looked at; bytes are compared by serve.py.
-"""
+The plant and the requests are those of bench/serve.py. Eight connections each send 32 requests of a kind at once and
+wait for all replies; that is a round. Each kind is run for 4 rounds and for 20, and the difference of both counts, over
+the requests of 16 rounds, is what a request costs: the start, the handles and most ticks fall out. The kind "sample" is
+other: each connection has 512 notifications of a symbol that changes at each tick, and a sample is counted, of a run of
+8 ticks and one of 40. Its clocks go, so that ticks come. Copies of the C library and its malloc are in the count. Every
+reply's length and result are looked at; bytes are compared by serve.py. """
 import argparse
 import contextlib
 import os
@@ -31,14 +34,16 @@ from random_runs import toml_of  # noqa: E402
 from under_test import FOREVER, Program, daemon_words, next_frame, preload  # noqa: E402
 
 CONNECTIONS, DEPTH, ROUNDS = 8, 32, (4, 20)
-KINDS = {"state": "s", "read of 4 bytes": "r", "by handle": "h", "write by group": "w", "write by handle": "W", "sum of 100 reads": "S",
+KINDS = {"state": "s", "read of 4 bytes": "r", "by handle": "h", "write by group": "w", "write by handle": "W",
+         "sum of 100 reads": "S",
          "mixture": "rswhrhsWrhrwshrSWhrs", "sample": ""}
 SAMPLE = "sample"
 
 
 def frames(k, asked, first_id):
     """One text of frames of connection k, a frame a request."""
-    return b"".join(serve.request_of(k, command, number, payload) for number, (command, payload) in enumerate(asked, first_id))
+    return b"".join(serve.request_of(k, command, number, payload) for number,
+                    (command, payload) in enumerate(asked, first_id))
 
 
 def replies(conn, count):
@@ -79,7 +84,8 @@ def counted(program, kinds, rounds, more, env=None):
         for number in range(rounds):
             for k, conn in enumerate(conns):
                 r = random.Random(f"{k} {number}")
-                asked = [serve.request(kinds[i % len(kinds)], serve.OWN * k, r) for i in range(DEPTH * number, DEPTH * (number + 1))]
+                asked = [serve.request(kinds[i % len(kinds)], serve.OWN * k, r)
+                         for i in range(DEPTH * number, DEPTH * (number + 1))]
                 conn.sendall(frames(k, asked, 1000 + DEPTH * number))
             for conn in conns:
                 replies(conn, DEPTH)
@@ -139,8 +145,10 @@ def total(log):
 
 
 def by_function(log):
-    said = subprocess.run(["callgrind_annotate", "--threshold=100", log], capture_output=True, text=True, check=True).stdout
-    return {name: int(count.replace(",", "")) for count, name in re.findall(r"^\s*([\d,]+) \([^)]*\)\s+\S*?:(.*?)(?: \[.*)?$", said, re.M)}
+    said = subprocess.run(["callgrind_annotate", "--threshold=100", log], capture_output=True, text=True,
+                          check=True).stdout
+    return {name: int(count.replace(",", "")) for count,
+            name in re.findall(r"^\s*([\d,]+) \([^)]*\)\s+\S*?:(.*?)(?: \[.*)?$", said, re.M)}
 
 
 def print_table(program, kinds, top, more, still=False):

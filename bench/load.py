@@ -3,9 +3,9 @@
 
     python3 bench/load.py [PROGRAM]      crates/ads/out/ads where it is absent; rustc builds the plain one
 
-Both make a description and a script of N requests by four clients, read them back, play them and print the counts, which must be the same lines. Times are processor
-times, the least of five runs, and the greatest memory. `load 100000` is to take at most twice the time of the plain program; N of 25,000, 50,000 and 100,000 show
-whether the time is linear.
+Both make a description and a script of N requests by four clients, read them back, play them and print the counts,
+which must be the same lines. Times are processor times, the least of five runs, and the greatest memory. `load 100000`
+is to take at most twice the time of the plain program; N of 25,000, 50,000 and 100,000 show whether the time is linear.
 """
 import os
 import subprocess
@@ -51,7 +51,8 @@ def main(words):
             other, plain_seconds, plain_memory = least([plain, str(n)])
             if text != other:
                 sys.exit(f"load {n}: {text!r}, but the plain program counts {other!r}")
-            print(f"{n} | {seconds:.3f} | {plain_seconds:.3f} | {seconds / plain_seconds:.2f} | {memory:.0f} | {plain_memory:.0f}")
+            print(f"{n} | {seconds:.3f} | {plain_seconds:.3f} | {seconds / plain_seconds:.2f} | {memory:.0f} | "
+                  f"{plain_memory:.0f}")
 
 
 if __name__ == "__main__":

@@ -3,9 +3,10 @@
 
     python3 bench/reload.py [PROGRAM]      crates/ads/out/ads where it is absent
 
-One port of 1,000 and of 10,000 symbols. A build is what `replay` of an empty script costs more than `check`, which reads the same text and builds nothing. A
-reload is what an accepted text costs more than one that is refused by one of the last rules, which is read and judged alike. For 10,000 symbols a reload is to take at most
-20 milliseconds; its ratio to a build is printed.
+One port of 1,000 and of 10,000 symbols. A build is what `replay` of an empty script costs more than `check`, which
+reads the same text and builds nothing. A reload is what an accepted text costs more than one that is refused by one of
+the last rules, which is read and judged alike. For 10,000 symbols a reload is to take at most 20 milliseconds; its
+ratio to a build is printed.
 
 Times are processor times of the program, the least of five runs.
 """
@@ -22,7 +23,8 @@ RELOADS = 10
 def plant(count, signal=""):
     head = 'schema = 1\nnet = "5.1.2.3.1.1"\n[[route]]\nnet = "192.168.0.9.1.1"\nrights = "control"\n'
     head += f'[[port]]\nport = 851\nname = "Plc"\nmajor = 1\nminor = 0\nbuild = 0\ndata = {4 * count}\n'
-    rows = [f'[[port.symbol]]\nname = "Plant.Line.Station.v{i}"\ntype = "DINT"\narea = "data"\noffset = {4 * i}\n' for i in range(count)]
+    rows = [f'[[port.symbol]]\nname = "Plant.Line.Station.v{i}"\ntype = "DINT"\narea = "data"\noffset = {4 * i}\n'
+            for i in range(count)]
     rows[-1] += signal
     return head + "".join(rows)
 

@@ -3,8 +3,9 @@
 
     python3 bench/replay.py [PROGRAM]      crates/ads/out/ads where it is absent
 
-1,000, 10,000 and 100,000 reads of four bytes on one connection: the ratio of the time per request of the last to the first is to be at most 1.3. With 100 and
-1,000 further connections open beside the one that asks, and with 10,000 replies that wait for another connection, a request is to cost at most a tenth more.
+1,000, 10,000 and 100,000 reads of four bytes on one connection: the ratio of the time per request of the last to the
+first is to be at most 1.3. With 100 and 1,000 further connections open beside the one that asks, and with 10,000
+replies that wait for another connection, a request is to cost at most a tenth more.
 
 Times are processor times of the program, the least of five runs, less that of the same run without the requests.
 """

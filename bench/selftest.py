@@ -3,10 +3,10 @@
 
     python3 bench/selftest.py [PROGRAM]      crates/ads/out/ads where it is absent
 
-The files hold 1, 2, 4 and 8 MiB of text, whose frames have AMS length 64: 70 bytes come in and 38 go out a frame, so that all are answered. The ratio of
-the last time of these per MiB to the first is to be at most 1.3. The last file holds whole state requests in 16 MiB of text: the queue limit shuts the connection, and
-the file takes no longer per MiB.
-"""
+The files hold 1, 2, 4 and 8 MiB of text, whose frames have AMS length 64: 70 bytes come in and 38 go out a frame, so
+that all are answered. The ratio of the last time of these per MiB to the first is to be at most 1.3. The last file
+holds whole state requests in 16 MiB of text: the queue limit shuts the connection, and the file takes no longer per
+MiB. """
 import sys
 
 sys.dont_write_bytecode = True
@@ -33,7 +33,8 @@ def main(words):
         rows.append(taken / mib)
         print(f"{mib} MiB  {frames} frames  {taken:.3f} s  {taken / mib:.4f} s/MiB  {summary}")
     ratio = rows[3] / rows[0]
-    print(f"ratio of 8 MiB to the first: {ratio:.2f} (at most 1.3); of state requests to 8 MiB: {rows[4] / rows[3]:.2f}")
+    print(f"ratio of 8 MiB to the first: {ratio:.2f} (at most 1.3); of state requests to 8 MiB: "
+          f"{rows[4] / rows[3]:.2f}")
     return 1 if ratio > 1.3 else 0
 
 

@@ -13,8 +13,8 @@ def spent():
 
 
 def seconds_of(words, texts, times=5, is_right=lambda status, last: status == 0):
-    """The least processor time of so many runs over files of these texts, in a folder of their own, and the last line that
-    a run printed. One whose end is not right ends this program."""
+    """The least processor time of so many runs over files of these texts, in a folder of their own, and the last line
+    that a run printed. One whose end is not right ends this program."""
     took = []
     with tempfile.TemporaryDirectory() as folder:
         for name, text in texts.items():

@@ -1,25 +1,31 @@
 #!/usr/bin/env python3
-"""What must be believed by reading, for the contracts of the top call `run` and of the daemon to mean what their words say.
+"""What must be believed by reading, for the contracts of the top call `run` and of the daemon to mean what their words
+say.
 
     python3 house/believed.py             a line a part, and the sum
-    python3 house/believed.py --files     a line a file of a part, in reading order: its lines there, and all that it has
+    python3 house/believed.py --files
+        a line a file of a part, in reading order: its lines there, and all that it has
     python3 house/believed.py --names     a line a definition
     python3 house/believed.py --write     writes docs/BELIEVED.md
-    python3 house/believed.py --check     status 1 where that page is another, or something is not right: `wrong_in` says what
-    python3 house/believed.py --tried     how many lines of the definitions of each part the worked examples reach, and a line a definition that none reaches
+    python3 house/believed.py --check
+        status 1 where that page is another, or something is not right: `wrong_in` says what
+    python3 house/believed.py --tried
+        how many lines of the definitions of each part the worked examples reach, and a line a definition that none
+        reaches
     python3 house/believed.py --spare     definitions that stand twice, and those that nobody reaches: what might be cut
     python3 house/believed.py --from crates/X/src/y.rt:name      one function or definition by itself
 
-It follows the names: from the clauses of a function to the definitions that they cite, to those that these cite, and so on. A definition
-counts with the comment above it; an operator of our own and `do` count as names. A type of the code that a definition names counts with its
-fields and with what contracts see of it, a trait with all that it is seen as and all that its calls promise. What stands in the library `std`
-or in a crate of the kit is named at the end and not counted.
+It follows the names: from the clauses of a function to the definitions that they cite, to those that these cite, and so
+on. A definition counts with the comment above it; an operator of our own and `do` count as names. A type of the code
+that a definition names counts with its fields and with what contracts see of it, a trait with all that it is seen as
+and all that its calls promise. What stands in the library `std` or in a crate of the kit is named at the end and not
+counted.
 
-The parts are made of the theorems that they are for (PARTS): a definition stands in the first part whose theorems reach it. Two things are
-taken apart. A type of CHOICES is a choice of what a program does: a case counts from the part on that makes this case, and so does an equation
-that says what becomes of it. (A clause about all values of such a type would need all cases: `wrong_in` looks that there is none.) And of a
-trait of PROVED, whose implementation in the programs is proved, the calls count in the last part only.
-"""
+The parts are made of the theorems that they are for (PARTS): a definition stands in the first part whose theorems reach
+it. Two things are taken apart. A type of CHOICES is a choice of what a program does: a case counts from the part on
+that makes this case, and so does an equation that says what becomes of it. (A clause about all values of such a type
+would need all cases: `wrong_in` looks that there is none.) And of a trait of PROVED, whose implementation in the
+programs is proved, the calls count in the last part only. """
 import collections
 import functools
 import pathlib
@@ -30,21 +36,28 @@ ROOT = pathlib.Path(__file__).resolve().parent.parent
 CRATES = ROOT / "crates"
 PAGE, GUARANTEES = ROOT / "docs/BELIEVED.md", ROOT / "docs/GUARANTEES.md"
 
-# The parts of docs/BELIEVED.md, in reading order: a title, what it is, and the functions and definitions that it is for.
+# The parts of docs/BELIEVED.md, in reading order: a title, what it is, and the functions and definitions that it is
+# for.
 PARTS = (
-    ("The server", "What `serve` promises: first what a plant is, and the bytes on the wire (`spec_formats`, to be read beside the Beckhoff Information "
-     "System); then which descriptions are accepted (`spec_rules`), the written server (`spec_machine`), its laws and promises, and how a run goes and ends.",
+    ("The server", "What `serve` promises: first what a plant is, and the bytes on the wire (`spec_formats`, to be "
+     "read beside the Beckhoff Information "
+     "System); then which descriptions are accepted (`spec_rules`), the written server (`spec_machine`), its laws and "
+     "promises, and how a run goes and ends.",
      ("crates/plant_commands/src/serve_file.rt:serve",)),
     ("The relay", "What `relay` promises over a wire.", ("crates/plant_commands/src/relay_serve.rt:serve_relay",)),
     ("Scripts", "How a script is read, and the text of its play.",
      ("crates/spec_server/specs/Server.antt:server_script", "crates/spec_server/specs/Server.antt:server_text")),
-    ("Stores", "What `keep` promises: a file of kept values, a disk, and what a stop of the machine may leave.", ("crates/plant_commands/src/keep_file.rt:keep",)),
-    ("Clients", "What `get`, `set`, `watch`, `record` and the others ask, print and end with; a link, and a table of samples.",
+    ("Stores", "What `keep` promises: a file of kept values, a disk, and what a stop of the machine may leave.",
+     ("crates/plant_commands/src/keep_file.rt:keep",)),
+    ("Clients", "What `get`, `set`, `watch`, `record` and the others ask, print and end with; a link, and a table of "
+     "samples.",
      ("crates/client_commands/src/asking.rt:ask", "crates/client_commands/src/recording.rt:record")),
     ("The daemon", "What a run of `adsd` promises, with a store or without one.",
      ("crates/daemon_run/src/plant.rt:run_plant", "crates/daemon_run/src/plant_watched.rt:run_watched")),
-    ("The command line", "What `run` promises: which words are a command, and what each comes to.", ("crates/ads_run/src/top_call.rt:run",)),
-    ("Other signals", "What signals must keep that are not those of the programs. Of those of the programs it is proved, so nobody needs this part for them.",
+    ("The command line", "What `run` promises: which words are a command, and what each comes to.",
+     ("crates/ads_run/src/top_call.rt:run",)),
+    ("Other signals", "What signals must keep that are not those of the programs. Of those of the programs it is "
+     "proved, so nobody needs this part for them.",
      ("crates/server_core/src/sources.rt:calls of Sources",)),
 )
 # traits whose implementation in the programs is proved
@@ -76,12 +89,14 @@ def uses_of(lines):
                 LOST.add(f"a use that can't be followed: {line}")
             if found:
                 public, path, names, alias = found.groups()
-                yield bool(public), path.replace("::", "."), [n.strip() for n in names.split(",") if n.strip()] if names else None, alias
+                yield bool(public), path.replace("::", "."), [n.strip() for n in names.split(",")
+                                                              if n.strip()] if names else None, alias
         at += 1
 
 
 class Item:
-    """A definition, an equation or a case of one, a type or trait of the code, or the contract of a function: a name, and lines of a file."""
+    """A definition, an equation or a case of one, a type or trait of the code, or the contract of a function: a name,
+    and lines of a file."""
 
     def __init__(self, file, name, lines, needs=()):
         self.file, self.name, self.needs, self.cites, self.behind = file, name, needs, None, None
@@ -121,8 +136,11 @@ class Page:
         self.lines = path.read_text().split("\n")
         while self.lines and not self.lines[-1]:
             self.lines.pop()
-        # what is defined here; the cases of choices; what each imported name is, and what else where it is imported twice, as a definition and as code
-        self.items, self.cases, self.imports, self.others, self.modules, self.exports = {}, set(), {}, collections.defaultdict(list), {}, {}
+        # what is defined here; the cases of choices; what each imported name is, and what else where it is imported
+        # twice, as a definition and as code
+        self.items, self.cases, self.imports, self.others, self.modules, self.exports = ({}, set(), {},
+                                                                                         collections.defaultdict(list),
+                                                                                         {}, {})
         for public, path_of, names, alias in uses_of(self.lines):
             above, _, last = path_of.rpartition(".")
             if names is None:
@@ -176,7 +194,8 @@ class Page:
             case = CASES.match(self.lines[k])
             if case:
                 self.cases.add(case.group(1))
-                last = next((j for j in range(k + 1, end) if CASES.match(self.lines[j]) or self.lines[j].lstrip().startswith("--")), end)
+                last = next((j for j in range(k + 1, end) if CASES.match(self.lines[j])
+                             or self.lines[j].lstrip().startswith("--")), end)
                 self.items[case.group(1)] = Item(self, case.group(1), range(from_there, last))
                 from_there = last
 
@@ -196,9 +215,11 @@ class Page:
                 end, first, name = block_end(self.lines, at) + 1, with_comment(self.lines, at), found.group(2)
                 seen = range(first, end)
                 if found.group(1) == "trait" and name in PROVED:
-                    seen = [*range(first, at + 1), *(k for m in range(at, end) if re.match(r"    ghost \w+:.*;$", self.lines[m])
+                    seen = [*range(first, at + 1), *(k for m in range(at, end)
+                                                     if re.match(r"    ghost \w+:.*;$", self.lines[m])
                                                      for k in range(with_comment(self.lines, m), m + 1)), end - 1]
-                    self.items["calls of " + name] = Item(self, "calls of " + name, [k for k in range(first, end) if k not in seen])
+                    self.items["calls of " + name] = Item(self, "calls of " + name,
+                                                          [k for k in range(first, end) if k not in seen])
                 self.items[name] = Item(self, name, seen)
                 if name in CHOICES:
                     self.read_variants(name, at, end)
@@ -210,7 +231,8 @@ class Page:
             found = re.match(r"pub fn (\w+)", line)
             if found:
                 end = next((k for k in range(at, len(self.lines)) if self.lines[k] in ("{", "{}")), at)
-                self.items.setdefault("fn " + found.group(1), Item(self, found.group(1), range(with_comment(self.lines, at), end)))
+                self.items.setdefault("fn " + found.group(1), Item(self, found.group(1),
+                                                                   range(with_comment(self.lines, at), end)))
 
 
 PAGES = {}
@@ -249,7 +271,8 @@ def find(where, name):
                     return found.items[word]
             return exported(crate, name)
         for length in (len(parts), len(parts) - 1) if kind in ("specs", "proofs") else ():
-            found = page((CRATES / crate / kind / pathlib.Path(*parts[:length])).with_suffix(".antt")) if length else None
+            found = page((CRATES / crate / kind / pathlib.Path(*parts[:length])).with_suffix(
+                ".antt")) if length else None
             if found:
                 word = name if name in found.items or name in found.exports else ".".join(parts[length:]) or name
                 if word in found.items:
@@ -319,7 +342,9 @@ def meant(here, word, own):
         if name in here.imports:
             where = here.imports[name]
             found = find(*within(here.crate, *where))
-            if not found and name not in here.modules and where[0].split(".")[0] in ("Rattle", "crate") and not is_of_kit(where[0]):
+            if not found and name not in here.modules and where[0].split(".")[0] in ("Rattle",
+                                                                                     "crate") and not is_of_kit(where[
+                0]):
                 LOST.add(f"{here.path.relative_to(ROOT)}: {'.'.join(where)} is not found")
             return found
     return None
@@ -329,22 +354,28 @@ def cited(item):
     """The items that an item names."""
     if item.cites is None:
         words = dict.fromkeys([*WORD.findall(item.text), *operators(item)])
-        others = [find(*within(item.file.crate, *where)) for word in words for where in item.file.others.get(word.partition(".")[0], ())]
-        found = {id(it): it for it in (*(meant(item.file, word, item.name) for word in words), *others) if it and it is not item}
+        others = [find(*within(item.file.crate, *where)) for word in words
+                  for where in item.file.others.get(word.partition(".")[0], ())]
+        found = {id(it): it for it in (*(meant(item.file, word, item.name) for word in words), *others) if it
+                 and it is not item}
         item.cites = list(found.values())
     return item.cites
 
 
 def behind_cases(item):
-    """The equations of a definition that say what becomes of a case of a choice. They are items of their own, and no longer of the definition."""
+    """The equations of a definition that say what becomes of a case of a choice. They are items of their own, and no
+    longer of the definition."""
     if item.behind is None:
         item.behind = []
         starts = [at for at in item.lines if re.match(r"[^\s-]", item.file.lines[at])]
-        if item.file.path.suffix == ".antt" and len(starts) > 1 and not re.search(r"\b(record|data|mutual)\b", item.file.lines[starts[0]].split(":")[0]):
+        if item.file.path.suffix == ".antt" and len(starts) > 1 and not re.search(r"\b(record|data|mutual)\b",
+                                                                                  item.file.lines[starts[0]].split(":")[
+            0]):
             for start, end in zip(starts[1:], [*starts[2:], item.lines[-1] + 1]):
                 lines = [at for at in item.lines if start <= at < end]
                 left = re.split(r" =(?: |$)", "\n".join(map(item.file.code, lines)), maxsplit=1, flags=re.M)[0]
-                cases = [it for it in (meant(item.file, word, item.name) for word in WORD.findall(left)) if it and it.name in it.file.cases]
+                cases = [it for it in (meant(item.file, word, item.name) for word in WORD.findall(left)) if it
+                         and it.name in it.file.cases]
                 if cases:
                     item.behind.append(Item(item.file, item.name, lines, (item, *cases)))
         away = {at for it in item.behind for at in it.lines}
@@ -413,8 +444,8 @@ def layers():
 
 
 def in_order(items):
-    """The files of a part and what of them stands there, each behind those that it cites; by crates, lowest first. Where files of a crate cite one
-    another in a circle, one stands there twice."""
+    """The files of a part and what of them stands there, each behind those that it cites; by crates, lowest first.
+    Where files of a crate cite one another in a circle, one stands there twice."""
     left, order, found = collections.defaultdict(list), layers(), []
     for item in items:
         left[item.file].append(item)
@@ -423,7 +454,8 @@ def in_order(items):
         files = sorted((file for file in left if file.crate == lowest), key=lambda file: str(file.path))
         waiting = {id(it): file for file in files for it in left[file]}
         ready = {file: readable(left[file], waiting) for file in files}
-        free = next((file for file in files if len(ready[file]) == len(left[file])), None) or next((file for file in files if ready[file]), files[0])
+        free = next((file for file in files if len(ready[file]) == len(left[file])),
+                    None) or next((file for file in files if ready[file]), files[0])
         now = ready[free] or left[free]
         found.append((free, now))
         left[free] = [item for item in left[free] if item not in now]
@@ -434,20 +466,24 @@ def in_order(items):
 
 def readable(items, waiting):
     """Which items of a file cite nothing that waits in another, themselves or by others of that file."""
-    bad = {id(item) for item in items if any(waiting.get(id(it), item.file) is not item.file for it in (*cited(item), *item.needs))}
+    bad = {id(item) for item in items if any(waiting.get(id(it), item.file) is not item.file
+                                             for it in (*cited(item), *item.needs))}
     while True:
-        more = {id(item) for item in items if id(item) not in bad and any(id(it) in bad for it in (*cited(item), *item.needs))}
+        more = {id(item) for item in items if id(item) not in bad
+                and any(id(it) in bad for it in (*cited(item), *item.needs))}
         if not more:
             return [item for item in items if id(item) not in bad]
         bad |= more
 
 
 def wrong_in(parts):
-    """What is not right: a name that is not found; a line that stands twice; what cites a later part, or in its part what comes later; a clause
-    about all values of a choice; a sentence of docs/GUARANTEES.md that says less lines than there are."""
+    """What is not right: a name that is not found; a line that stands twice; what cites a later part, or in its part
+    what comes later; a clause about all values of a choice; a sentence of docs/GUARANTEES.md that says less lines than
+    there are."""
     part = {id(item): k for k, items in enumerate(parts) for item in items}
     yield from sorted(LOST)
-    taken, every = {}, re.compile(rf"\([\w' ]+ : (?:{'|'.join(CHOICES)})\)(?:\s*[({{][^(){{}}]* : [^(){{}}]*[)}}])*\s*[→×]")
+    taken, every = {}, re.compile(rf"\([\w' ]+ : (?:{'|'.join(CHOICES)})\)(?:\s*[({{][^(){{}}]* : "
+                                  rf"[^(){{}}]*[)}}])*\s*[→×]")
     for k, items in enumerate(parts):
         place = {id(item): n for n, (_, here) in enumerate(in_order(items)) for item in here}
         for item in items:
@@ -500,8 +536,10 @@ def table_of(items):
         texts = []
         for file, here in files:
             inner = file.path.relative_to(CRATES / crate)
-            texts.append(f"{link_to(file.path.relative_to(ROOT), inner.stem if inner.suffix == '.antt' else inner)} {lines_of(here)}")
-        yield f"| {link_to(f'crates/{crate}/README.md', f'`{crate}`')} | {', '.join(texts)} | {lines_of([it for _, here in files for it in here])} |"
+            texts.append(f"{link_to(file.path.relative_to(ROOT), inner.stem if inner.suffix == '.antt' else inner)} "
+                         f"{lines_of(here)}")
+        yield (f"| {link_to(f'crates/{crate}/README.md', f'`{crate}`')} | {', '.join(texts)} | "
+               f"{lines_of([it for _, here in files for it in here])} |")
 
 
 def share(shares):
@@ -512,20 +550,24 @@ def share(shares):
 def written(parts):
     """The page."""
     out = [INTRODUCTION.format(choices=names_of(CHOICES), proved=names_of(PROVED))]
-    out += ["| part | lines | stands on | with what it needs of these | of its definitions tried |", "|---|---|---|---|---|"]
+    out += ["| part | lines | stands on | with what it needs of these | of its definitions tried |",
+            "|---|---|---|---|---|"]
     part = {id(item): k for k, items in enumerate(parts) for item in items}
     shares = [(every - lines_of(left), every) for every, left in tried(parts)]
     for k, (title, about, places) in enumerate(PARTS):
         alone = reached(map(root, places), {})
         before = sorted({part[it] + 1 for it in alone} - {k + 1})
         out.append(f"| [{k + 1}. {title}](#{k + 1}-{title.lower().replace(' ', '-')}) | {lines_of(parts[k]):,} "
-                   f"| {', '.join(map(str, before)) or 'nothing'} | {lines_of(alone.values()):,} | {share(shares[k:k + 1])} |")
+                   f"| {', '.join(map(str, before)) or 'nothing'} | {lines_of(alone.values()):,} | "
+                   f"{share(shares[k:k + 1])} |")
     every = [item for items in parts for item in items]
     crates, files = {item.file.crate for item in every}, {item.file for item in every}
-    out.append(f"| for the programs, without the last part | {sum(map(lines_of, parts[:-1])):,} | | | {share(shares[:-1])} |")
+    out.append(f"| for the programs, without the last part | {sum(map(lines_of, parts[:-1])):,} | | | "
+               f"{share(shares[:-1])} |")
     out.append(f"| all, in {len(files)} files of {len(crates)} crates | {lines_of(every):,} | | | {share(shares)} |")
     for k, (title, about, places) in enumerate(PARTS):
-        roots = ", ".join(f"`{name.split()[-1]}` ({link_to(file, pathlib.Path(file).name)})" for file, _, name in (place.partition(":") for place in places))
+        roots = ", ".join(f"`{name.split()[-1]}` ({link_to(file, pathlib.Path(file).name)})" for file, _,
+                          name in (place.partition(":") for place in places))
         out += [f"\n## {k + 1}. {title}\n", f"{about} It is for {roots}.\n", *table_of(parts[k])]
     return "\n".join(out) + "\n"
 
@@ -534,7 +576,8 @@ def signs(item):
     """The text of a definition with its own name and those of its variables taken out: two of one text say the same."""
     names, text = {}, []
     bound = not re.search(r"\b(record|data|mutual)\b", item.text.split(":")[0])
-    for word in re.findall(r'"[^"]*"|[^\W\d][\w\'-]*(?:\.[^\W\d][\w\'-]*)*|\S', "\n".join([item.text, *(it.text for it in behind_cases(item))])):
+    for word in re.findall(r'"[^"]*"|[^\W\d][\w\'-]*(?:\.[^\W\d][\w\'-]*)*|\S',
+                           "\n".join([item.text, *(it.text for it in behind_cases(item))])):
         first, _, rest = word.partition(".")
         found = None if word == item.name else meant(item.file, word, item.name)
         where, name = item.file.imports.get(first, ("", first))
@@ -560,8 +603,10 @@ def all_definitions():
 def spare(parts):
     """Definitions that stand twice, and those that no contract reaches."""
     part = {id(item): k + 1 for k, items in enumerate(parts) for item in items}
-    known = reached([Item(page(path), "", range(len(page(path).lines))) for path in sorted(CRATES.glob("*/src/**/*.rt"))], {})
-    proofs = reached([Item(page(path), "", range(len(page(path).lines))) for path in sorted(CRATES.glob("*/proofs/**/*.antt"))], known)
+    known = reached([Item(page(path), "", range(len(page(path).lines)))
+                     for path in sorted(CRATES.glob("*/src/**/*.rt"))], {})
+    proofs = reached([Item(page(path), "", range(len(page(path).lines)))
+                      for path in sorted(CRATES.glob("*/proofs/**/*.antt"))], known)
     same, heads = collections.defaultdict(list), collections.defaultdict(list)
     for item in all_definitions():
         if item.name not in CHOICES and not re.search(r"^\S+ = [\w\"]+$", item.text, re.M):
@@ -589,7 +634,8 @@ def spare(parts):
         if len(items) > 1 and len({signs(item) for item in items}) > 1:
             print("            " + ", ".join(map(told, items)))
     for title, of in (("reached by no contract, but by proofs", proofs), ("reached by nobody", None)):
-        left = [item for item in all_definitions() if id(item) not in known and (id(item) in proofs if of else id(item) not in proofs)]
+        left = [item for item in all_definitions() if id(item) not in known
+                and (id(item) in proofs if of else id(item) not in proofs)]
         print(f"{title}: {len(left)}, {lines_of(left)} lines")
         for item in left:
             print(f"{len(item.lines):4} lines  {told(item)}")
@@ -611,10 +657,12 @@ def is_definition(item):
 
 
 def tried(parts):
-    """Of each part: what the worked examples reach of its definitions, as names are followed from them, and what they do not."""
+    """Of each part: what the worked examples reach of its definitions, as names are followed from them, and what they
+    do not."""
     known = reached(examples(), {})
     for items in parts:
-        yield lines_of(filter(is_definition, items)), [item for item in items if is_definition(item) and id(item) not in known]
+        yield lines_of(filter(is_definition, items)), [item for item in items if is_definition(item)
+                                                       and id(item) not in known]
 
 
 def main(words):
@@ -625,7 +673,8 @@ def main(words):
         return 0
     if "--tried" in words:
         for k, ((title, _, _), (every, left)) in enumerate(zip(chosen, tried(parts))):
-            print(f"{k + 1}. {title}: {every - lines_of(left):,} of {every:,} lines of definitions; not reached: {len(left)}")
+            print(f"{k + 1}. {title}: {every - lines_of(left):,} of {every:,} lines of definitions; not reached: "
+                  f"{len(left)}")
             for item in sorted(left, key=lambda it: (it.file.path, it.lines)):
                 print(f"{len(item.lines):4} lines  {item.place()} {item.name}")
         return 0
@@ -638,7 +687,8 @@ def main(words):
         print("\n".join(wrong), end="\n" if wrong else "")
         return 1 if wrong or not same else 0
     for k, ((title, _, _), items) in enumerate(zip(chosen, parts)):
-        print(f"{k + 1}. {title}: {lines_of(items):,} lines, {len(items)} definitions, in {len({item.file for item in items})} files")
+        print(f"{k + 1}. {title}: {lines_of(items):,} lines, {len(items)} definitions, in "
+              f"{len({item.file for item in items})} files")
         for file, here in in_order(items) if "--files" in words else ():
             print(f"{lines_of(here):5} of {len(file.lines):5}  {file.path.relative_to(ROOT)}")
         for item in sorted(items, key=lambda it: (it.file.path, it.lines)) if "--names" in words else ():

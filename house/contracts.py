@@ -1,13 +1,15 @@
 #!/usr/bin/env python3
-"""The index of what is proved: docs/CONTRACTS.md, made of the crates' READMEs in the groups and the order of crates.txt.
+"""The index of what is proved: docs/CONTRACTS.md, made of the crates' READMEs in the groups and the order of
+crates.txt.
 
     python3 house/contracts.py            prints the page
     python3 house/contracts.py --write    writes it
-    python3 house/contracts.py --check    status 1 where the page is another, or a crate has no README or one that this script can't read
+    python3 house/contracts.py --check
+        status 1 where the page is another, or a crate has no README or one that this script can't read
 
-Of a README it takes the first sentence, and the names of the clauses: what stands in backquotes in the last column of each table whose
-last column is headed `clause` or `by`. What each clause says, what is only tested, and the limits stand in the README.
-"""
+Of a README it takes the first sentence, and the names of the clauses: what stands in backquotes in the last column of
+each table whose last column is headed `clause` or `by`. What each clause says, what is only tested, and the limits
+stand in the README. """
 import pathlib
 import re
 import sys
@@ -35,7 +37,8 @@ def groups():
 
 def sentence(text):
     """The first sentence of a README: the first line of prose, to its first full stop outside of backquotes."""
-    body = re.sub(r"\s+", " ", next((part for part in text.split("\n\n")[1:] if part.strip() and not part.startswith(("#", "|", "```"))), ""))
+    body = re.sub(r"\s+", " ", next((part for part in text.split("\n\n")[1:] if part.strip()
+                                     and not part.startswith(("#", "|", "```"))), ""))
     hidden = NAME.sub(lambda m: m.group(0).replace(".", "\0"), body)
     return re.split(r"(?<=[^.])\. (?=[A-Z`])", hidden)[0].replace("\0", ".").strip().rstrip(".:") if body else ""
 
@@ -69,7 +72,8 @@ def row(name):
     path = ROOT / "crates" / name / "README.md"
     text = path.read_text() if path.is_file() else ""
     said, carried = sentence(text), clauses(text)
-    shown = ", ".join(f"`{it}`" for it in carried) or ("definitions, no code" if name.startswith("spec_") else "none beside safety")
+    shown = ", ".join(f"`{it}`" for it in carried) or ("definitions, no code" if name.startswith("spec_")
+                                                       else "none beside safety")
     title = f"[{name}](../crates/{name}/README.md)" if text else name
     return said, f"| {title} | {linked(said, name)} | {shown} |"
 
@@ -79,7 +83,8 @@ def page():
     out, faults = [HEAD], []
     for title, names in groups():
         name, _, holds = title.partition(": ")
-        out.append(f"## {name[0].upper()}{name[1:]}\n\n{holds[:1].upper()}{holds[1:]}.\n" if holds else f"## {name[0].upper()}{name[1:]}\n")
+        out.append(f"## {name[0].upper()}{name[1:]}\n\n{holds[:1].upper()}{holds[1:]}.\n" if holds
+                   else f"## {name[0].upper()}{name[1:]}\n")
         out.append("| crate | what it is | clauses |\n|---|---|---|")
         for crate in names:
             said, line = row(crate)
@@ -97,7 +102,8 @@ def main(words):
         PAGE.write_text(text)
     elif words == ["--check"]:
         same = PAGE.is_file() and PAGE.read_text() == text
-        print("docs/CONTRACTS.md: " + ("as the READMEs say" if same else "not what the READMEs say: house/contracts.py --write"))
+        print("docs/CONTRACTS.md: " + ("as the READMEs say" if same
+                                       else "not what the READMEs say: house/contracts.py --write"))
         faults += [] if same else ["another"]
     elif words:
         print(__doc__, file=sys.stderr)

@@ -2,17 +2,18 @@
 """Runs the commands that the pages show, over the built program, and compares what they say is printed.
 
     python3 house/docs.py [PROGRAM] [PAGE ..]
-    python3 house/docs.py --links       what needs no program: the links, the pages that scripts make, the words of the others
+    python3 house/docs.py --links
+        what needs no program: the links, the pages that scripts make, the words of the others
     python3 house/docs.py --write       makes the pages that scripts make, and the drawing of docs/ARCHITECTURE.md
 
-PROGRAM is crates/ads/out/ads where it is absent (`rt run` in crates/ads builds it, and so does .ci/run). Of a page each block
-```console is run, line by line in one shell, in a folder of its own that holds the examples: a line `$ ..` is a command, the lines
-behind it are all that it prints. `rt try -- ..` and `rt run -- ..` stand for the program itself. Ports are replaced by free ones.
-The wrong bodies by name (wrong_bodies.py --named) and the public calls (signatures.py) are held against the crates. The
-spellings in the table of values are tried, the answers that docs/CONNECTING.md tells asked for (connecting.py; the daemon's too
-if it is built), the cases counted, and the links between the pages followed, in the READMEs of the crates too; a page that a
-script makes is to be what it would make. Each difference is told with its page and line; status 1 where there is one.
-"""
+PROGRAM is crates/ads/out/ads where it is absent (`rt run` in crates/ads builds it, and so does .ci/run). Of a page each
+block ```console is run, line by line in one shell, in a folder of its own that holds the examples: a line `$ ..` is a
+command, the lines behind it are all that it prints. `rt try -- ..` and `rt run -- ..` stand for the program itself.
+Ports are replaced by free ones. The wrong bodies by name (wrong_bodies.py --named) and the public calls (signatures.py)
+are held against the crates. The spellings in the table of values are tried, the answers that docs/CONNECTING.md tells
+asked for (connecting.py; the daemon's too if it is built), the cases counted, and the links between the pages followed,
+in the READMEs of the crates too; a page that a script makes is to be what it would make. Each difference is told with
+its page and line; status 1 where there is one. """
 import pathlib
 import queue
 import re
@@ -33,7 +34,8 @@ ROOT = pathlib.Path(__file__).resolve().parent.parent
 ROOMS = ("house", "model", "bench", "tries")
 LINKED = ["README.md", *(f"{room}/README.md" for room in ROOMS),
           *sorted(str(p.relative_to(ROOT)) for form in ("docs/*.md", "crates/*/README.md") for p in ROOT.glob(form))]
-HELD = (("wrong_bodies.py", "--named"), ("signatures.py",))  # what the crates must have: the wrong bodies by name, the public calls
+# What the crates must have: the wrong bodies by name, the public calls.
+HELD = (("wrong_bodies.py", "--named"), ("signatures.py",))
 MADE = {"docs/CONTRACTS.md": "contracts.py", "docs/BELIEVED.md": "believed.py", "docs/*.1": "manual.py"}
 ADSD = ROOT / "crates/adsd/out/adsd"
 PAGES = [page for page in LINKED if not page.startswith("crates/") and "```console" in (ROOT / page).read_text()]
@@ -68,7 +70,8 @@ class Shell:
 
     def __init__(self, folder):
         self.errors = open(folder / "errors.txt", "w+")
-        self.process = subprocess.Popen(["bash"], cwd=folder, stdin=subprocess.PIPE, stdout=subprocess.PIPE, stderr=self.errors,
+        self.process = subprocess.Popen(["bash"], cwd=folder, stdin=subprocess.PIPE, stdout=subprocess.PIPE,
+                                        stderr=self.errors,
                                         text=True, bufsize=1)
         self.lines = queue.Queue()
         threading.Thread(target=self.read, daemon=True).start()
@@ -121,15 +124,18 @@ class Shell:
 
 
 def lines_of_start(is_built=False):
-    """What ./start prints by README.md, with N for the seconds of each step; and where the programs are built already, without these steps."""
+    """What ./start prints by README.md, with N for the seconds of each step; and where the programs are built already,
+    without these steps."""
     block = next((wanted for _, command, wanted in blocks("README.md") if command == "./start"), [])
     lines, steps = [re.sub(r"\b\d+ s$", "N s", line) for line in block], len(start.unproved.STEPS)
     return lines[1 + steps:] if is_built else lines
 
 
 def of_start(wanted):
-    """A block of ./start with the line that stands there where .ci/run has left the programs, if the lines of the building are those that it prints."""
-    said = [start.BUILDING, *(f"{start.step_text(step)} N s" for step in range(1, len(start.unproved.STEPS) + 1)), start.UNPROVED.format("out/unproved")]
+    """A block of ./start with the line that stands there where .ci/run has left the programs, if the lines of the
+    building are those that it prints."""
+    said = [start.BUILDING, *(f"{start.step_text(step)} N s" for step in range(1, len(start.unproved.STEPS) + 1)),
+            start.UNPROVED.format("out/unproved")]
     proved = start.PROVED.format("crates/ads/out/ads", "crates/adsd/out/adsd")
     return [proved, *wanted[len(said):]] if lines_of_start()[:len(said)] == said else said
 
@@ -143,7 +149,8 @@ def with_ports_of_page(line, ports):
 
 def with_free_ports(command, ports):
     """A command with free ports in place of those that it names; ./start names none, and runs beside what follows."""
-    for port in re.findall(r"\b(?:127\.0\.0\.1|0\.0\.0\.0):(\d+)", command) if command != "./start" else ("48898", "8080"):
+    for port in re.findall(r"\b(?:127\.0\.0\.1|0\.0\.0\.0):(\d+)", command) if command != "./start" else ("48898",
+                                                                                                          "8080"):
         ports.setdefault(port, free_port())
     if command == "./start":
         return f"./start --port {ports['48898']} --http {ports['8080']} &"
@@ -211,14 +218,16 @@ CASES = ("cases_wire", "cases_description", "cases_device")
 
 def try_values(program, folder):
     """The table of values: each spelling that `set` takes or refuses, over a symbol of the row's type."""
-    rows = (ROOT / "docs/COMMANDS.md").read_text().split("| `set` refuses, with status 13 |\n|---|---|---|\n")[1].split("\n\n")[0]
+    rows = (ROOT / "docs/COMMANDS.md").read_text().split("| `set` refuses, with status 13 "
+                                                         "|\n|---|---|---|\n")[1].split("\n\n")[0]
     count = wrong = 0
     for row in rows.split("\n"):
         kind, takes, refuses = [re.findall(r"`([^`]+)`", cell) for cell in row.strip("| ").split(" | ")]
         (folder / "values.toml").write_text(PLANT.format(kind[0]))
         for texts, status in ((takes, 0), (refuses, REFUSED)):
             for text in texts:
-                ended = subprocess.run([program, "set", "V.x", "--local", folder / "values.toml", "--me", "192.168.0.9.1.1", "--", text],
+                ended = subprocess.run([program, "set", "V.x", "--local", folder / "values.toml", "--me",
+                                        "192.168.0.9.1.1", "--", text],
                                        stdout=subprocess.PIPE, text=True)
                 count += 1
                 if ended.returncode != status:
@@ -233,9 +242,11 @@ def count_cases():
     data, text = ROOT / "crates/cases_run/data", (ROOT / "docs/GUARANTEES.md").read_text()
     runs = {name: len([part for part in re.split(r"^----$", (data / name).read_text(), flags=re.M) if part.strip()])
             for name in (data / "runs.txt").read_text().split()}
-    counted = {"calls": sum(int((ROOT / f"crates/{name}/stdout").read_text().split("\n")[-2].split()[0]) for name in CASES), "whole runs": sum(runs.values()),
+    counted = {"calls": sum(int((ROOT / f"crates/{name}/stdout").read_text().split("\n")[-2].split()[0])
+                            for name in CASES), "whole runs": sum(runs.values()),
                "hostile ones": sum(count for name, count in runs.items() if name.startswith(("hostile", "peer_")))}
-    said = {name: int(number.replace(",", "")) for number, name in re.findall(r"more than ([\d,]+) (calls|whole runs|hostile ones)", text)}
+    said = {name: int(number.replace(",", "")) for number,
+            name in re.findall(r"more than ([\d,]+) (calls|whole runs|hostile ones)", text)}
     wrong = [name for name, count in counted.items() if not said.get(name, count) < count]
     for name in wrong:
         print(f"docs/GUARANTEES.md: there are {counted[name]:,} {name}")
@@ -244,14 +255,17 @@ def count_cases():
 
 def try_made():
     """The pages that scripts make are what they would make."""
-    return sum(subprocess.run([sys.executable, ROOT / "house" / script, "--check"], cwd=ROOT).returncode != 0 for script in MADE.values())
+    return sum(subprocess.run([sys.executable, ROOT / "house" / script, "--check"], cwd=ROOT).returncode != 0
+               for script in MADE.values())
 
 
 def try_held():
-    """The crates have the wrong bodies of house/wrong_bodies.md and the calls of house/calls.txt; what they say of it is printed where something is missing."""
+    """The crates have the wrong bodies of house/wrong_bodies.md and the calls of house/calls.txt; what they say of it
+    is printed where something is missing."""
     wrong = 0
     for script, *words in HELD:
-        ran = subprocess.run([sys.executable, ROOT / "house" / script, *words], cwd=ROOT, stdout=subprocess.PIPE, text=True)
+        ran = subprocess.run([sys.executable, ROOT / "house" / script, *words], cwd=ROOT, stdout=subprocess.PIPE,
+                             text=True)
         said = ran.stdout.splitlines()
         print("\n".join(said if ran.returncode else said[-1:]))
         wrong += ran.returncode != 0
@@ -259,11 +273,14 @@ def try_held():
 
 
 def count_words():
-    """How many words a reader of the pages has before him, without code and what scripts make; status 1 where they are too many."""
+    """How many words a reader of the pages has before him, without code and what scripts make; status 1 where they are
+    too many."""
     pages = [page for page in LINKED if page.startswith(("README", "docs/")) and page not in MADE]
-    texts = [re.sub(r"<!-- made .*?<!-- end .*?-->|```.*?```", "", (ROOT / page).read_text(), flags=re.S) for page in pages]
+    texts = [re.sub(r"<!-- made .*?<!-- end .*?-->|```.*?```", "", (ROOT / page).read_text(), flags=re.S)
+             for page in pages]
     count = sum(bool(re.search(r"\w", word)) for text in texts for word in text.split())
-    print(f"{count:,} words in {len(pages)} pages, which are to have {AIM_WORDS:,}, and at most {MOST_WORDS:,}; and code, and what scripts make")
+    print(f"{count:,} words in {len(pages)} pages, which are to have {AIM_WORDS:,}, and at most {MOST_WORDS:,}; and "
+          f"code, and what scripts make")
     return count > MOST_WORDS
 
 
@@ -275,7 +292,9 @@ def look_at_readmes():
         lines, blocks = text.count("\n"), len(re.findall(r"^```(?:rust|antt|sh|text)$", text, re.M))
         if lines > MOST_LINES or not blocks:
             wrong += 1
-            print(f"{page}: " + (f"{lines} lines, of at most {MOST_LINES}" if blocks else "no example of a call (```rust; of definitions ```antt, of a program ```sh or ```text)"))
+            print(f"{page}: " + (f"{lines} lines, of at most {MOST_LINES}" if blocks
+                                 else "no example of a call (```rust; of definitions ```antt, of a program ```sh or "
+                                 "```text)"))
     print(f"{len(pages)} READMEs of crates, {wrong} of them too long or without an example")
     return wrong
 
@@ -308,7 +327,9 @@ def follow_links(page):
 def names_of_package(page):
     """How many tools and examples of the package a page names that are not there."""
     text = (ROOT / page).read_text()
-    named = [f"tools/{it}.py" for it in re.findall(r"\bads-tool ([a-z]+)", text)] + re.findall(r"/usr/share/doc/ads/(examples/[\w.@-]+\w)", text)
+    named = [f"tools/{it}.py" for it in re.findall(r"\bads-tool ([a-z]+)",
+                                                   text)] + re.findall(r"/usr/share/doc/ads/(examples/[\w.@-]+\w)",
+                                                                       text)
     wrong = [it for it in named if not (ROOT / it).exists()]
     for it in wrong:
         print(f"{page}: the package has no {it}")
@@ -327,7 +348,8 @@ def look_at_pages():
 
 def main(words):
     if words == ["--write"]:
-        return sum(subprocess.run([sys.executable, ROOT / "house" / it, "--write"], cwd=ROOT, stdout=subprocess.DEVNULL).returncode != 0
+        return sum(subprocess.run([sys.executable, ROOT / "house" / it, "--write"], cwd=ROOT,
+                                  stdout=subprocess.DEVNULL).returncode != 0
                    for it in ("map.py", *MADE.values()))
     if words == ["--links"]:
         return 1 if look_at_pages() else 0

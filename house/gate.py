@@ -1,27 +1,32 @@
 #!/usr/bin/env python3
 """What the gate costs: processor time of each crate under `rt ci`, against a budget.
 
-    python3 house/gate.py              runs `rt ci` at the top of the clone where it is called; what earlier runs passed on this machine is kept, and costs nothing
+    python3 house/gate.py
+        runs `rt ci` at the top of the clone where it is called; what earlier runs passed on this machine is kept, and
+        costs nothing
     python3 house/gate.py --anew       runs `rt ci --anew`, which proves and tries all from nothing
-    python3 house/gate.py --anew --write    the same, and puts the dearest crates and the sums into docs/PROVING.md, between its marks
+    python3 house/gate.py --anew --write
+        the same, and puts the dearest crates and the sums into docs/PROVING.md, between its marks
     python3 house/gate.py --of FILE    puts there what an earlier run printed, which FILE holds
 
 What rt says is passed on. When it has ended, a table (Markdown) tells for each crate the processor seconds of
 
   library   its proof, and the compiling of its program
   tests     its second proof, with its #[test] functions
-  third     where it has two wrong bodies or more: the first of them, whose check proves the rest of the crate once more, and the look at what the others left
+  third     where it has two wrong bodies or more: the first of them, whose check proves the rest of the crate once
+            more, and the look at what the others left
   bodies    the other wrong bodies of its must-fail/, and how many there are in all
 
-with the lines of code (src/), and the processor minutes for each 1,000 of these; then the sums, the budget, what rt counted of all that it started, and what
-rt ci ended with. The status is that of rt.
+with the lines of code (src/), and the processor minutes for each 1,000 of these; then the sums, the budget, what rt
+counted of all that it started, and what rt ci ended with. The status is that of rt.
 
-How it is measured: ten times a second the processes that rt started are read from /proc. The last tenth of a second of each is missed; the line `all that rt
-started` misses nothing, and holds rt's own work, the links and the runs of programs and tests too.
+How it is measured: ten times a second the processes that rt started are read from /proc. The last tenth of a second of
+each is missed; the line `all that rt started` misses nothing, and holds rt's own work, the links and the runs of
+programs and tests too.
 
-Hosts differ, and a virtual one from minute to minute. So each half minute a loop of a million additions is timed, and its quickest and middle times are told.
-It is a hint for who compares two runs, and changes no figure: it is no prover, and the budget is for the minutes as they are counted.
-"""
+Hosts differ, and a virtual one from minute to minute. So each half minute a loop of a million additions is timed, and
+its quickest and middle times are told. It is a hint for who compares two runs, and changes no figure: it is no prover,
+and the budget is for the minutes as they are counted. """
 import os
 import re
 import resource
@@ -41,7 +46,8 @@ SHOWN = 120
 
 
 def process(number):
-    """The parent, the moment of the start, and the seconds of a process and of its children that have ended; None if it is gone."""
+    """The parent, the moment of the start, and the seconds of a process and of its children that have ended; None if it
+    is gone."""
     try:
         with open(f"/proc/{number}/stat", errors="replace") as it:
             words = it.read().rpartition(")")[2].split()
@@ -70,7 +76,8 @@ def word_behind(words, flag):
 
 
 def label_of(number):
-    """The crate and the kind of a process that rt started, by its words and its folder; None where it proves and compiles nothing."""
+    """The crate and the kind of a process that rt started, by its words and its folder; None where it proves and
+    compiles nothing."""
     try:
         with open(f"/proc/{number}/cmdline", errors="replace") as it:
             words = it.read().split("\0")
@@ -140,11 +147,13 @@ def timed_loop():
 
 
 def loops_told(loops):
-    return f"a loop of a million additions took {min(loops):.2f} s at the quickest, {statistics.median(loops):.2f} s in the middle"
+    return (f"a loop of a million additions took {min(loops):.2f} s at the quickest, {statistics.median(loops):.2f} s "
+            f"in the middle")
 
 
 def watched(words):
-    """Runs the command, passes on what it says, and returns its status, its lines, what was seen and how long the loops took."""
+    """Runs the command, passes on what it says, and returns its status, its lines, what was seen and how long the loops
+    took."""
     rt = subprocess.Popen(words, stdout=subprocess.PIPE, stderr=subprocess.STDOUT, text=True, errors="replace")
     lines, watch = [], Watch(rt.pid)
     reader = threading.Thread(target=pass_on, args=(rt.stdout, lines))
@@ -186,12 +195,14 @@ def line_of_sums(rows):
     sums = {kind: sum(row[kind] for row in rows.values()) / 60 for kind in KINDS}
     code, bodies, whole = sum(map(lines_of_code, rows)), sum(row["count"] for row in rows.values()), sum(sums.values())
     cells = " | ".join(f"{sums[kind]:.1f}" for kind in KINDS)
-    return f"| all, in minutes | {code} | {cells} ({bodies}) | {whole:.1f} | {whole / (code / 1000) if code else 0.0:.1f} |", code, whole
+    return (f"| all, in minutes | {code} | {cells} ({bodies}) | {whole:.1f} | "
+            f"{whole / (code / 1000) if code else 0.0:.1f} |", code, whole)
 
 
 def table(rows, least):
     """The table, the dearest crate first, of those that cost so many seconds at least; then the sums in minutes."""
-    out = ["| crate | lines of code | library | tests | third | bodies | seconds | minutes for 1,000 lines |", "|---|---|---|---|---|---|---|---|"]
+    out = ["| crate | lines of code | library | tests | third | bodies | seconds | minutes for 1,000 lines |",
+           "|---|---|---|---|---|---|---|---|"]
     dear = sorted(rows.items(), key=lambda it: -seconds_of(it[1]))
     out += [line_of(name, lines_of_code(name), row) for name, row in dear if seconds_of(row) >= least]
     left = [row for _, row in dear if seconds_of(row) < least]
@@ -230,12 +241,14 @@ def write_of(path):
     seconds = [int(line.split("|")[7]) for line in lines]
     shown = [line for line, it in zip(lines, seconds) if it >= SHOWN]
     others = f"| {len(lines) - len(shown)} others | | | | | | {sum(it for it in seconds if it < SHOWN)} | |"
-    write([heads[0], *shown, others, sums[0], "", sentence(float(spent[1]), float(spent[2]), ended[1], loops and loops[1])])
+    write([heads[0], *shown, others, sums[0], "", sentence(float(spent[1]), float(spent[2]), ended[1],
+                                                           loops and loops[1])])
     return 0
 
 
 def sentence(minutes, clock, last, loops):
-    return f"One run from nothing, {kit()}: {minutes:.0f} minutes of a processor, {clock:.0f} of the clock; {last}." + (f" The host: {loops}." if loops else "")
+    return f"One run from nothing, {kit()}: {minutes:.0f} minutes of a processor, {clock:.0f} of the clock; {last}." + (
+        f" The host: {loops}." if loops else "")
 
 
 def main():
@@ -250,7 +263,8 @@ def main():
     rows = watch.rows()
     _, code, whole = line_of_sums(rows)
     print("", *table(rows, 0), "", sep="\n")
-    print(f"budget: {BUDGET:.0f} processor minutes for 1,000 lines of code, so {BUDGET * code / 1000:.0f} for {code} lines; spent: {whole:.0f}")
+    print(f"budget: {BUDGET:.0f} processor minutes for 1,000 lines of code, so {BUDGET * code / 1000:.0f} for {code} "
+          f"lines; spent: {whole:.0f}")
     spent = resource.getrusage(resource.RUSAGE_CHILDREN)
     minutes, clock = (spent.ru_utime + spent.ru_stime) / 60, (time.time() - begun) / 60
     last = next((it for it in reversed(lines) if it), "")

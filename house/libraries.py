@@ -1,12 +1,13 @@
 #!/usr/bin/env python3
-"""Gives a clone each library that a run of `rt ci` on this machine has proved on the same text, so that nobody proves it twice.
+"""Gives a clone each library that a run of `rt ci` on this machine has proved on the same text, so that nobody proves
+it twice.
 
     python3 house/libraries.py CLONE
 
-`rt check` takes the libraries below a crate from the crates' out/ folders, and not from what `rt ci` keeps. This puts there what is kept, by the gate's own keys: a
-library comes only where its text, its line of crates.txt and all below are the same as in the run that proved it. Call it again when a run has proved more; it takes
-some seconds. It changes nothing that a verdict rests on.
-"""
+`rt check` takes the libraries below a crate from the crates' out/ folders, and not from what `rt ci` keeps. This puts
+there what is kept, by the gate's own keys: a library comes only where its text, its line of crates.txt and all below
+are the same as in the run that proved it. Call it again when a run has proved more; it takes some seconds. It changes
+nothing that a verdict rests on. """
 import hashlib
 import importlib.machinery
 import importlib.util
@@ -42,7 +43,8 @@ def stands(crate, place, files):
     at = next(n for n, (path, _) in enumerate(files) if path == f"rlib/{crate.name}.rlib/format")
     try:
         with open(f"{crate.folder}/out/rlib/stamp", encoding="utf-8") as file:
-            return os.path.samefile(f"{place}/{at}", f"{crate.folder}/out/{files[at][0]}") and file.read() == crate.stamp()
+            return os.path.samefile(f"{place}/{at}",
+                                    f"{crate.folder}/out/{files[at][0]}") and file.read() == crate.stamp()
     except OSError:
         return False
 

@@ -5,9 +5,9 @@
     python3 house/manual.py --check    status 1 where one of them is not what would be written
     man -l docs/ads.1                  shows it
 
-Headings become sections, a table a list whose tags are its first column, a block of code is shown as it stands. The synopsis is the table whose
-first columns are headed `command` and `words`; without one, the table headed `command` alone.
-"""
+Headings become sections, a table a list whose tags are its first column, a block of code is shown as it stands. The
+synopsis is the table whose first columns are headed `command` and `words`; without one, the table headed `command`
+alone. """
 import pathlib
 import re
 import sys
@@ -95,7 +95,8 @@ def converted(text):
         if kind == "heading":
             level, _, title = lines[0].partition(" ")
             if level != "#":
-                yield (".SH " + inline(title).upper().replace("\\FB", "\\fB").replace("\\FR", "\\fR") if level == "##" else ".SS " + inline(title))
+                yield (".SH " + inline(title).upper().replace("\\FB", "\\fB").replace("\\FR", "\\fR") if level == "##"
+                       else ".SS " + inline(title))
         elif kind == "code":
             yield ".PP\n.RS\n.nf"
             yield from (line(plain(it)) for it in lines)

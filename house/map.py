@@ -2,11 +2,12 @@
 """The map of the house, from crates.txt and the crates' files.
 
     python3 house/map.py            the table of groups, the longest chain, and what is to be mended
-    python3 house/map.py --write    also writes docs/architecture.svg, and the table and the chain into docs/ARCHITECTURE.md (between its marks)
+    python3 house/map.py --write
+        also writes docs/architecture.svg, and the table and the chain into docs/ARCHITECTURE.md (between its marks)
 
-To be mended are: a use that no file of the crate names, a use that crates.txt lacks, a crate that stands above what it uses, a spec_ crate with code or a
-crate of definitions without the prefix, a group that the drawing has no place for, and a line that would run behind a box. The status is 1 where there is one.
-"""
+To be mended are: a use that no file of the crate names, a use that crates.txt lacks, a crate that stands above what it
+uses, a spec_ crate with code or a crate of definitions without the prefix, a group that the drawing has no place for,
+and a line that would run behind a box. The status is 1 where there is one. """
 import os
 import re
 import sys
@@ -48,7 +49,8 @@ class Crate:
     def has_bodies(self):
         """Whether the program runs something of it: a function whose body is not empty, or a type."""
         code = re.sub(r"//[^\n]*", "", "\n".join(texts_of(self.name)))
-        return re.search(r"\n\s*(pub )?(struct|enum|trait|impl)\b", code) is not None or re.search(r"\n\{\n\s*\S", code) is not None
+        return re.search(r"\n\s*(pub )?(struct|enum|trait|impl)\b", code) is not None or re.search(r"\n\{\n\s*\S",
+                                                                                                   code) is not None
 
 
 def texts_of(name):
@@ -87,7 +89,8 @@ def faults(groups, crates):
                 if use in crates and use not in seen:
                     yield f"{name} stands above {use}, which it uses"
             for other in crates:
-                if other != name and other not in crate.uses and other in crate.text and re.search(rf"(use|Rattle\.|^|\W){other}(::|\.specs)", crate.text):
+                if other != name and other not in crate.uses and other in crate.text and re.search(
+                    rf"(use|Rattle\.|^|\W){other}(::|\.specs)", crate.text):
                     yield f"{name}: a file names {other}, which its line lacks"
             if name.startswith("spec_") and crate.has_bodies():
                 yield f"{name}: definitions alone are called spec_, and this one has code"
@@ -146,13 +149,15 @@ def made_text(groups, crates):
         "",
         f"The longest chain has {len(proving)} crates with code: " + ", ".join(f"`{it}`" for it in names) + "."
         f" They are {parts_of_chain(proving, groups)}. The server's chain has {below['server_core']}, to `server_core`,"
-        f" the client's {below['client_loop']}, to `client_loop`, and a client over the server in one process {below['local_link']}, to `local_link`;"
+        f" the client's {below['client_loop']}, to `client_loop`, and a client over the server in one process "
+        f"{below['local_link']}, to `local_link`;"
         " the others are the commands and the programs.",
     ]
 
 
-# The drawing: a box a group, some groups in parts, at places by hand. A line leads down from a box to each box that it uses and that none of the others that
-# it uses does; so what a box uses is all that its lines lead to. No line runs behind a box: `Drawing.line` says where one would.
+# The drawing: a box a group, some groups in parts, at places by hand. A line leads down from a box to each box that it
+# uses and that none of the others that it uses does; so what a box uses is all that its lines lead to. No line runs
+# behind a box: `Drawing.line` says where one would.
 PARTS = {
     "one client": ("net_routes", "sym_handles", "notify_table", "sum_commands", "session"),
     "the relay": ("spec_relay", "ams_relay"),
@@ -165,7 +170,8 @@ PLACES = {
     "cases": (16, 856, 0, 0),
     "the daemon": (16, 856, 1, 1),
     "the program": (16, 856, 2, 2),
-    "stores": (16, 196, 3, 3), "the relay": (212, 376, 3, 3), "the local link": (392, 556, 3, 3), "the client": (590, 856, 3, 4),
+    "stores": (16, 196, 3, 3), "the relay": (212, 376, 3, 3), "the local link": (392, 556, 3, 3),
+    "the client": (590, 856, 3, 4),
     "the server": (16, 556, 4, 4),
     "one client": (16, 556, 5, 5), "samples": (706, 856, 5, 5),
     "the device": (16, 676, 6, 6),
@@ -173,7 +179,8 @@ PLACES = {
     "what is believed": (880, 1084, 0, 7),
     "the ground": (16, 1084, 8, 8),
 }
-FILLS = {"what is believed": "#fdf3d8", "the ground": "#eeeeee", "cases": "#f5f5f5", "the client": "#e4f2e4", "samples": "#e4f2e4", "the local link": "#d9eef0"}
+FILLS = {"what is believed": "#fdf3d8", "the ground": "#eeeeee", "cases": "#f5f5f5", "the client": "#e4f2e4",
+         "samples": "#e4f2e4", "the local link": "#d9eef0"}
 FILL, SIDE, CHANNEL = "#e3ecf7", "what is believed", 36
 
 
@@ -198,7 +205,8 @@ class Drawing:
                 self.holds.setdefault(part.get(name, title.split(":")[0]), []).append(name)
         box = {name: title for title, names in self.holds.items() for name in names}
         for name, title in box.items():
-            self.uses.setdefault(title, set()).update(box[use] for use in crates[name].uses if use in box and box[use] != title)
+            self.uses.setdefault(title, set()).update(box[use] for use in crates[name].uses if use in box
+                                                      and box[use] != title)
         self.rows()
 
     def rows(self):
@@ -235,19 +243,22 @@ class Drawing:
         """The lines: from a box to one that it uses and none of the others that it uses does."""
         for title in self.holds:
             uses = self.uses.get(title, set())
-            yield from ((title, it) for it in sorted(uses) if not any(it in self.below(other) for other in uses if other != it))
+            yield from ((title, it) for it in sorted(uses) if not any(it in self.below(other) for other in uses
+                                                                      if other != it))
 
     def line(self, upper, lower, drawn):
         """The corners of a line; a fault where it would run behind a box."""
         (a, b, c, d), (e, f, g, h) = self.box(upper), self.box(lower)
         if lower == SIDE and d <= h:
-            stop = [it for it in self.holds if it not in (upper, lower) and self.box(it)[0] >= c and self.box(it)[1] < d and self.box(it)[3] > b]
+            stop = [it for it in self.holds if it not in (upper, lower) and self.box(it)[0] >= c and self.box(it)[1] < d
+                    and self.box(it)[3] > b]
             low = d + CHANNEL // 2 - 6
             corners = [((a + c) / 2, d), ((a + c) / 2, low), (e, low)] if stop else [(c, (b + d) / 2), (e, (b + d) / 2)]
         else:
             near, far = max(a, e), min(c, g)
             taken = [x for x, top, bottom in drawn if top < f and bottom > d and near <= x <= far]
-            x = next((it for it in ((near + far) / 2, near + (far - near) / 4, far - (far - near) / 4) if self.free(it, d, f, upper, lower) and it not in taken), None)
+            x = next((it for it in ((near + far) / 2, near + (far - near) / 4, far - (far - near) / 4)
+                      if self.free(it, d, f, upper, lower) and it not in taken), None)
             if x is None or near >= far:
                 self.faults.append(f"{upper} uses {lower}: house/map.py has no room for this line in the drawing")
                 return []
@@ -261,17 +272,21 @@ class Drawing:
 
     def text(self):
         out = [
-            f'<svg xmlns="http://www.w3.org/2000/svg" width="1100" height="{self.high}" viewBox="0 0 1100 {self.high}" font-family="sans-serif">',
+            f'<svg xmlns="http://www.w3.org/2000/svg" width="1100" height="{self.high}" viewBox="0 0 1100 {self.high}" '
+            f'font-family="sans-serif">',
             "<title>The crates in boxes; a box uses the boxes that its lines lead down to, and what these use</title>",
             f'<rect width="1100" height="{self.high}" fill="#ffffff"/>',
-            '<defs><marker id="to" viewBox="0 0 10 10" refX="9" refY="5" markerWidth="7" markerHeight="7" orient="auto"><path d="M0 0 10 5 0 10z" fill="#445"/></marker></defs>',
+            '<defs><marker id="to" viewBox="0 0 10 10" refX="9" refY="5" markerWidth="7" markerHeight="7" '
+            'orient="auto"><path d="M0 0 10 5 0 10z" fill="#445"/></marker></defs>',
         ]
         drawn = []
         for title, names in self.holds.items():
             if title in self.places:
                 a, b, c, d = self.box(title)
-                out.append(f'<rect x="{a}" y="{b}" width="{c - a}" height="{d - b}" rx="6" fill="{FILLS.get(title, FILL)}" stroke="#667"/>')
-                out.append(f'<text x="{a + 10}" y="{b + 20}" font-size="14" font-weight="bold" fill="#222">{title}</text>')
+                out.append(f'<rect x="{a}" y="{b}" width="{c - a}" height="{d - b}" rx="6" '
+                           f'fill="{FILLS.get(title, FILL)}" stroke="#667"/>')
+                out.append(f'<text x="{a + 10}" y="{b + 20}" font-size="14" font-weight="bold" '
+                           f'fill="#222">{title}</text>')
                 for n, line in enumerate(wrapped(names, c - a - 20)):
                     out.append(f'<text x="{a + 10}" y="{b + 38 + 16 * n}" font-size="12" fill="#333">{line}</text>')
         for upper, lower in self.pairs():
@@ -279,7 +294,8 @@ class Drawing:
                 corners = self.line(upper, lower, drawn)
                 if corners:
                     path = " L ".join(f"{x:.0f} {y:.0f}" for x, y in corners)
-                    out.append(f'<path d="M {path}" stroke="#445" stroke-width="1.4" fill="none" marker-end="url(#to)"/>')
+                    out.append(f'<path d="M {path}" stroke="#445" stroke-width="1.4" fill="none" '
+                               f'marker-end="url(#to)"/>')
         return "\n".join([*out, "</svg>", ""])
 
 

@@ -1,10 +1,9 @@
 """When each wrong body was last refused, and on which text: house/refused.txt, which house/wrong_bodies.py keeps.
 
-A line has the crate and the edit, the day, a sum of what the crate promised then and of the edit, and a sum of the crate's
-text. What a crate promises is its specs/, and of src/ all but comments, imports of Rust and the bodies of functions. The promises of the
-crates below are not in it: their own edits try these. A line without a day is of an edit that was not tried since the
-table began; then its sums are those of the day when the line was made.
-"""
+A line has the crate and the edit, the day, a sum of what the crate promised then and of the edit, and a sum of the
+crate's text. What a crate promises is its specs/, and of src/ all but comments, imports of Rust and the bodies of
+functions. The promises of the crates below are not in it: their own edits try these. A line without a day is of an edit
+that was not tried since the table began; then its sums are those of the day when the line was made. """
 import functools
 import hashlib
 import pathlib
@@ -15,14 +14,15 @@ ROOT = pathlib.Path(__file__).resolve().parent.parent
 CRATES, TABLE = ROOT / "crates", ROOT / "house/refused.txt"
 KINDS = ("must-fail", "wrong-bodies")
 NEVER = "----------"
-TOP = """# When each wrong body was last refused: its crate and name, the day, a sum of the promises of its crate and of the edit,
-# and one of the crate's text. Made by house/wrong_bodies.py, which says how; house/refusals.py says what the sums are of.
+TOP = """# When each wrong body was last refused: its crate and name, the day, a sum of the promises of its crate and of
+# the edit, and one of the crate's text. Made by house/wrong_bodies.py; house/refusals.py says what the sums are of.
 """
 HEAD = re.compile(r"^( *)(?:pub(?:\([^)]*\))? )?(?:const )?(?:unsafe )?fn \w+")
 
 
 def without_bodies(text):
-    """A source without comments and the bodies of its functions: what stands between a head with its clauses and the end."""
+    """A source without comments and the bodies of its functions: what stands between a head with its clauses and the
+    end."""
     kept, indent, is_head = [], None, False
     for line in text.split("\n"):
         if re.match(r"\s*(//|(pub(\(\w+\))? )?(use|mod) )", line):
@@ -46,7 +46,8 @@ def sum_of(*texts):
 
 def texts_of(crate, *kinds):
     """The files of these folders of a crate, with their names, in order."""
-    for path in sorted(it for kind in kinds for it in (CRATES / crate / kind).glob("**/*") if it.suffix in (".rt", ".antt")):
+    for path in sorted(it for kind in kinds for it in (CRATES / crate / kind).glob("**/*")
+                       if it.suffix in (".rt", ".antt")):
         yield str(path.relative_to(CRATES)), path.read_text()
 
 
@@ -76,12 +77,13 @@ def sums_of(crate, name, kind):
 def rows():
     """The table: of a crate and an edit the day and both sums."""
     lines = TABLE.read_text().splitlines() if TABLE.is_file() else []
-    return {tuple(it[0].split("/")): tuple(it[1:]) for line in lines if line[:1] != "#" and len(it := line.split()) == 4}
+    return {tuple(it[0].split("/")): tuple(it[1:]) for line in lines if line[:1] != "#"
+            and len(it := line.split()) == 4}
 
 
 def record(refused):
-    """Puts into the table that these edits, a crate and a name each, were refused on this text, today; those that are in no
-    line get one without a day, and those that are gone are left out. How many of them it knew."""
+    """Puts into the table that these edits, a crate and a name each, were refused on this text, today; those that are
+    in no line get one without a day, and those that are gone are left out. How many of them it knew."""
     old, new, day = rows(), {}, time.strftime("%Y-%m-%d")
     for crate, name, kind in edits():
         sums = sums_of(crate, name, kind)
@@ -92,13 +94,15 @@ def record(refused):
 
 def refused_in(text):
     """The edits that rt, or wrong_bodies.py, tells as refused."""
-    found = re.findall(r"^(?:rt: )?must-fail (\w+)/(\S+)\.edit: refused", text, re.M) + re.findall(r"^(\w+)/(\S+): refused", text, re.M)
+    found = re.findall(r"^(?:rt: )?must-fail (\w+)/(\S+)\.edit: refused", text,
+                       re.M) + re.findall(r"^(\w+)/(\S+): refused", text, re.M)
     return set(found)
 
 
 def due():
-    """Prints a line a crate of whose edits one is to be tried again, and the sums; how many must be, since what their crate
-    promises, or they themselves, changed since. Those of must-fail/ are tried by the gate, and need nobody else."""
+    """Prints a line a crate of whose edits one is to be tried again, and the sums; how many must be, since what their
+    crate promises, or they themselves, changed since. Those of must-fail/ are tried by the gate, and need nobody
+    else."""
     old, must, may, never = rows(), {}, 0, 0
     for crate, name, kind in edits():
         day, *sums = old.get((crate, name), ("", "", ""))
@@ -109,8 +113,9 @@ def due():
         elif text != sums[1]:
             may += 1
     for crate, names in must.items():
-        print(f"{crate}: its promises changed since these were refused: {' '.join(names)}")
+        print(f"{crate}: what it promises has changed: try again {' '.join(names)}")
     count = sum(map(len, must.values()))
-    print(f"{len(list(edits()))} wrong bodies: {count} must be tried again, since what their crates promise has changed; "
+    print(f"{len(list(edits()))} wrong bodies: {count} must be tried again, since what their crates promise has "
+          f"changed; "
           f"{may} were tried on another text; {never} not since the table began")
     return count

@@ -4,14 +4,15 @@
     python3 house/signatures.py [CRATE..]     at the top of a clone; only these crates
     python3 house/signatures.py --of CRATE    prints what the crate has, in the form of the list
 
-A line of the list is a call or a type, under the name of its crate. Before a call `M` says that it takes memory: `alloc: Global` comes first, behind `self`,
-and the answer is wrapped in `Result<_, NoMemory>`; `A` that it takes `alloc: Global` and is not wrapped; `T` that it takes the threads, `rt: &T`, before that.
-These are left out of its signature, as are lifetimes and bounds; the names of parameters mean nothing. A call or a type that the crates have otherwise is
-followed by a line `here:`, as it stands in the crate (nothing behind it: it is not there), and a line `since:`, the beginning of the line of
-docs/DECISIONS.md that gives the reason.
+A line of the list is a call or a type, under the name of its crate. Before a call `M` says that it takes memory:
+`alloc: Global` comes first, behind `self`, and the answer is wrapped in `Result<_, NoMemory>`; `A` that it takes
+`alloc: Global` and is not wrapped; `T` that it takes the threads, `rt: &T`, before that. These are left out of its
+signature, as are lifetimes and bounds; the names of parameters mean nothing. A call or a type that the crates have
+otherwise is followed by a line `here:`, as it stands in the crate (nothing behind it: it is not there), and a line
+`since:`, the beginning of the line of docs/DECISIONS.md that gives the reason.
 
-It prints each deviation with its reason. The status is 1 where a crate has something else than the list says, or docs/DECISIONS.md no such line.
-"""
+It prints each deviation with its reason. The status is 1 where a crate has something else than the list says, or
+docs/DECISIONS.md no such line. """
 import pathlib
 import re
 import sys
@@ -123,7 +124,8 @@ def types_in(text):
             yield f"{alias[1]}: list of {plain(alias[2])}"
         elif head and line.rstrip().endswith("{"):
             held = fields_of(lines, at)
-            if head[1] == "enum" or (held and all(part.startswith("pub ") for part in re.split(r", (?=\w+(?: \w+)?:)", held.rstrip(",")))):
+            if head[1] == "enum" or (held and all(part.startswith("pub ")
+                                                  for part in re.split(r", (?=\w+(?: \w+)?:)", held.rstrip(",")))):
                 yield plain(f"{head[2]} {{ {held.replace('pub ', '')} }}")
             else:
                 yield head[2]
@@ -192,7 +194,8 @@ def judged(row, has, reasons):
 def main(words):
     unknown = [word for word in words if not word.startswith("-") and not (TOP / "crates" / word / "src").is_dir()]
     if unknown or (words and words[0].startswith("-") and (words[0] != "--of" or len(words) != 2)):
-        print(f"there is no crate {unknown[0]}" if unknown else "signatures.py takes names of crates, or --of and one name")
+        print(f"there is no crate {unknown[0]}" if unknown
+              else "signatures.py takes names of crates, or --of and one name")
         return 2
     if words[:1] == ["--of"]:
         print("\n".join(sorted(crate_has(words[1]))))
@@ -205,7 +208,8 @@ def main(words):
         count, other = count + (not right), other + (right and said is not None)
         if said:
             print(said)
-    print(f"{len(rows)} calls and types in {len(had)} crates: {other} of them are otherwise, each with its reason; {count} without")
+    print(f"{len(rows)} calls and types in {len(had)} crates: {other} of them are otherwise, each with its reason; "
+          f"{count} without")
     return 1 if count or not rows else 0
 
 

@@ -1,28 +1,34 @@
 #!/usr/bin/env python3
-"""A stand-in of a program, built of its sources without any proof, and how many instructions a request of `serve` takes in it: what a change gives is known before
-it is proved.
+"""A stand-in of a program, built of its sources without any proof, and how many instructions a request of `serve` takes
+in it: what a change gives is known before it is proved.
 
-    python3 house/stand_in.py [--root CLONE] [--with COMMAND ..] [--whole [--crate NAME]] [--cut FUNCTION ..] [--inline FUNCTION ..] [--apart FUNCTION ..]
-                              [--kind KIND ..] [--top N] [--still] [--against PROGRAM] [--module FOLDER] [--to FILE]
+    python3 house/stand_in.py [--root CLONE] [--with COMMAND ..] [--whole [--crate NAME]] [--cut FUNCTION ..]
+                              [--inline FUNCTION ..] [--apart FUNCTION ..] [--kind KIND ..] [--top N] [--still]
+                              [--against PROGRAM] [--module FOLDER] [--to FILE]
 
-Prints the tables of bench/instructions.py, of the stand-in and of the program beside it. It is for counting, never for serving or for testing: nothing in it is
-proved, and where a proof would have been refused it does anything. Two minutes of one processor, of which a minute is the front end.
+Prints the tables of bench/instructions.py, of the stand-in and of the program beside it. It is for counting, never for
+serving or for testing: nothing in it is proved, and where a proof would have been refused it does anything. Two minutes
+of one processor, of which a minute is the front end.
 
-It is built by unproved.py, and the attributes that the front end leaves out (`#[inline(always)]`, `#[inline(never)]`, `#[cold]`) are put back from the sources, of
-the repository and of the kit. Of one small program that was built both ways, all attributes were the same, and the code but for stores that nobody reads.
-Of `serve` the stand-in was 0 to 4 % below the proved program, a sum of 100 reads 0.1 % (29 November 2026).
+It is built by unproved.py, and the attributes that the front end leaves out (`#[inline(always)]`, `#[inline(never)]`,
+`#[cold]`) are put back from the sources, of the repository and of the kit. Of one small program that was built both
+ways, all attributes were the same, and the code but for stores that nobody reads. Of `serve` the stand-in was 0 to 4 %
+below the proved program, a sum of 100 reads 0.1 % (29 November 2026).
 
 --root      the clone whose crates are built; without it this one
---with      the commands that the stand-in has: serve (without the option), relay, files (`check`, `replay`, `load` and the others over files). Fewer commands take
-            less time to build; but a function that then has one caller left may go into it, as it does not in the whole program
---whole     the program's own main with all its commands, ads or what --crate names: 150 MB of module, and three times the time
+--with      the commands that the stand-in has: serve (without the option), relay, files (`check`, `replay`, `load` and
+            the others over files). Fewer commands take less time to build; but a function that then has one caller left
+            may go into it, as it does not in the whole program
+--whole     the program's own main with all its commands, ads or what --crate names: 150 MB of module, and three times
+            the time
 --cut       functions whose bodies are cut off, by the beginning of their names, as `keep_play::` or `sqlite`
---inline    functions, by the beginning of their names, that are inlined always, as if their source said so; --apart those that never are. With --module such a
-            trial takes no front end
+--inline    functions, by the beginning of their names, that are inlined always, as if their source said so; --apart
+            those that never are. With --module such a trial takes no front end
 --kind      the kinds of request that are run, as "state" or "mixture"; without it all
 --still     no tick comes, as in bench/instructions.py: the way to compare two trials on a busy machine
 --against   a program that was built by `rt`: its table comes too
---module    a folder: the module is left in it as module.bc, and where it is there already it is taken, and no source is read but for attributes
+--module    a folder: the module is left in it as module.bc, and where it is there already it is taken, and no source is
+            read but for attributes
 --to        where the stand-in's program is left
 """
 import argparse
@@ -98,7 +104,8 @@ def sources_of(root, room, crate, commands):
     if not commands:
         return sources(root, crate)
     text, main = MAIN.replace("CALLS", ", ".join(CALLS[it] for it in commands)), f"{room}/main.rt"
-    pathlib.Path(main).write_text(text.replace("ARMS", "\n            ".join(ARMS[it] for it in commands)), encoding="utf-8")
+    pathlib.Path(main).write_text(text.replace("ARMS", "\n            ".join(ARMS[it] for it in commands)),
+                                  encoding="utf-8")
     return sources(root, crate, main, LIBRARIES)
 
 
@@ -117,7 +124,8 @@ class Attributes:
         for top in (f"{KIT}/rattle", f"{root}/crates"):
             for crate in os.listdir(top):
                 for path in pathlib.Path(f"{top}/{crate}/src").rglob("*.rt"):
-                    self.read(crate, path.relative_to(f"{top}/{crate}/src").with_suffix(""), path.read_text(encoding="utf-8"))
+                    self.read(crate, path.relative_to(f"{top}/{crate}/src").with_suffix(""),
+                              path.read_text(encoding="utf-8"))
 
     @staticmethod
     def named(type_, parameters):
@@ -159,15 +167,18 @@ class Attributes:
                 said = []
 
     def of(self, name):
-        """The attributes of a function of the module. A method has the name of its type's module, and stands there, below it or elsewhere in the crate."""
+        """The attributes of a function of the module. A method has the name of its type's module, and stands there,
+        below it or elsewhere in the crate."""
         path = name.split("::<")[0].split("::")
-        rows, module, owner = self.rows.get((path[0], path[-1]), []), "::".join(path[:-1]), path[-2] if len(path) > 2 else ""
+        rows, module, owner = self.rows.get((path[0], path[-1]),
+                                            []), "::".join(path[:-1]), path[-2] if len(path) > 2 else ""
         above = "::".join(path[:-2])
         hits = [it for place, block, it in rows if place == module and block == ("", "")]
         ways = (lambda of, by: of + by, lambda of, by: owner if by and owner.endswith(by) else "")
         for way in ways if owner and not hits else ():
             named = [(place, it) for place, (of, by), it in rows if way(of, by) == owner]
-            hits = [it for place, it in named if place == above] or [it for place, it in named if place.startswith(above)] or [it for _, it in named]
+            hits = [it for place, it in named if place == above] or [
+                it for place, it in named if place.startswith(above)] or [it for _, it in named]
             if hits:
                 break
         return hits[0] if hits else ""
@@ -207,7 +218,8 @@ def main():
         attributes, others = Attributes(given.root), [(given.inline, "alwaysinline"), (given.apart, "noinline")]
 
         def said_of(name):
-            return next((word for fronts, word in others if name.startswith(tuple(fronts))), None) or attributes.of(name)
+            return next((word for fronts, word in others if name.startswith(tuple(fronts))),
+                        None) or attributes.of(name)
 
         compile_texts(take_out(module, room, said_of, given.cut), program, OPTIMIZED)
         table("the stand-in", program, given.kind, given.top, given.still)

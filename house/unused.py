@@ -3,12 +3,11 @@
 
     python3 house/unused.py [PAPER..]     at the top of a clone; what a PAPER prints (`Core::connection`) is left out
 
-An item is named where code names it: not in a comment, a clause, a `use`, in its own body, nor, of a type or a trait, in its
-own impl blocks, nor, of a method, where one of its name passes the call on. A function without `self` is named by its type (`Octets::new`), one outside of a type in its own crate, or
-in files that name its crate; a name of a method that two types share is printed only where neither is named. Laws, which
-have no body, are called by nobody, and are left out. What tests alone name is told as such. The status is 0 where nothing
-is printed.
-"""
+An item is named where code names it: not in a comment, a clause, a `use`, in its own body, nor, of a type or a trait,
+in its own impl blocks, nor, of a method, where one of its name passes the call on. A function without `self` is named
+by its type (`Octets::new`), one outside of a type in its own crate, or in files that name its crate; a name of a method
+that two types share is printed only where neither is named. Laws, which have no body, are called by nobody, and are
+left out. What tests alone name is told as such. The status is 0 where nothing is printed. """
 import collections
 import pathlib
 import re
@@ -18,7 +17,8 @@ CLAUSE = re.compile(r"^\s*(//|ghost\b|requires\b|ensures\b|mod\b)|[≡→λ×⊎
 USE = re.compile(r"^\s*(pub(\(crate\))? )?use\b")
 FUNCTION = re.compile(r"^( *)(pub )?(?:const )?(?:unsafe )?fn (\w+)")
 TYPE = re.compile(r"^pub (struct|enum|trait|const|type) (\w+)")
-BLOCK = re.compile(r"^(?:pub )?(impl|trait)\b(?:<[^{]*?>)? *(?:(?:\w+::)*(\w+)(?:<[^{]*?>)? for )?&?(?:mut )?(?:\w+::)*(\w+)?")
+BLOCK = re.compile(r"^(?:pub )?(impl|trait)\b(?:<[^{]*?>)? *(?:(?:\w+::)*(\w+)(?:<[^{]*?>)? for )?&?(?:mut "
+                   r")?(?:\w+::)*(\w+)?")
 Item = collections.namedtuple("Item", "kind crate name owner path line is_method")
 
 

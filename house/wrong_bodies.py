@@ -4,26 +4,34 @@
     python3 house/wrong_bodies.py NAME..     at the top of a clone, for these crates
     python3 house/wrong_bodies.py            for each crate that has such a folder, which takes hours
     python3 house/wrong_bodies.py --by COMMAND NAME..     the same by a command of one's own, one edit after another
-    python3 house/wrong_bodies.py --table FOLDER          proves nothing: a table of what the files NAME.txt of a folder say
-    python3 house/wrong_bodies.py --look     proves nothing: tells which edits of must-fail/ and of wrong-bodies/ no longer apply
-    python3 house/wrong_bodies.py --named    proves nothing: the list of wrong_bodies.md; status 1 where an edit or its clause is gone
-    python3 house/wrong_bodies.py --due      proves nothing: which edits that the gate leaves out must be tried again, by refused.txt; status 1 where one must
-    python3 house/wrong_bodies.py --record FILE..         puts into refused.txt what rt ci, rt must-fail or this script printed of this text
+    python3 house/wrong_bodies.py --table FOLDER
+        proves nothing: a table of what the files NAME.txt of a folder say
+    python3 house/wrong_bodies.py --look
+        proves nothing: tells which edits of must-fail/ and of wrong-bodies/ no longer apply
+    python3 house/wrong_bodies.py --named
+        proves nothing: the list of wrong_bodies.md; status 1 where an edit or its clause is gone
+    python3 house/wrong_bodies.py --due
+        proves nothing: which edits that the gate leaves out must be tried again, by refused.txt; status 1 where one
+        must
+    python3 house/wrong_bodies.py --record FILE..
+        puts into refused.txt what rt ci, rt must-fail or this script printed of this text
 
-An edit has the form of those in must-fail/: a line `file: src/lib.rt`, and pairs of lines `old: TEXT` and `new: TEXT`. The tree is copied into a scratch
-folder without what rt made; there the edits stand in must-fail/, alone, and `rt must-fail NAME` tries them. Nothing in the tree is changed. It begins with
-what `rt check` kept on this machine of the same crates, so check them first.
+An edit has the form of those in must-fail/: a line `file: src/lib.rt`, and pairs of lines `old: TEXT` and `new: TEXT`.
+The tree is copied into a scratch folder without what rt made; there the edits stand in must-fail/, alone, and `rt
+must-fail NAME` tries them. Nothing in the tree is changed. It begins with what `rt check` kept on this machine of the
+same crates, so check them first.
 
-With --by, edits of different functions are made together in a scratch copy, and `COMMAND NAME --only FUNCTION ..` is called there by the shell: as the check of
-one function rests on the contracts of others and not on their bodies, one call tries many edits. The command says of each function of the crate, as `rattle
-check` does, whether it is proved. An edit of which that call says nothing of its own is tried once more, alone; one outside of functions is tried by
-`COMMAND NAME`. Where WRONG_LOGS names a folder, what was printed is written there, and a file NAME.txt with a line an edit; what such a file tells as refused
-is not tried again.
+With --by, edits of different functions are made together in a scratch copy, and `COMMAND NAME --only FUNCTION ..` is
+called there by the shell: as the check of one function rests on the contracts of others and not on their bodies, one
+call tries many edits. The command says of each function of the crate, as `rattle check` does, whether it is proved. An
+edit of which that call says nothing of its own is tried once more, alone; one outside of functions is tried by `COMMAND
+NAME`. Where WRONG_LOGS names a folder, what was printed is written there, and a file NAME.txt with a line an edit; what
+such a file tells as refused is not tried again.
 
-It prints for each crate which edits the prover refuses, which are still proved (a contract is too weak there, or the edit means the same as before), which no
-longer apply or can't be read, and which were not tried. The status is 0 where all are refused. What is refused comes into refused.txt, with the day and
-sums of what its crate promised and of its text; the gate fails where a crate promises something else since.
-"""
+It prints for each crate which edits the prover refuses, which are still proved (a contract is too weak there, or the
+edit means the same as before), which no longer apply or can't be read, and which were not tried. The status is 0 where
+all are refused. What is refused comes into refused.txt, with the day and sums of what its crate promised and of its
+text; the gate fails where a crate promises something else since. """
 import os
 import pathlib
 import re
@@ -84,7 +92,8 @@ def scratch(room):
 
 
 def called(command, room, seconds):
-    """Calls the command in the scratch copy; returns its status, what it printed, and how long it took. Status 124: it was ended."""
+    """Calls the command in the scratch copy; returns its status, what it printed, and how long it took. Status 124: it
+    was ended."""
     began = time.time()
     how = {"cwd": room, "stdout": subprocess.PIPE, "stderr": subprocess.STDOUT, "text": True, "errors": "replace"}
     with subprocess.Popen(command, shell=True, start_new_session=True, **how) as one:
@@ -102,7 +111,8 @@ def function_at(crate, file, old):
     with open(f"crates/{crate}/{file}", encoding="utf-8") as it:
         text = it.read()
     place = text.index(old)
-    heads = list(re.finditer(r"^( *)(?:pub(?:\([^)]*\))? )?(?:const )?(?:unsafe )?fn (\w+)", text[: place + len(old)], re.MULTILINE))
+    heads = list(re.finditer(r"^( *)(?:pub(?:\([^)]*\))? )?(?:const )?(?:unsafe )?fn (\w+)", text[: place + len(old)],
+                             re.MULTILINE))
     if not heads:
         return None
     head = heads[-1]
@@ -115,7 +125,8 @@ def function_at(crate, file, old):
     if names and names[-1] == "mod":
         names = names[:-1]
     if head[1]:
-        blocks = re.findall(r"^impl(?:<.*?>)? +(?:(?:\w+::)*(\w+)(?:<[^{]*?>)? for )?&?(?:mut )?(\w+)", text[: head.start()], re.MULTILINE)
+        blocks = re.findall(r"^impl(?:<.*?>)? +(?:(?:\w+::)*(\w+)(?:<[^{]*?>)? for )?&?(?:mut )?(\w+)",
+                            text[: head.start()], re.MULTILINE)
         if not blocks:
             return None
         trait, name = blocks[-1]
@@ -142,9 +153,11 @@ def word_of(status, said, crate, functions):
         return "NOT TRIED (it did not end in time)"
     lines = dict(re.findall(rf"^fn {crate}::(\S+): (.*)", said, re.MULTILINE))
     if functions is None:
-        bad = sorted(name for name, line in lines.items() if line != "proved") or re.findall(r"^\./proofs/\S*?(\w+)\.antt:[\d:]+ error: `", said, re.MULTILINE)[:1]
+        bad = sorted(name for name, line in lines.items() if line != "proved") or re.findall(
+            r"^\./proofs/\S*?(\w+)\.antt:[\d:]+ error: `", said, re.MULTILINE)[:1]
         return f"refused ({' '.join(bad)})" if bad else "NOT REFUSED" if status == 0 else None
-    told = [next((line for full, line in lines.items() if full == name or full.endswith("::" + name)), None) for name in functions]
+    told = [next((line for full, line in lines.items() if full == name or full.endswith("::" + name)), None)
+            for name in functions]
     # one that is not proved since it calls such a one, and for no goal of its own, is told nothing of
     if any(line and line != "proved" and ("did not prove" in line or "it calls" not in line) for line in told):
         return f"refused ({' '.join(sorted(functions))})"
@@ -156,7 +169,8 @@ def rounds_of(crate, edits):
     rounds = []
     for edit in edits:
         functions = functions_of(crate, f"crates/{crate}/wrong-bodies/{edit}.edit")
-        group = None if functions is None else next((it for it in rounds if it[1] is not None and not it[1] & functions), None)
+        group = None if functions is None else next((it for it in rounds if it[1] is not None
+                                                     and not it[1] & functions), None)
         if group is None:
             rounds.append(([edit], functions))
         else:
@@ -286,7 +300,8 @@ def why_not(edit, crate):
                 texts[path] = it.read()
         count = texts[path].count(old)
         if count != 1 or new is None:
-            return f"its old text stands {count} times in {file}" if new is not None else "it has an old text with no new one"
+            return (f"its old text stands {count} times in {file}" if new is not None
+                    else "it has an old text with no new one")
         texts[path] = texts[path].replace(old, new)
     return None if texts else "it changes nothing"
 
@@ -316,7 +331,8 @@ def rows_of_list():
 
 
 def clauses_of(crate, function):
-    """The names of what the functions of this name in a crate promise, and the empty name where one has a clause without a name."""
+    """The names of what the functions of this name in a crate promise, and the empty name where one has a clause
+    without a name."""
     heads = []
     for folder, _, files in os.walk(f"crates/{crate}/src"):
         for file in files:
@@ -339,7 +355,8 @@ def lacks(edits, refused, tried_by):
         # (the promises of a trait's call stand in its crate)
         clauses, is_there = clauses_of("sum_commands" if "PartService" in refused else edits[0][0], function)
         if not is_there or clause not in clauses:
-            yield f"no function {function} of {edits[0][0]} has " + (f"a clause {clause}" if clause else "a clause without a name")
+            yield f"no function {function} of {edits[0][0]} has " + (f"a clause {clause}" if clause
+                                                                     else "a clause without a name")
     if not edits or not named:
         yield "a row without an edit or without what refuses it"
 
@@ -351,9 +368,11 @@ def named():
         wrong = list(lacks(edits, refused, tried_by))
         count, lacking = count + len(edits), lacking + len(wrong)
         for crate, name in edits:
-            path = next((it for it in (f"crates/{crate}/{kind}/{name}.edit" for kind in ("must-fail", "wrong-bodies")) if os.path.isfile(it)), None)
+            path = next((it for it in (f"crates/{crate}/{kind}/{name}.edit" for kind in ("must-fail", "wrong-bodies"))
+                         if os.path.isfile(it)), None)
             where = sorted({f"crates/{crate}/{file}" for file, _, _ in pairs_of(path)}) if path else []
-            print(f"{crate}/{name}: {what}\n    in {' '.join(where) or '(no file)'}; refused by {refused}; tried by {tried_by}")
+            print(f"{crate}/{name}: {what}\n    in {' '.join(where) or '(no file)'}; refused by {refused}; tried by "
+                  f"{tried_by}")
         print("".join(f"    MISSING: {it}\n" for it in wrong), end="")
     print(f"{count} wrong bodies by name, {lacking} of them lack something")
     return lacking if count else 1

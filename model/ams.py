@@ -32,8 +32,8 @@ def in_frame(ams):
 
 
 def any_frame(target, source, payload, *, reserved=0, whole=None, **said):
-    """A frame between two addresses, each a NetId and a port, whose fields say what they are told to: the command, flags,
-    length, error and number of the AMS header, and the length of the whole."""
+    """A frame between two addresses, each a NetId and a port, whose fields say what they are told to: the command,
+    flags, length, error and number of the AMS header, and the length of the whole."""
     it = {"command": 0, "flags": REQUEST, "length": len(payload), "error": 0, "number": 0, **said}
     head = struct.pack("<HHIII", *(it[name] for name in ("command", "flags", "length", "error", "number")))
     ams = target + source + head + payload

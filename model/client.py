@@ -1,9 +1,10 @@
-"""A client as a plain model, written from the protocol alone: what a client command sends over a link and prints, and how it ends, by what comes over the link.
+"""A client as a plain model, written from the protocol alone: what a client command sends over a link and prints, and
+how it ends, by what comes over the link.
 
-It shares nothing with the program or its definitions. `python3 model/hostile.py` writes runs by it, and `python3 model/random_runs.py` compares the program with it
-over peers that do as they like. What comes is a list of ("bytes", moment, given), ("quiet", moment), or the same so many times, as ("quiet", moment, 1000000), and
-("closed", moment); moments count 100 ns.
-"""
+It shares nothing with the program or its definitions. `python3 model/hostile.py` writes runs by it, and `python3
+model/random_runs.py` compares the program with it over peers that do as they like. What comes is a list of ("bytes",
+moment, given), ("quiet", moment), or the same so many times, as ("quiet", moment, 1000000), and ("closed", moment);
+moments count 100 ns. """
 import re
 import struct
 
@@ -13,10 +14,14 @@ from ams import OWN_PORT, framed, net_of, u16, u32
 OUTSTANDING_FOR, MOST_QUIET, BUFFER = 50000000, 1000000, 65536
 ENTRY, BIGGEST, DEEPEST = 65536, 1048576, 16
 TEXTS = {
-    0x6: "target port not found", 0x7: "target machine not found", 0x8: "unknown command id", 0xB: "unknown AMS command", 0xE: "invalid AMS length",
-    0x700: "general device error", 0x701: "service not supported", 0x702: "invalid index group", 0x703: "invalid index offset", 0x704: "reading or writing not permitted",
-    0x705: "parameter size not correct", 0x706: "invalid parameter value", 0x710: "symbol not found", 0x711: "symbol version invalid",
-    0x713: "transmission mode not supported", 0x714: "notification handle invalid", 0x716: "no more notification handles", 0x717: "size for watch too big",
+    0x6: "target port not found", 0x7: "target machine not found", 0x8: "unknown command id",
+    0xB: "unknown AMS command", 0xE: "invalid AMS length",
+    0x700: "general device error", 0x701: "service not supported", 0x702: "invalid index group",
+    0x703: "invalid index offset", 0x704: "reading or writing not permitted",
+    0x705: "parameter size not correct", 0x706: "invalid parameter value", 0x710: "symbol not found",
+    0x711: "symbol version invalid",
+    0x713: "transmission mode not supported", 0x714: "notification handle invalid",
+    0x716: "no more notification handles", 0x717: "size for watch too big",
     0x744: "invoke id in use", 0x745: "timeout elapsed", 0x754: "invalid response",
 }
 SIGNED, UNSIGNED = {(16, 1), (2, 2), (3, 4), (20, 8)}, {(17, 1), (18, 2), (19, 4), (21, 8)}
@@ -45,7 +50,8 @@ def number(given, at, width=4):
 
 
 def decimal(text):
-    """The number that a text of decimal digits is, written without superfluous zeros; None for any other text, and beyond 64 bits."""
+    """The number that a text of decimal digits is, written without superfluous zeros; None for any other text, and
+    beyond 64 bits."""
     return int(text) if re.fullmatch(r"-?[0-9]{1,20}", text) and str(int(text)) == text else None
 
 
@@ -68,7 +74,8 @@ def value_text(kind, given):
     if kind == 33 and len(given) == 1:
         return "TRUE" if given[0] else "FALSE"
     if kind == 30 and given:
-        return "'" + "".join(chr(c) if 0x20 <= c <= 0x7E and chr(c) not in "'$" else f"${c:02X}" for c in given.split(b"\0")[0]) + "'"
+        return "'" + "".join(chr(c) if 0x20 <= c <= 0x7E and chr(c) not in "'$" else f"${c:02X}"
+                             for c in given.split(b"\0")[0]) + "'"
     return "16#" + given.hex()
 
 
@@ -125,10 +132,12 @@ def entries_in(given, count):
 
 
 def fields_in(given):
-    """The fields of a type's entry and how many sub entries it has, what stands behind its dimensions, and what behind it; None off its text."""
+    """The fields of a type's entry and how many sub entries it has, what stands behind its dimensions, and what behind
+    it; None off its text."""
     if len(given) < 42:
         return None
-    whole, lengths, dims, subs, at, texts = number(given, 0), [number(given, k, 2) for k in (32, 34, 36)], number(given, 38, 2), number(given, 40, 2), 42, []
+    whole, lengths, dims, subs, at, texts = number(given, 0), [number(given, k, 2) for k in (32, 34, 36)], number(
+        given, 38, 2), number(given, 40, 2), 42, []
     if whole < 45 + sum(lengths) + 8 * dims or whole > len(given):
         return None
     for length in lengths:
@@ -136,7 +145,8 @@ def fields_in(given):
         if given[at + length] != 0:
             return None
         at += length + 1
-    it = {"size": number(given, 16), "offset": number(given, 20), "kind": number(given, 24), "name": texts[0], "type": texts[1]}
+    it = {"size": number(given, 16), "offset": number(given, 20), "kind": number(given, 24), "name": texts[0],
+          "type": texts[1]}
     return it, subs, given[at + 8 * dims:whole], given[whole:]
 
 
@@ -222,7 +232,8 @@ class Upload:
         end = 0
         for sub in it["subs"]:
             kind = type_of(sub["type"])
-            if kind is None or sub["size"] != self.size(kind) or sub["offset"] < end or sub["offset"] + sub["size"] > it["size"]:
+            if kind is None or sub["size"] != self.size(kind) or sub["offset"] < end or sub["offset"] + sub[
+                "size"] > it["size"]:
                 return False
             if not self.is_sound(kind[1], depth - 1):
                 return False
@@ -234,7 +245,8 @@ class Upload:
         bounds, own = kind
         paths = [path]
         for k, (low, high) in enumerate(bounds):
-            paths = [one + (b"[" if k == 0 else b",") + str(index).encode() for one in paths for index in range(low, high + 1)]
+            paths = [one + (b"[" if k == 0 else b",") + str(index).encode() for one in paths
+                     for index in range(low, high + 1)]
         for one in paths:
             yield from self.own_leaves(one + (b"]" if bounds else b""), at, own)
             at += self.own_size(own)
@@ -252,7 +264,8 @@ class Upload:
                 yield from self.leaves(path + b"." + sub["name"], at + sub["offset"], type_of(sub["type"]))
 
 
-# Calls: each yields ("send", command, payload), ("print", text) and ("hear",), and is given a reply behind its result, or a sample.
+# Calls: each yields ("send", command, payload), ("print", text) and ("hear",), and is given a reply behind its result,
+# or a sample.
 
 
 def sent(command, payload):
@@ -326,12 +339,14 @@ def listed():
     if found is None:
         raise bad_peer()
     for it in found:
-        yield "print", f"{name_text(it['name'])} 0x{it['group']:X} {it['offset']} {it['size']} 0x{it['flags']:X} {name_text(it['type'])}\n"
+        yield ("print", f"{name_text(it['name'])} 0x{it['group']:X} {it['offset']} {it['size']} 0x{it['flags']:X} "
+               f"{name_text(it['type'])}\n")
 
 
 def watch(name, mode, cycle, count):
     it = yield from entry_of(name)
-    handle = yield from sent(6, u32(it["group"]) + u32(it["offset"]) + u32(it["size"]) + u32(mode) + u32(0) + u32(cycle) + bytes(16))
+    handle = yield from sent(6, u32(it["group"]) + u32(it["offset"]) + u32(it["size"]) + u32(mode) + u32(0) + u32(
+        cycle) + bytes(16))
     while count:
         own, moment, given = yield ("hear",)
         if u32(own) != handle:
@@ -345,7 +360,8 @@ def watch(name, mode, cycle, count):
 
 
 class Recording:
-    """What a recording has: the entries of its names, its notifications by their handles in the order of the answers that gave them, those that ended, and its rows."""
+    """What a recording has: the entries of its names, its notifications by their handles in the order of the answers
+    that gave them, those that ended, and its rows."""
 
     def __init__(self, names, mode, cycle, count, first=1):
         self.names, self.mode, self.cycle, self.count, self.first = names, mode, cycle, count, first
@@ -371,7 +387,8 @@ class Recording:
         for name in self.names:
             it = yield from entry_of(name)
             self.entries.append(it)
-            handle = yield from sent(6, u32(it["group"]) + u32(it["offset"]) + u32(it["size"]) + u32(self.mode) + u32(0) + u32(self.cycle) + bytes(16))
+            handle = yield from sent(6, u32(it["group"]) + u32(it["offset"]) + u32(it["size"]) + u32(self.mode) + u32(
+                0) + u32(self.cycle) + bytes(16))
             self.handles.setdefault(handle, it["name"])
         while not self.has_enough() and not self.ended.issuperset(self.handles):
             yield ("hear",)
@@ -418,12 +435,14 @@ def recording_of(words):
 
 
 class Client:
-    """What a client hears of what came. `parts` are what it does, in order: ("sent", frame), ("put", text), ("kept", row)."""
+    """What a client hears of what came. `parts` are what it does, in order: ("sent", frame), ("put", text), ("kept",
+    row)."""
 
     def __init__(self, words, me, peer, port):
         self.me, self.peer = net_of(me) + u16(OWN_PORT), net_of(peer) + u16(port)
         self.recording = recording_of(words) if words[0] == "record" else None
-        self.call, self.parts, self.stream, self.samples = self.recording.call() if self.recording else call_of(words), [], b"", []
+        self.call, self.parts, self.stream, self.samples = self.recording.call() if self.recording else call_of(
+            words), [], b"", []
         self.moment, self.id, self.waits, self.late, self.over, self.wants = 0, 0, None, None, None, None
 
     def begin(self, moment):
@@ -531,7 +550,8 @@ def notes_in(payload):
 
 
 def pieces_of(comes):
-    """What a link in memory gives, one answer each: bytes as far as the client's buffer takes them, and behind all else the end."""
+    """What a link in memory gives, one answer each: bytes as far as the client's buffer takes them, and behind all else
+    the end."""
     last = 0
     for it in comes:
         last = max(last, it[1])
@@ -576,12 +596,14 @@ def total_lines(keeper, entries):
         if keeper.fails():
             return None
         count, last = keeper.total(it["name"])
-        text += f"{escaped(it['name'])} count {count}" + (f" last {last[2]} {value_text(it['kind'], last[3])}" if last else "") + "\n"
+        text += f"{escaped(it['name'])} count {count}" + (f" last {last[2]} {value_text(it['kind'], last[3])}" if last
+                                                          else "") + "\n"
     return text
 
 
 def run(words, comes, *, me, peer, to="", keeper=None, **fails):
-    """The status, what is printed, and what is done over the link, where this call of the link or this piece of the output fails, counted from 1."""
+    """The status, what is printed, and what is done over the link, where this call of the link or this piece of the
+    output fails, counted from 1."""
     fail, fail_put, leave = (fails.get(name, 0) for name in ("fail", "fail_put", "leave"))
     client, talk, out, calls, puts, quiet, at = Client(words, me, peer, 851), [], "", 1, 0, 0, 0
     if client.recording and keeper.fails():
@@ -609,7 +631,8 @@ def run(words, comes, *, me, peer, to="", keeper=None, **fails):
                 talk.append(f"sent {part[1].hex()}")
         if client.over and client.recording and client.over.status == 0:
             text = total_lines(keeper, client.recording.entries)
-            return ended(0, text, talk, out, puts, fail_put, leave) if text is not None else ended(16, "ads: keeper fault\n", talk, out, puts, fail_put, leave)
+            return ended(0, text, talk, out, puts, fail_put, leave) if text is not None else ended(
+                16, "ads: keeper fault\n", talk, out, puts, fail_put, leave)
         if client.over:
             return ended(client.over.status, client.over.line, talk, out, puts, fail_put, leave)
         if quiet == MOST_QUIET:

@@ -1,10 +1,10 @@
 """Random lives of `adsd` over one store, with new descriptions, for model/random_runs.py (--adsd).
 
-In a life random clients send one event behind another, in one of the profiles, and new descriptions, some of which are refused, take the place of the one that
-is served. Each reply must be that of the model (model/protocol.py), and the log must tell of each description what the model says of it. A life ends by a signal,
-with the model's summary. Then the store's file must stand for the values that the model has (model/store.py), and the next life begins with them, often over
-another description.
-"""
+In a life random clients send one event behind another, in one of the profiles, and new descriptions, some of which are
+refused, take the place of the one that is served. Each reply must be that of the model (model/protocol.py), and the log
+must tell of each description what the model says of it. A life ends by a signal, with the model's summary. Then the
+store's file must stand for the values that the model has (model/store.py), and the next life begins with them, often
+over another description. """
 import functools
 import os
 import pathlib
@@ -25,7 +25,8 @@ SUMMARY = re.compile(r"connections (\d+) requests (\d+) replies (\d+) samples (\
 
 
 def events_of(r, d, profile):
-    """The events of a life that begins over this description; those that go by the clock, and texts that are there already, are left out."""
+    """The events of a life that begins over this description; those that go by the clock, and texts that are there
+    already, are left out."""
     last = random_runs.toml_of(d)
     for event in random_runs.script(r, d, notes=False):
         if event[0] == "reload":
@@ -35,7 +36,8 @@ def events_of(r, d, profile):
             last = event[2]
             yield event
         elif event[0] in ("open", "bytes", "close"):
-            yield from wide_runs.with_router(r, wide_runs.wider_event(r, event) if profile == "wide" or r.random() < 0.5 else event)
+            yield from wide_runs.with_router(r, wide_runs.wider_event(r, event) if profile == "wide" or r.random() < 0.5
+                                             else event)
 
 
 def put(folder, text):
@@ -44,7 +46,8 @@ def put(folder, text):
 
 
 def described(folder, text, line):
-    """Puts a new description in the place of the one that is served, and waits until the log tells of it; what differs from the model's line, or None."""
+    """Puts a new description in the place of the one that is served, and waits until the log tells of it; what differs
+    from the model's line, or None."""
     log = pathlib.Path(folder, "log")
     before, until = len(TOLD.findall(log.read_text())), time.monotonic() + 20
     put(folder, text)
@@ -53,12 +56,15 @@ def described(folder, text, line):
             return f"nothing is told of a description of which the model says {line!r}"
         time.sleep(0.005)
     word, number = line.split()[1:]
-    wanted = f"accepted: version {number}" if word == "ok" else f"refused: rule {number}" if number != "0" else "refused: it is no TOML"
-    return None if told[before:] == [wanted] else f"{told[before:]} is told of a description, where {wanted!r} was wanted"
+    wanted = (f"accepted: version {number}" if word == "ok" else f"refused: rule {number}" if number != "0"
+              else "refused: it is no TOML")
+    return None if told[before:] == [
+        wanted] else f"{told[before:]} is told of a description, where {wanted!r} was wanted"
 
 
 def ended(process, machine, way):
-    """Ends a life; what differs of its summary. A request that has no answer may be left unread, and a connection that has none may not be taken in any more."""
+    """Ends a life; what differs of its summary. A request that has no answer may be left unread, and a connection that
+    has none may not be taken in any more."""
     process.send_signal(way)
     out = process.communicate(timeout=60)[0].decode()
     found = SUMMARY.fullmatch(out)
@@ -71,13 +77,15 @@ def ended(process, machine, way):
 
 def lived(words, folder, machine, events, way):
     """A life of the daemon against the model; what differs, or None."""
-    how = {"cwd": folder, "stdout": subprocess.PIPE, "preexec_fn": lambda: signal.pthread_sigmask(signal.SIG_SETMASK, BLOCKED)}
+    how = {"cwd": folder, "stdout": subprocess.PIPE, "preexec_fn": lambda: signal.pthread_sigmask(signal.SIG_SETMASK,
+                                                                                                  BLOCKED)}
     with open(os.path.join(folder, "log"), "wb") as log, subprocess.Popen(words, stderr=log, **how) as it:
         try:
             if it.stdout.readline() != b"listening\n":
                 return "it does not listen"
             port = int(words[words.index("--listen") + 1].split(":")[1])
-            return random_runs.talked(events, machine, port, functools.partial(described, folder)) or ended(it, machine, way)
+            return random_runs.talked(events, machine, port, functools.partial(described, folder)) or ended(it, machine,
+                                                                                                            way)
         finally:
             it.kill()
 
@@ -87,7 +95,9 @@ def one_daemon(program, seed, folder, has):
     r, kept, body = random.Random(seed), pathlib.Path(folder, "kept"), None
     for path in pathlib.Path(folder).glob("kept*"):
         path.unlink()
-    d, profile, others = wide_runs.without_signals(random_runs.description(r)), r.choice(("wide", "strict")), r.choice(has.others)
+    d, profile, others = wide_runs.without_signals(random_runs.description(r)), r.choice(("wide",
+                                                                                          "strict")), r.choice(
+        has.others)
     random_runs.write(folder, "words", f"{profile} {others}\n")
     for life in range(1, r.choice((2, 3, 4))):
         put(folder, random_runs.toml_of(d))
@@ -100,7 +110,8 @@ def one_daemon(program, seed, folder, has):
             return f"life {life}, {profile}, other_routes {others}: {said}"
         standing, wanted = store.standing_of(kept.read_bytes()), store.body_of(machine)
         if standing is None or standing[2] != wanted:
-            return f"behind life {life}, {profile}: the store stands for {standing and standing[2].hex()}, and not for {wanted.hex()}"
+            return (f"behind life {life}, {profile}: the store stands for {standing and standing[2].hex()}, and not "
+                    f"for {wanted.hex()}")
         accepted = [event[1] for event in events if event[0] == "reload" and isinstance(event[1], dict)]
         body, d = standing[2], accepted[-1] if accepted else d
         if r.random() < 0.6:

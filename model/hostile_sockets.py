@@ -1,6 +1,7 @@
-"""The hostile runs over sockets, for `python3 model/hostile.py --adsd PATH`: scripts that need no clock, packets to a local router, and NetIds that no route names, on the
-daemon in both profiles. One daemon a round takes all runs, one behind another, and so does one model (model/protocol.py); each byte must be the model's, and behind all runs the
-daemon must have as many descriptors and threads as before the first."""
+"""The hostile runs over sockets, for `python3 model/hostile.py --adsd PATH`: scripts that need no clock, packets to a
+local router, and NetIds that no route names, on the daemon in both profiles. One daemon a round takes all runs, one
+behind another, and so does one model (model/protocol.py); each byte must be the model's, and behind all runs the daemon
+must have as many descriptors and threads as before the first."""
 import os
 import tempfile
 
@@ -29,7 +30,8 @@ def routers():
     yield asked("Byte by byte.", *[whole[k:k + 1] for k in range(len(whole))])
     for cut in range(1, len(port) + 2):
         yield asked(f"The first {cut} bytes of a packet, and then a frame.", (port + u16(0))[:cut])
-    for said, text in (("another length", b"\0\x10\3\0\0\0\0\0\0"), ("another command", b"\1\x10\0\0\0\0"), ("a NetId with a byte", b"\2\x10\1\0\0\0\0"), ("a close of a port", b"\1\0\2\0\0\0\0\0")):
+    for said, text in (("another length", b"\0\x10\3\0\0\0\0\0\0"), ("another command", b"\1\x10\0\0\0\0"),
+                       ("a NetId with a byte", b"\2\x10\1\0\0\0\0"), ("a close of a port", b"\1\0\2\0\0\0\0\0")):
         yield asked(f"No packet to a router: {said}.", text)
     yield asked("A packet to a router behind a frame.", state(1), net)
     yield asked("A packet to a router behind the first byte of a frame.", b"\0", net)
@@ -38,12 +40,17 @@ def routers():
 def strangers():
     """A machine that no route names."""
     yield asked("It asks for the state.", frame(4, 1, b"", source=STRANGER))
-    yield asked("It reads, and writes, and reads again.", *[frame(2, 1, u32(0x4040) + u32(0) + u32(4), source=STRANGER), write(2, 0x4040, 0, b"\7\0\0\0", source=STRANGER), read(3, 0x4040, 0, 4)])
+    yield asked("It reads, and writes, and reads again.",
+                *[frame(2, 1, u32(0x4040) + u32(0) + u32(4), source=STRANGER),
+                  write(2, 0x4040, 0, b"\7\0\0\0", source=STRANGER), read(3, 0x4040, 0, 4)])
     yield asked("It controls.", frame(5, 1, u16(6) + u16(0) + u32(0), source=STRANGER), state(2))
-    yield asked("It asks another machine, and another port.", frame(4, 1, b"", source=STRANGER, net="5.1.2.3.1.2"), frame(4, 2, b"", source=STRANGER, port=77))
-    yield asked("It is all zeros, and all ones.", frame(4, 1, b"", source="0.0.0.0.0.0"), frame(4, 2, b"", source="255.255.255.255.255.255"))
+    yield asked("It asks another machine, and another port.", frame(4, 1, b"", source=STRANGER, net="5.1.2.3.1.2"),
+                frame(4, 2, b"", source=STRANGER, port=77))
+    yield asked("It is all zeros, and all ones.", frame(4, 1, b"", source="0.0.0.0.0.0"),
+                frame(4, 2, b"", source="255.255.255.255.255.255"))
     yield asked("It has the server's own NetId.", frame(4, 1, b"", source=NET))
-    yield asked("One with a route speaks on a stranger's connection.", frame(4, 1, b"", source=STRANGER), state(2), write(3, 0x4040, 0, b"\1\0\0\0"))
+    yield asked("One with a route speaks on a stranger's connection.", frame(4, 1, b"", source=STRANGER), state(2),
+                write(3, 0x4040, 0, b"\1\0\0\0"))
 
 
 SUBJECTS = {**hostile.SCRIPTS, "told": hostile.told_sums, "routers": routers, "strangers": strangers}
@@ -101,7 +108,8 @@ def round_of(program, folder, profile, others, has):
         wrong += [held.told(left)] if left[:2] != (0, 0) else []
     for said in wrong[:10]:
         print(f"{profile}, other_routes {others or 'none'}: {said}")
-    print(f"{profile}, other_routes {others or 'none'}: {counts[0]} runs over sockets, {len(wrong)} otherwise; {counts[1]} go by the clock, and are played by scripts alone; "
+    print(f"{profile}, other_routes {others or 'none'}: {counts[0]} runs over sockets, {len(wrong)} otherwise; "
+          f"{counts[1]} go by the clock, and are played by scripts alone; "
           f"{held.told(left)}")
     return len(wrong)
 

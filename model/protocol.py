@@ -1,8 +1,9 @@
-"""The server and the relay as plain models, written from the protocol alone: what a device answers to a script of `ads replay`, and what `ads relay` passes on, byte for byte.
+"""The server and the relay as plain models, written from the protocol alone: what a device answers to a script of `ads
+replay`, and what `ads relay` passes on, byte for byte.
 
-It shares nothing with the program or its definitions, and is written for reading, not for speed. `python3 model/random_runs.py` compares the two over random
-descriptions and scripts. A description is a dict with the keys of its text; a script is a list of events (see `turn`).
-"""
+It shares nothing with the program or its definitions, and is written for reading, not for speed. `python3
+model/random_runs.py` compares the two over random descriptions and scripts. A description is a dict with the keys of
+its text; a script is a list of events (see `turn`). """
 import math
 import re
 import struct
@@ -10,8 +11,10 @@ import struct
 from ams import framed, in_frame, net_of, u16, u32
 
 PLAIN = {
-    "BOOL": (1, 33), "SINT": (1, 16), "USINT": (1, 17), "BYTE": (1, 17), "INT": (2, 2), "UINT": (2, 18), "WORD": (2, 18), "DINT": (4, 3), "UDINT": (4, 19),
-    "DWORD": (4, 19), "TIME": (4, 19), "LINT": (8, 20), "ULINT": (8, 21), "LWORD": (8, 21), "REAL": (4, 4), "LREAL": (8, 5),
+    "BOOL": (1, 33), "SINT": (1, 16), "USINT": (1, 17), "BYTE": (1, 17), "INT": (2, 2), "UINT": (2, 18),
+    "WORD": (2, 18), "DINT": (4, 3), "UDINT": (4, 19),
+    "DWORD": (4, 19), "TIME": (4, 19), "LINT": (8, 20), "ULINT": (8, 21), "LWORD": (8, 21), "REAL": (4, 4),
+    "LREAL": (8, 5),
 }
 AREAS = ("inputs", "outputs", "memory", "data")
 BYTES_OF = {0xF020: "inputs", 0xF030: "outputs", 0x4020: "memory", 0x4040: "data"}
@@ -58,7 +61,8 @@ def type_of(text):
 
 
 class Types:
-    """The named types of a description: structures with the places of their members, and enumerations. To the `wide` server's clients the id of an array is its element's."""
+    """The named types of a description: structures with the places of their members, and enumerations. To the `wide`
+    server's clients the id of an array is its element's."""
 
     def __init__(self, listed, wide=False):
         self.listed, self.named, self.wide = listed, {}, wide
@@ -156,14 +160,16 @@ class Types:
         if kind[0] == "named":
             return self.entry(self.named[kind[1].lower()])
         if kind[0] == "array":
-            return type_entry(self.size(kind), 0, self.number(kind[2]), 1, (self.text(kind), self.text(kind[2]), ""), kind[1])
+            return type_entry(self.size(kind), 0, self.number(kind[2]), 1, (self.text(kind), self.text(kind[2]), ""),
+                              kind[1])
         return type_entry(self.size(kind), 0, self.number(kind), 1, (self.text(kind), "", ""))
 
     def step(self, kind, step):
         """The place of a part within its whole, its type, and its declared name and comment where it is a member."""
         if isinstance(step, str):
             members = self.named[kind[1].lower()].get("members", []) if kind[0] == "named" else []
-            return next(((at, own, name, comment) for name, own, at, comment in members if name.lower() == step.lower()), None)
+            return next(((at, own, name, comment) for name, own, at,
+                         comment in members if name.lower() == step.lower()), None)
         if kind[0] != "array" or len(kind[1]) != len(step):
             return None
         at = 0
@@ -195,7 +201,8 @@ class Types:
         if "base" in it:
             size, number = PLAIN[it["base"]]
             return type_entry(size, 0, number, 1, (it["name"], it["base"], ""))
-        subs = [type_entry(self.size(kind), at, self.number(kind), 2, (name, self.text(kind), comment), kind[1] if kind[0] == "array" else [])
+        subs = [type_entry(self.size(kind), at, self.number(kind), 2, (name, self.text(kind), comment),
+                           kind[1] if kind[0] == "array" else [])
                 for name, kind, at, comment in it["members"]]
         return type_entry(it["size"], 0, 65, 1, (it["name"], "", ""), subs=subs)
 
@@ -203,8 +210,10 @@ class Types:
 def type_entry(size, at, number, flags, texts, dims=(), subs=()):
     """The entry of a type or a member: its texts are the name, the type and the comment."""
     texts = [text.encode() for text in texts]
-    head = u32(1) + u32(0) + u32(0) + u32(size) + u32(at) + u32(number) + u32(flags) + b"".join(u16(len(text)) for text in texts) + u16(len(dims)) + u16(len(subs))
-    rest = b"".join(text + b"\0" for text in texts) + b"".join(struct.pack("<iI", low, count) for low, count in dims) + b"".join(subs)
+    head = u32(1) + u32(0) + u32(0) + u32(size) + u32(at) + u32(number) + u32(flags) + b"".join(
+        u16(len(text)) for text in texts) + u16(len(dims)) + u16(len(subs))
+    rest = b"".join(text + b"\0" for text in texts) + b"".join(struct.pack("<iI", low, count) for low,
+                                                               count in dims) + b"".join(subs)
     return u32(4 + len(head) + len(rest)) + head + rest
 
 
@@ -236,7 +245,8 @@ class Port:
 
     def covering(self, area, at, count):
         """The symbols that have one of these bytes."""
-        return [it for it in self.symbols.values() if it["area"] == area and it["at"] < at + count and at < it["at"] + it["size"]]
+        return [it for it in self.symbols.values() if it["area"] == area and it["at"] < at + count
+                and at < it["at"] + it["size"]]
 
     def guard(self, area, at, count, source):
         for it in self.covering(area, at, count):
@@ -275,7 +285,8 @@ class Port:
     def entry(self, it, at, kind, path, comment):
         texts = [text.encode() for text in (path, self.types.text(kind), comment)]
         flags = (1 if it.get("persistent") else 0) + (0x20 if it.get("read_only") else 0)
-        head = u32(GROUP_OF[it["area"]]) + u32(it["at"] + at) + u32(self.types.size(kind)) + u32(self.types.told(kind)) + u32(flags)
+        head = u32(GROUP_OF[it["area"]]) + u32(it["at"] + at) + u32(self.types.size(kind)) + u32(self.types.told(
+            kind)) + u32(flags)
         rest = b"".join(u16(len(text)) for text in texts) + b"".join(text + b"\0" for text in texts)
         return u32(4 + len(head) + len(rest)) + head + rest
 
@@ -320,7 +331,8 @@ class Connection:
 
 
 def queued(conn, frame):
-    """Whether a frame waits for a connection now. One that is closing is given nothing more, and one whose queue has no room becomes closing."""
+    """Whether a frame waits for a connection now. One that is closing is given nothing more, and one whose queue has no
+    room becomes closing."""
     if conn.closing:
         return False
     if conn.queued + len(frame) > QUEUED:
@@ -332,7 +344,8 @@ def queued(conn, frame):
 
 
 def packets(conn):
-    """The AMS packets that came whole on a connection, each taken off its stream as it is asked for, while the connection is not closing; it becomes closing where no frame follows."""
+    """The AMS packets that came whole on a connection, each taken off its stream as it is asked for, while the
+    connection is not closing; it becomes closing where no frame follows."""
     while not conn.closing:
         head = conn.stream[:6]
         if len(head) < 6:
@@ -348,8 +361,9 @@ def packets(conn):
 
 
 class Server:
-    """A device with its clients. `signals` are the waves of the signals; `wide` is the profile: the strict server takes requests as they are written, the wide one for
-    what TwinCAT's clients mean by them, and has `more` sums. `others` is the right of each NetId that no route names: none where it is None."""
+    """A device with its clients. `signals` are the waves of the signals; `wide` is the profile: the strict server takes
+    requests as they are written, the wide one for what TwinCAT's clients mean by them, and has `more` sums. `others` is
+    the right of each NetId that no route names: none where it is None."""
 
     def __init__(self, d, signals, wide=False, others=None, more=MORE_SUMS):
         self.wide, self.others, self.sums = wide, RIGHTS.get(others), SUMS + tuple(more if wide else ())
@@ -422,7 +436,8 @@ class Server:
             raise Refused(0x705)
         if head and (len(payload) < head or struct.unpack("<I", payload[head - 4:head])[0] != len(payload) - head):
             raise Refused(0x705)
-        words = struct.unpack(f"<{len(payload[:head or 24]) // 4}I", payload[:(head or 24) // 4 * 4]) if command not in (1, 4, 5) else ()
+        words = struct.unpack(f"<{len(payload[:head or 24]) // 4}I",
+                              payload[:(head or 24) // 4 * 4]) if command not in (1, 4, 5) else ()
         if command == 1:
             return port.facts()
         if command == 2:
@@ -499,9 +514,11 @@ class Server:
             return self.own(port)[offset:offset + count]
         fixed = {
             **{it: lambda area=area: u32(len(port.areas[area])) for it, area in SIZE_OF.items()},
-            0xF008: lambda: bytes([self.version]), 0xF00B: port.upload, 0xF00C: lambda: u32(len(port.symbols)) + u32(len(port.upload())),
+            0xF008: lambda: bytes([self.version]), 0xF00B: port.upload,
+            0xF00C: lambda: u32(len(port.symbols)) + u32(len(port.upload())),
             0xF00E: self.types.upload,
-            0xF00F: lambda: u32(len(port.symbols)) + u32(len(port.upload())) + u32(len(self.types.listed)) + u32(len(self.types.upload())) + bytes(8),
+            0xF00F: lambda: u32(len(port.symbols)) + u32(len(port.upload())) + u32(len(self.types.listed)) + u32(len(
+                self.types.upload())) + bytes(8),
         }
         if group not in fixed:
             raise Refused(0x702)
@@ -564,7 +581,8 @@ class Server:
             if sum(not one["outdated"] for one in conn.handles.values()) >= LIVE:
                 raise Refused(0x700)
             conn.granted += 1
-            conn.handles[conn.granted] = {"port": port.number, "symbol": it["name"].lower(), "at": at, "size": size, "outdated": False}
+            conn.handles[conn.granted] = {"port": port.number, "symbol": it["name"].lower(), "at": at, "size": size,
+                                          "outdated": False}
             return u32(conn.granted)
         if group == 0xF004:
             return bytes(port.areas[it["area"]][start:start + self.at_most(most, size)])
@@ -611,7 +629,8 @@ class Server:
             except Refused as refused:
                 code = refused.code
             at += own
-            results += u32(code) + (u32(len(got)) if group in (0xF082, *TOLD_SUMS) else got.ljust(4, b"\0") if group == 0xF085 else b"")
+            results += u32(code) + (u32(len(got)) if group in (0xF082, *TOLD_SUMS) else got.ljust(4, b"\0")
+                                    if group == 0xF085 else b"")
             data += got.ljust(room, b"\0") if group in (0xF080, 0xF083) else got if group in (0xF082, 0xF084) else b""
         return results + data
 
@@ -662,7 +681,8 @@ class Server:
             raise Refused(0x716)
         conn.added += 1
         conn.watches[conn.added] = {
-            "port": port.number, "to": source, "area": area, "at": at, "size": count, "bit": bit, "mode": mode, "cycle": cycle, "last": None, "sent": None}
+            "port": port.number, "to": source, "area": area, "at": at, "size": count, "bit": bit, "mode": mode,
+            "cycle": cycle, "last": None, "sent": None}
         return conn.added
 
     @staticmethod
@@ -681,7 +701,8 @@ class Server:
         for number, watch, given in samples:
             groups.setdefault((watch["port"], watch["to"]), []).append((number, given))
         for (port, to), found in groups.items():
-            stamp = struct.pack("<Q", self.moment) + u32(len(found)) + b"".join(u32(number) + u32(len(given)) + given for number, given in found)
+            stamp = struct.pack("<Q", self.moment) + u32(len(found)) + b"".join(u32(number) + u32(len(given)) + given
+                                                                                for number, given in found)
             payload = u32(4 + len(stamp)) + u32(1) + stamp
             self.produce(conn, framed(to, net + u16(port), 8, 4, 0, 0, payload), samples=len(found))
 
@@ -767,14 +788,16 @@ class Server:
 
 
 def head_width(group, count, length):
-    """How many bytes the head of each part of a sum has; of an addition with the 16 bytes behind it that say nothing, or without them."""
+    """How many bytes the head of each part of a sum has; of an addition with the 16 bytes behind it that say nothing,
+    or without them."""
     if group == 0xF085:
         return 24 if length == 24 * count else 40
     return {0xF082: 16, 0xF086: 4}.get(group, 12)
 
 
 class Routed(Server):
-    """The wide server behind a local AMS router: what a connection asks of that router before its first frame is answered, and all else is the server's."""
+    """The wide server behind a local AMS router: what a connection asks of that router before its first frame is
+    answered, and all else is the server's."""
 
     def __init__(self, *given, **named):
         super().__init__(*given, **named)
@@ -790,7 +813,8 @@ class Routed(Server):
 
 
 def router_answer(net, text):
-    """What a local router of this NetId answers to the first bytes of a connection, what is left of them, and whether that is the server's: it waits where it begins a packet to the router."""
+    """What a local router of this NetId answers to the first bytes of a connection, what is left of them, and whether
+    that is the server's: it waits where it begins a packet to the router."""
     answer = b""
     while True:
         if text[:6] == ASKS_PORT and len(text) >= 8:
@@ -803,7 +827,8 @@ def router_answer(net, text):
 
 
 class Relay:
-    """A router between connections, each of which owns the NetId of the frames that it sends. Of a description it uses the routes alone."""
+    """A router between connections, each of which owns the NetId of the frames that it sends. Of a description it uses
+    the routes alone."""
 
     def __init__(self, d):
         self.routes = {net_of(route["net"]) for route in d.get("route", [])}
@@ -827,7 +852,8 @@ class Relay:
         target, source = ams[:8], ams[8:16]
         command, flags, length, _, number = struct.unpack("<HHIII", ams[16:32])
         whole, own = in_frame(ams), self.owned.get(conn)
-        if length != len(ams) - 32 or source[:6] not in self.routes or (own != source[:6] if own else self.owner(source[:6])):
+        if length != len(ams) - 32 or source[:6] not in self.routes or (own != source[:6] if own
+                                                                        else self.owner(source[:6])):
             conn.closing = True
             return
         self.owned[conn] = source[:6]
@@ -853,7 +879,8 @@ class Relay:
                 return
 
     def remember(self, asker, asked, wanted):
-        """A request is remembered, among the last 4,096 of its asker. Those of connections that are gone or closing are forgotten."""
+        """A request is remembered, among the last 4,096 of its asker. Those of connections that are gone or closing are
+        forgotten."""
         self.asked.append((asker, asked, wanted))
         if len(self.asked) > RECORDS:
             # (no sooner can there be too many of one)
@@ -875,7 +902,8 @@ class Relay:
 
 
 def play(d, signals, events, wide=False, others=None, more=MORE_SUMS):
-    """What `replay` prints of these events, with its summary; with `wide`, what it would print of the wide server with `more` sums."""
+    """What `replay` prints of these events, with its summary; with `wide`, what it would print of the wide server with
+    `more` sums."""
     return played(Server(d, signals, wide, others, more), events)
 
 
@@ -892,8 +920,8 @@ def played(machine, events):
 
 
 def turn(machine, event, lines):
-    """One event of a server or a relay, and the offers behind it: ("open", C), ("bytes", C, given), ("close", C), ("tick", T), ("reload", description or number of
-    a broken rule), ("room", C, N), ("fail", C)."""
+    """One event of a server or a relay, and the offers behind it: ("open", C), ("bytes", C, given), ("close", C),
+    ("tick", T), ("reload", description or number of a broken rule), ("room", C, N), ("fail", C)."""
     kind, conn = event[0], machine.conns.get(event[1]) if event[0] not in ("tick", "reload") else None
     if kind == "open":
         machine.conns[event[1]] = Connection()

@@ -1,20 +1,26 @@
 #!/usr/bin/env python3
-"""Random descriptions and scripts: what `ads replay` prints against a model of the protocol in plain Python (model/protocol.py), byte for byte, and what `ads relay`
-passes on between askers and targets, some of which lie; what `ads keep` prints and leaves of a file (model/store.py); random clients of `ads serve` and `ads relay` over loopback, each of whose bytes must be the model's; client
-commands over loopback to peers that answer by the model and then damage, repeat, cut or leave out what they say: each byte that is sent, what is printed and the status
-must be those of the model of a client (model/client.py), and so must the rows that `record` leaves; and damaged descriptions and scripts, which must end with a status of their own and never crash or hang.
+"""Random descriptions and scripts: what `ads replay` prints against a model of the protocol in plain Python
+(model/protocol.py), byte for byte, and what `ads relay` passes on between askers and targets, some of which lie; what
+`ads keep` prints and leaves of a file (model/store.py); random clients of `ads serve` and `ads relay` over loopback,
+each of whose bytes must be the model's; client commands over loopback to peers that answer by the model and then
+damage, repeat, cut or leave out what they say: each byte that is sent, what is printed and the status must be those of
+the model of a client (model/client.py), and so must the rows that `record` leaves; and damaged descriptions and
+scripts, which must end with a status of their own and never crash or hang.
 
-    python3 model/random_runs.py [--program ADS] [--wide CASES_WIDE] [--adsd ADSD] [--seconds N] [--seed N] [--keep FOLDER]
+    python3 model/random_runs.py [--program ADS] [--wide CASES_WIDE] [--adsd ADSD] [--seconds N] [--seed N]
+                                 [--keep FOLDER]
 
-Each program that is named has its runs, in turn until the seconds are over: `ads` those above; `cases_wide` whole scripts on the wide server; `adsd` random clients over
-loopback in both profiles, with NetIds that no route names and packets to a local router (model/wide_runs.py for both), and the same over a store, with new
-descriptions and further starts (model/daemon_runs.py). Without one it is crates/ads/out/ads.
+Each program that is named has its runs, in turn until the seconds are over: `ads` those above; `cases_wide` whole
+scripts on the wide server; `adsd` random clients over loopback in both profiles, with NetIds that no route names and
+packets to a local router (model/wide_runs.py for both), and the same over a store, with new descriptions and further
+starts (model/daemon_runs.py). Without one it is crates/ads/out/ads.
 
-    python3 model/random_runs.py --program ADS --wide CASES_WIDE --adsd ADSD --seconds 3600      an hour of all of them in one piece
+    python3 model/random_runs.py --program ADS --wide CASES_WIDE --adsd ADSD --seconds 3600
+        an hour of all of them in one piece
 
-Build the programs first: in crates/ads, `rt run -- selftest ../../examples/state.script`. Without --seconds it runs for a minute. A difference is told with its
-seed, and its description, script and both texts are kept in the folder of --keep. The last line counts the runs, and names what a program does not have. It ends
-with 1 where anything differed.
+Build the programs first: in crates/ads, `rt run -- selftest ../../examples/state.script`. Without --seconds it runs for
+a minute. A difference is told with its seed, and its description, script and both texts are kept in the folder of
+--keep. The last line counts the runs, and names what a program does not have. It ends with 1 where anything differed.
 """
 import argparse
 import functools
@@ -77,7 +83,8 @@ def kind_text(r, named, depth=0):
     """A type text that names some of these types."""
     choice = r.random()
     if choice < 0.2 and depth == 0:
-        bounds = ",".join(f"{low}..{low + r.randrange(4)}" for low in (r.randrange(-3, 4) for _ in range(r.randint(1, 3))))
+        bounds = ",".join(f"{low}..{low + r.randrange(4)}"
+                          for low in (r.randrange(-3, 4) for _ in range(r.randint(1, 3))))
         return f"{any_case(r, 'ARRAY')} [{bounds}] {any_case(r, 'OF')} {kind_text(r, named, 1)}"
     if choice < 0.35:
         return r.choice((any_case(r, "STRING"), f"{any_case(r, 'STRING')}({r.randrange(20)})"))
@@ -93,9 +100,14 @@ def types_of(r, schema):
         if schema == 2 and r.random() < 0.4:
             base = r.choice(("SINT", "USINT", "INT", "UINT", "DINT", "UDINT", "LINT", "ULINT"))
             size = protocol.PLAIN[base][0]
-            low, high = (0, min(2 ** (8 * size), 2 ** 63) - 1) if base[0] == "U" and base != "U" else (-2 ** (8 * size - 1), 2 ** (8 * size - 1) - 1)
-            numbers = list(dict.fromkeys(r.choice((low, high, r.randint(low, high), r.randrange(0, 9))) for _ in range(r.randint(1, 4))))
-            found.append({"name": name, "base": any_case(r, base), "value": [{"name": f"V{k}", "number": it} for k, it in enumerate(numbers)]})
+            low, high = (0, min(2 ** (8 * size), 2 ** 63) - 1) if base[0] == "U" and base != "U" else (-2 ** (8 * size
+                                                                                                              - 1),
+                                                                                                       2 ** (8 * size
+                                                                                                             - 1) - 1)
+            numbers = list(dict.fromkeys(r.choice((low, high, r.randint(low, high), r.randrange(0, 9)))
+                                         for _ in range(r.randint(1, 4))))
+            found.append({"name": name, "base": any_case(r, base),
+                          "value": [{"name": f"V{k}", "number": it} for k, it in enumerate(numbers)]})
         else:
             members = []
             for k in range(r.randint(1, 4)):
@@ -118,7 +130,8 @@ def symbols_of(r, types, named, schema, sizes, signals, nets):
         if size > 600 or at + size > sizes[area]:
             continue
         ends[area] = at + size
-        it = {"name": f"{r.choice(WORDS)}{number}.{r.choice(WORDS)}" if r.random() < 0.6 else f"{r.choice(WORDS)}_{number}", "type": kind, "area": area, "offset": at}
+        it = {"name": f"{r.choice(WORDS)}{number}.{r.choice(WORDS)}" if r.random() < 0.6
+              else f"{r.choice(WORDS)}_{number}", "type": kind, "area": area, "offset": at}
         it.update({key: True for key in ("persistent", "read_only") if r.random() < 0.2})
         if r.random() < 0.3:
             it["comment"] = comment(r)
@@ -142,13 +155,16 @@ def description(r):
     types = protocol.Types(listed)
     nets = [f"10.0.0.{k}.1.1" for k in range(1, 5)]
     signals = r.sample(range(3), 3)
-    d = {"schema": schema, "net": "5.1.2.3.1.1", "route": [{"net": net, "rights": r.choice(("read", "write", "control", "control"))} for net in nets[:r.randint(1, 4)]]}
+    d = {"schema": schema, "net": "5.1.2.3.1.1", "route": [{"net": net,
+                                                            "rights": r.choice(("read", "write", "control", "control"))}
+                                                           for net in nets[:r.randint(1, 4)]]}
     if listed or r.random() < 0.5:
         d["type"] = listed
     d["port"] = []
     for number in r.sample((851, 852, 1, 65535), r.choice((1, 1, 2, 3))):
         sizes = {area: r.choice((0, r.randrange(1, 40), r.randrange(40, 2000))) for area in protocol.AREAS}
-        port = {"port": number, "name": "App " + "x" * r.randrange(13), "major": r.randrange(256), "minor": r.randrange(256), "build": r.randrange(65536)}
+        port = {"port": number, "name": "App " + "x" * r.randrange(13), "major": r.randrange(256),
+                "minor": r.randrange(256), "build": r.randrange(65536)}
         port.update({area: size for area, size in sizes.items() if size or r.random() < 0.5})
         port["symbol"] = symbols_of(r, types, named, schema, sizes, signals, nets)
         d["port"].append(port)
@@ -161,7 +177,8 @@ def changed(r, d):
         return description(r)
     d = {key: it for key, it in d.items()}
     d["net"] = r.choice((d["net"], d["net"], "5.1.2.3.1.2"))
-    d["route"] = [dict(it, rights=r.choice(("read", "control", it["rights"]))) for it in d["route"] if r.random() < 0.95]
+    d["route"] = [dict(it, rights=r.choice(("read", "control", it["rights"]))) for it in d["route"]
+                  if r.random() < 0.95]
     ports = []
     for port in d["port"]:
         if r.random() < 0.1 and len(d["port"]) > 1:
@@ -217,7 +234,8 @@ def a_type_text(r, d):
     names = [it["name"] for it in d.get("type", [])] + ["DINT", "STRING", "STRING(7)", "BOOL", "none"]
     text = r.choice(names)
     if r.random() < 0.4:
-        bounds = ",".join(f"{low}..{low + r.choice((0, 1, 2, 900))}" for low in (r.randrange(-3, 4) for _ in range(r.choice((1, 1, 2, 3, 4)))))
+        bounds = ",".join(f"{low}..{low + r.choice((0, 1, 2, 900))}"
+                          for low in (r.randrange(-3, 4) for _ in range(r.choice((1, 1, 2, 3, 4)))))
         text = f"ARRAY [{bounds}] OF {text}"
     return r.choice((text, text.lower(), text.upper())).encode() + r.choice((b"", b"\0", b"\0\0x"))
 
@@ -231,7 +249,8 @@ def a_path(r, d):
     path, kind = it["name"], protocol.type_of(it["type"])
     while r.random() < 0.7:
         if kind[0] == "array":
-            path += "[" + ",".join(str(low + r.randrange(-1 if r.random() < 0.1 else 0, some)) for low, some in kind[1]) + "]"
+            path += "[" + ",".join(str(low + r.randrange(-1 if r.random() < 0.1 else 0, some)) for low,
+                                   some in kind[1]) + "]"
             kind = kind[2]
         elif kind[0] == "named" and "members" in types.named[kind[1].lower()]:
             member = r.choice(types.named[kind[1].lower()]["members"])
@@ -275,19 +294,24 @@ def request(r, d, handles, in_sum=False, notes=True):
     if command == 2:
         group, at, some = place(r, d, handles)
         if r.random() < 0.3:
-            group, some = r.choice((*protocol.SIZE_OF, 0xF008, 0xF00B, 0xF00C, 0xF00E, 0xF00F, 0x9999, 0xF006, 0xF080)), r.choice((0, 1, 4, 8, 24, 1000, 100000))
+            group, some = r.choice((*protocol.SIZE_OF, 0xF008, 0xF00B, 0xF00C, 0xF00E, 0xF00F, 0x9999, 0xF006,
+                                    0xF080)), r.choice((0, 1, 4, 8, 24, 1000, 100000))
         payload = u32(group) + u32(at) + u32(some)
     elif command == 3:
         group, at, some = place(r, d, handles)
         given = bytes_for(r, some)
         if r.random() < 0.2:
-            group, given = r.choice((0xF006, 0xF006, 0xF003, 0x4025)), u32(r.choice((*handles, 1, 77)))[:r.choice((4, 4, 4, 3))]
+            group, given = r.choice((0xF006, 0xF006, 0xF003,
+                                     0x4025)), u32(r.choice((*handles, 1, 77)))[:r.choice((4, 4, 4, 3))]
         payload = u32(group) + u32(at) + u32(len(given)) + given
     elif command == 9:
         payload = asked(r, d, handles, in_sum)
     elif command == 6:
         group, at, some = place(r, d, handles)
-        payload = u32(group) + u32(at) + u32(2049 if r.random() < 0.05 else some) + u32(1 if r.random() < 0.05 else r.choice((3, 4, 4, 4))) + u32(r.randrange(9)) + u32(r.choice((0, 0, 5, 100, 2 ** 32 - 1))) + bytes(16)
+        payload = u32(group) + u32(at) + u32(2049 if r.random() < 0.05 else some) + u32(1 if r.random() < 0.05
+                                                                                        else r.choice((3, 4, 4,
+                                                                                                       4))) + u32(
+            r.randrange(9)) + u32(r.choice((0, 0, 5, 100, 2 ** 32 - 1))) + bytes(16)
     elif command == 5:
         payload = u16(r.choice((5, 6, 6, 3))) + u16(r.randrange(9)) + u32(0)
     elif command == 7:
@@ -304,13 +328,15 @@ def asked(r, d, handles, in_sum):
         group = 0xF002 if r.random() < 0.03 else r.choice((0xF003, 0xF003, 0xF003, 0xF004, 0xF007, 0xF009, 0xF011))
         given = a_type_text(r, d) if group == 0xF011 else a_path(r, d)
         most = {0xF003: 4, 0xF004: r.choice((1, 2, 4, 8, 0)), 0xF007: 12, 0xF009: 400, 0xF011: 5000}.get(group, 9)
-        return u32(group) + u32(r.randrange(3)) + u32(most if r.random() < 0.8 else r.choice((3, 11, 13, 50, 2000))) + u32(len(given)) + given
+        return u32(group) + u32(r.randrange(3)) + u32(most if r.random() < 0.8
+                                                      else r.choice((3, 11, 13, 50, 2000))) + u32(len(given)) + given
     group, heads, data, most = r.choice(protocol.SUMS), b"", b"", 0
     some = r.choice((0, 1, 2, 5, 9))
     for _ in range(some):
         if group == 0xF080:
             head = place(r, d, handles)
-            heads, most = heads + b"".join(map(u32, (head[0], head[1], min(head[2], 5000)))), most + 4 + min(head[2], 5000)
+            heads, most = heads + b"".join(map(u32, (head[0], head[1], min(head[2], 5000)))), most + 4 + min(head[2],
+                                                                                                             5000)
         elif group == 0xF081:
             payload = request(r, d, handles, True)
             while payload[0] != 3 or len(payload[1]) < 12:
@@ -319,16 +345,19 @@ def asked(r, d, handles, in_sum):
             heads, data, most = heads + payload[1][:8] + u32(len(given)), data + given, most + 4
         else:
             payload = asked(r, d, handles, True)
-            heads, data, most = heads + payload[:16], data + payload[16:], most + 8 + int.from_bytes(payload[8:12], "little")
+            heads, data, most = heads + payload[:16], data + payload[16:], most + 8 + int.from_bytes(payload[8:12],
+                                                                                                     "little")
     if r.random() < 0.05:
         some = r.choice((some + 1, 501, 2 ** 32 - 1))
     if r.random() < 0.05:
         data += b"\0"
-    return u32(group) + u32(some) + u32(r.choice((most, most, most + 7, max(most - 1, 0)))) + u32(len(heads + data)) + heads + data
+    return u32(group) + u32(some) + u32(r.choice((most, most, most + 7, max(most - 1, 0)))) + u32(
+        len(heads + data)) + heads + data
 
 
 def script(r, d, notes=True):
-    """Events of clients, each with a NetId and a port or two, between ticks and reloads; with notifications or without."""
+    """Events of clients, each with a NetId and a port or two, between ticks and reloads; with notifications or
+    without."""
     events, live, opened, clock, now, seen = [], [], 0, 0, d, 0
     nets, clients, server = [f"10.0.0.{k}.1.1" for k in range(1, 6)], {}, protocol.Server(d, SIGNALS)
     for _ in range(r.choice((5, 20, 80, 200))):
@@ -340,14 +369,16 @@ def script(r, d, notes=True):
         if not live or choice < 0.06:
             opened += 1
             live.append(opened)
-            clients[opened] = r.choice([route["net"] for route in now["route"]] or nets) if r.random() < 0.95 else r.choice(nets)
+            clients[opened] = r.choice([route["net"] for route in now["route"]]
+                                       or nets) if r.random() < 0.95 else r.choice(nets)
             events.append(("open", opened))
         elif choice < 0.75:
             conn, stream = r.choice(live), b""
             known = server.conns[conn].handles if conn in server.conns else {}
             for _ in range(r.choice((1, 1, 1, 2, 5))):
                 command, payload = request(r, now, known, notes=notes)
-                stream += frame_of(r, now, clients[conn] if r.random() < 0.98 else r.choice(nets), r.choice((32905, 32905, 40000)), command, r.randrange(2 ** 32), payload)
+                stream += frame_of(r, now, clients[conn] if r.random() < 0.98 else r.choice(nets),
+                                   r.choice((32905, 32905, 40000)), command, r.randrange(2 ** 32), payload)
             while stream:
                 cut = len(stream) if r.random() < 0.6 else r.randint(1, len(stream))
                 events.append(("bytes", conn, stream[:cut]))
@@ -359,7 +390,9 @@ def script(r, d, notes=True):
             events.append(("tick", clock if r.random() < 0.99 else 2 ** 64 - 1))
         elif choice < 0.91:
             if r.random() < 0.3:
-                number, text = r.choice(((2, "schema = 2\n"), (0, "= 1\n"), (3, toml_of(dict(now, schema=3)) if "writers" not in str(now) and "base" not in str(now) else "schema = 2\n")))
+                number, text = r.choice(((2, "schema = 2\n"), (0, "= 1\n"),
+                                         (3, toml_of(dict(now, schema=3)) if "writers" not in str(now)
+                                          and "base" not in str(now) else "schema = 2\n")))
                 events.append(("reload", 2 if text == "schema = 2\n" else number, text))
             else:
                 now = changed(r, now)
@@ -376,12 +409,17 @@ def script(r, d, notes=True):
 
 
 def relay_frame(r, machine, number, nets):
-    """A frame of a connection of a relay: a request, a notification, or a response to what it was asked; some of them from others, or not as they should be."""
+    """A frame of a connection of a relay: a request, a notification, or a response to what it was asked; some of them
+    from others, or not as they should be."""
     conn = machine.conns[number]
     free = [net for net in nets if not machine.owner(net_of(net))]
     own = machine.owned.get(conn) or net_of(r.choice(free if free and r.random() < 0.95 else nets))
-    source, target = own + u16(r.choice((851, 851, 32905))), net_of(r.choice((*nets, "5.1.2.3.1.1"))) + u16(r.choice((851, 851, 32905)))
-    command, flags, invoke, payload = r.choice((2, 2, 2, 4, 8, 9, 0, 65535)), r.choice((4, 4, 4, 4, 5, 0, 0xFFFF)), r.randrange(3), r.randbytes(r.choice((0, 4, 12, 70)))
+    source, target = own + u16(r.choice((851, 851, 32905))), net_of(r.choice((*nets,
+                                                                              "5.1.2.3.1.1"))) + u16(r.choice((851, 851,
+                                                                                                               32905)))
+    command, flags, invoke, payload = r.choice((2, 2, 2, 4, 8, 9, 0, 65535)), r.choice((4, 4, 4, 4, 5, 0,
+                                                                                        0xFFFF)), r.randrange(
+        3), r.randbytes(r.choice((0, 4, 12, 70)))
     asked = [wanted for _, to, wanted in machine.asked if to is conn]
     if asked and r.random() < 0.6:
         target, source, command, invoke = r.choice(asked)
@@ -402,7 +440,8 @@ def note_to_itself(frame):
 
 
 def relay_script(r, d, is_served=False):
-    """Events of a relay's connections. Over loopback these are frames alone, each with a notification of its sender to itself, which says that the frame was taken."""
+    """Events of a relay's connections. Over loopback these are frames alone, each with a notification of its sender to
+    itself, which says that the frame was taken."""
     events, opened, machine = [], 0, protocol.Relay(d)
     nets = [route["net"] for route in d["route"]]
 
@@ -491,14 +530,16 @@ def one_relay(program, seed, folder):
 
 
 def one_kept(program, seed, folder):
-    """Runs of `keep` one behind another over one file, which is damaged now and then; some over a description that changed in between."""
+    """Runs of `keep` one behind another over one file, which is damaged now and then; some over a description that
+    changed in between."""
     r = random.Random(seed)
     d, file = description(r), b""
     for _ in range(r.choice((1, 2, 3))):
         if r.random() < 0.3:
             it = bytearray(file)
             for _ in range(r.randint(1, 3) if it else 0):
-                at = r.choice((r.randrange(min(len(it), 300)), r.randrange(len(it)), store.SECOND if len(it) > store.SECOND else 0))
+                at = r.choice((r.randrange(min(len(it), 300)), r.randrange(len(it)),
+                               store.SECOND if len(it) > store.SECOND else 0))
                 it[at] = r.choice((0, 1, 255, r.randrange(256)))
             file = bytes(it[:r.choice((len(it), len(it), r.randrange(len(it) + 1)))])
         events = script(r, d)[:r.choice((3, 20, 60))]
@@ -514,7 +555,8 @@ def one_kept(program, seed, folder):
         with open(os.path.join(folder, "store"), "rb") as it:
             file = it.read()
         if came != status or err or out.decode(errors="replace") != wanted or file != disk.file:
-            return f"keep: status {came}, {status} was wanted; {len(out)} bytes came, {len(wanted)} were wanted; the file {'is as wanted' if file == disk.file else 'differs'}"
+            return (f"keep: status {came}, {status} was wanted; {len(out)} bytes came, {len(wanted)} were wanted; the "
+                    f"file {'is as wanted' if file == disk.file else 'differs'}")
         d = changed(r, d) if r.random() < 0.5 else d
     return None
 
@@ -541,8 +583,8 @@ def received(conn, count):
 
 
 def talked(events, machine, port, described=None):
-    """Plays events over sockets against the model of a server or a relay; what differs, or None. A whole frame is sent before anything is waited for. `described`
-    puts a description there and is given the model's line of it."""
+    """Plays events over sockets against the model of a server or a relay; what differs, or None. A whole frame is sent
+    before anything is waited for. `described` puts a description there and is given the model's line of it."""
     conns = {}
     try:
         for event in events:
@@ -613,7 +655,8 @@ def one_relayed(program, seed, folder):
 def listened(program, command, d, events, machine, folder):
     write(folder, "plant.toml", toml_of(d))
     try:
-        with Program(program, [command, "plant.toml", "--events", "1000000000"], cwd=folder, stderr=subprocess.PIPE) as it:
+        with Program(program, [command, "plant.toml", "--events", "1000000000"], cwd=folder,
+                     stderr=subprocess.PIPE) as it:
             said = talked(events, machine, it.port)
             return said or (f"it ended with {it.process.returncode}" if it.process.poll() is not None else None)
     except OSError as fault:
@@ -641,7 +684,8 @@ def call(r, d):
     """A client's call, as the model of a client has it, and the words of its own."""
     name = a_path(r, d)
     name = name.decode("ascii") if name.isascii() and b"\0" not in name else "Main.count"
-    kind, value = r.choice(("info", "state", "control", "get", "get", "set", "set", "list", "watch", "watch", "record", "record", "show", "show")), None
+    kind, value = r.choice(("info", "state", "control", "get", "get", "set", "set", "list", "watch", "watch", "record",
+                            "record", "show", "show")), None
     symbols, types = [it for port in d["port"] for it in port["symbol"]], protocol.Types(d.get("type", []))
     if symbols and r.random() < 0.7:
         it = r.choice(symbols)
@@ -651,20 +695,26 @@ def call(r, d):
         states = [r.choice((5, 6, 6, 7)), r.randrange(65536)]
         return [kind, *states], [*map(str, states)]
     if kind == "set":
-        value = value if value and r.random() < 0.8 else r.choice(("0", "1", "-1", "TRUE", "''", "'a$0A'", "16#00", "255"))
+        value = value if value and r.random() < 0.8 else r.choice(("0", "1", "-1", "TRUE", "''", "'a$0A'", "16#00",
+                                                                   "255"))
         return [kind, name, value], [name, value]
     if kind in ("watch", "record"):
         mode, cycle, some = r.choice(("cycle", "change")), r.choice((0, 0, 200000)), r.randint(1, 4)
     if kind == "record":
-        names = {it.lower(): it for it in (name, *(any_case(r, it["name"]) for it in r.sample(symbols, min(len(symbols), r.randrange(3)))))}
-        return [kind, list(names.values()), mode, cycle, some, "it.samples"], ["--mode", mode, "--cycle", str(cycle), "--count", str(some), "--store", "it.samples", "--", *names.values()]
+        names = {it.lower(): it for it in (name, *(any_case(r, it["name"])
+                                                   for it in r.sample(symbols, min(len(symbols), r.randrange(3)))))}
+        return [kind, list(names.values()), mode, cycle, some, "it.samples"], ["--mode", mode, "--cycle", str(cycle),
+                                                                               "--count", str(some), "--store",
+                                                                               "it.samples", "--", *names.values()]
     if kind == "watch":
-        return [kind, name, mode, cycle, some], ["--mode", mode, "--cycle", str(cycle), "--count", str(some), "--", name]
+        return [kind, name, mode, cycle, some], ["--mode", mode, "--cycle", str(cycle), "--count", str(some), "--",
+                                                 name]
     return [kind, *([name] if kind in ("get", "show") else [])], ["--", name] if kind in ("get", "show") else []
 
 
 def note_frame(r, talker):
-    samples = b"".join(u32_of(r.choice((1, 1, 2, 77))) + u32_of(len(given)) + given for given in (r.randbytes(r.choice((0, 1, 2, 4, 9))) for _ in range(r.randrange(4))))
+    samples = b"".join(u32_of(r.choice((1, 1, 2, 77))) + u32_of(len(given)) + given
+                       for given in (r.randbytes(r.choice((0, 1, 2, 4, 9))) for _ in range(r.randrange(4))))
     stamp = r.randbytes(8) + u32_of(r.choice((samples.count(b""), 0, 1, 2, 3))) + samples
     payload = u32_of(r.choice((4, 4, 8, 0)) + len(stamp)) + u32_of(r.choice((1, 1, 1, 0, 2))) + stamp
     return framed(talker.me, talker.peer, 8, 4, 0, 0, payload)
@@ -748,7 +798,8 @@ def conversed(conn, r, d, talker, is_good):
             conn.shutdown(socket.SHUT_WR)
             talker.take("closed", 0)
             break
-        given = b"".join(device.after(("bytes", 1, frame)) for frame in frames) if frames else device.after(("tick", device.server.moment + 100000))
+        given = b"".join(device.after(("bytes", 1, frame))
+                         for frame in frames) if frames else device.after(("tick", device.server.moment + 100000))
         if given and not is_good and r.random() < 0.4:
             given = spoiled(r, given, talker)
         told(conn, r, given)
@@ -768,7 +819,8 @@ def recorded(folder):
     for name in (place, f"{place}-wal", f"{place}-shm"):
         if os.path.exists(name):
             os.remove(name)
-    return [(int.from_bytes(number, "big"), name, int.from_bytes(moment, "big"), given) for number, name, moment, given in rows]
+    return [(int.from_bytes(number, "big"), name, int.from_bytes(moment, "big"), given) for number, name, moment,
+            given in rows]
 
 
 def one_peer(program, seed, folder):
@@ -784,7 +836,8 @@ def one_peer(program, seed, folder):
         listener.listen(1)
         listener.settimeout(20)
         where = f"127.0.0.1:{listener.getsockname()[1]}"
-        command = [program, own[0], "--to", where, "--netid", d["net"], "--me", me, "--port", str(port), *(["--"] if own[0] == "set" else []), *words]
+        command = [program, own[0], "--to", where, "--netid", d["net"], "--me", me, "--port", str(port),
+                   *(["--"] if own[0] == "set" else []), *words]
         write(folder, "command", " ".join(command[1:]))
         write(folder, "plant.toml", toml_of(d))
         with subprocess.Popen(command, cwd=folder, stdout=subprocess.PIPE, stderr=subprocess.PIPE) as it:
@@ -802,7 +855,8 @@ def one_peer(program, seed, folder):
         keeper = client.Keeper()
         keeper.rows = talker.recording.rows
         said = None if recorded(folder) == keeper.rows else "other rows are recorded;"
-        wanted = client.total_lines(keeper, talker.recording.entries) if talker.over and talker.over.status == 0 else wanted
+        wanted = client.total_lines(keeper,
+                                    talker.recording.entries) if talker.over and talker.over.status == 0 else wanted
     late = re.search(rb"(?<=ads: timed out )(\d+) (\d+)\n$", out)
     if late and 50000000 <= int(late[2]) - int(late[1]) < 100000000:
         # (by the clock)
@@ -810,7 +864,8 @@ def one_peer(program, seed, folder):
     write(folder, "came", out)
     write(folder, "wanted", wanted)
     if said or not talker.over or it.returncode != talker.over.status or err or out.decode(errors="replace") != wanted:
-        return f"{own}: {said or ''} status {it.returncode}, {talker.over and talker.over.status} was wanted; {len(out)} bytes came, {len(wanted)} were wanted"
+        return (f"{own}: {said or ''} status {it.returncode}, {talker.over and talker.over.status} was wanted; "
+                f"{len(out)} bytes came, {len(wanted)} were wanted")
     return None
 
 
@@ -840,7 +895,8 @@ def one_damaged(program, seed, folder):
     events = script(r, d)
     write(folder, "plant.toml", damaged(r, toml_of(d)) if r.random() < 0.6 else toml_of(d))
     write(folder, "it.script", damaged(r, lines_of(r, events)) if r.random() < 0.6 else lines_of(r, events))
-    words = r.choice((["check", "plant.toml"], ["replay", "plant.toml", "it.script"], ["selftest", "it.script"], ["replay", "it.script", "plant.toml"]))
+    words = r.choice((["check", "plant.toml"], ["replay", "plant.toml", "it.script"], ["selftest", "it.script"],
+                      ["replay", "it.script", "plant.toml"]))
     status, out, err = ran(program, words, folder)
     last = out.decode(errors="replace").splitlines()[-1:] or [""]
     fits = {0: ("connections ", "ok ports "), 2: ("ads: description ",), 3: ("ads: script line ",)}
@@ -868,10 +924,13 @@ def keep(to, name, seed, said, folder):
 
 def kinds_of_ads(program, folder):
     """The kinds of runs of `ads`: a name, what plays one, and how many go to a seed."""
-    relays, keeps = has(program, folder, "relay", "no.toml", "no.script"), has(program, folder, "keep", "no.toml", "no.script", "no.store")
+    relays, keeps = has(program, folder, "relay", "no.toml", "no.script"), has(program, folder, "keep", "no.toml",
+                                                                               "no.script", "no.store")
     left_out = {*(() if relays else ("relays", "relayed")), *(() if keeps else ("kept",))}
-    kinds = [("replays", one_replay, 1), ("relays", one_relay, 1), ("kept", one_kept, 1), ("served", one_served, 1), ("relayed", one_relayed, 1), ("peers", one_peer, 8), ("damaged", one_damaged, 1)]
-    return [(name, functools.partial(one, program), count) for name, one, count in kinds if name not in left_out], sorted(left_out)
+    kinds = [("replays", one_replay, 1), ("relays", one_relay, 1), ("kept", one_kept, 1), ("served", one_served, 1),
+             ("relayed", one_relayed, 1), ("peers", one_peer, 8), ("damaged", one_damaged, 1)]
+    return [(name, functools.partial(one, program), count) for name, one,
+            count in kinds if name not in left_out], sorted(left_out)
 
 
 def kinds_of(given, folder):
@@ -896,8 +955,10 @@ def kinds_of(given, folder):
     return kinds, left_out
 
 
-WORDS_OF = {"replays": "scripts", "relays": "scripts of a relay", "kept": "scripts over a store", "served": "plants served", "relayed": "relays", "peers": "client commands", "damaged": "damaged inputs",
-            "wide": "scripts on the wide server", "daemons": "plants of the daemon", "keeping": "plants of the daemon over a store, with new descriptions"}
+WORDS_OF = {"replays": "scripts", "relays": "scripts of a relay", "kept": "scripts over a store",
+            "served": "plants served", "relayed": "relays", "peers": "client commands", "damaged": "damaged inputs",
+            "wide": "scripts on the wide server", "daemons": "plants of the daemon",
+            "keeping": "plants of the daemon over a store, with new descriptions"}
 
 
 def main():
@@ -924,7 +985,8 @@ def main():
                         keep(given.keep, name, own, said, folder)
             seed += 1
     told = ", ".join(f"{count} {WORDS_OF[name]}" for name, count in counts.items())
-    print(f"{told} against the models: {wrong} wrong, seeds {given.seed} to {seed - 1}, {time.time() - begun:.0f} s" + (f"; not in this program: {', '.join(left_out)}" if left_out else ""))
+    print(f"{told} against the models: {wrong} wrong, seeds {given.seed} to {seed - 1}, {time.time() - begun:.0f} s"
+          + (f"; not in this program: {', '.join(left_out)}" if left_out else ""))
     return 1 if wrong else 0
 
 

@@ -1,5 +1,6 @@
-"""The store of persistent symbols as a plain model, written from its format alone: what a file stands for, what a save writes, what a stop leaves, and what `ads keep` prints and
-leaves of a file. model/keep_runs.py writes runs by it, and tries/killed.py looks by it at what a killed program left. It shares nothing with the program or its definitions."""
+"""The store of persistent symbols as a plain model, written from its format alone: what a file stands for, what a save
+writes, what a stop leaves, and what `ads keep` prints and leaves of a file. model/keep_runs.py writes runs by it, and
+tries/killed.py looks by it at what a killed program left. It shares nothing with the program or its definitions."""
 import struct
 
 import protocol
@@ -16,7 +17,8 @@ def u64(n):
 
 
 def form(types, kind):
-    """The canonical text of a type in lower case, with the layout of each structure and the base of each enumeration that it names."""
+    """The canonical text of a type in lower case, with the layout of each structure and the base of each enumeration
+    that it names."""
     if kind[0] == "array":
         return f"array [{','.join(f'{low}..{low + count - 1}' for low, count in kind[1])}] of {form(types, kind[2])}"
     if kind[0] != "named":
@@ -24,7 +26,8 @@ def form(types, kind):
     it = types.named[kind[1].lower()]
     if "base" in it:
         return f"{it['name'].lower()}({it['base'].lower()})"
-    return it["name"].lower() + "{" + "".join(f"{name.lower()}:{form(types, own)};" for name, own, _, _ in it["members"]) + "}"
+    return it["name"].lower() + "{" + "".join(f"{name.lower()}:{form(types, own)};" for name, own, _,
+                                              _ in it["members"]) + "}"
 
 
 def persistent(server):
@@ -32,11 +35,14 @@ def persistent(server):
     for number, port in server.ports.items():
         for it in port.symbols.values():
             if it.get("persistent"):
-                yield number, it["name"].encode(), form(port.types, it["kind"]).encode(), bytes(port.areas[it["area"]][it["at"]:it["at"] + it["size"]])
+                yield number, it["name"].encode(), form(port.types,
+                                                        it["kind"]).encode(), bytes(port.areas[it["area"]][it["at"]:it[
+                    "at"] + it["size"]])
 
 
 def body_text(entries):
-    return u32(len(entries)) + b"".join(u16(port) + u16(len(name)) + name + u64(len(form)) + form + u32(len(held)) + held for port, name, form, held in entries)
+    return u32(len(entries)) + b"".join(u16(port) + u16(len(name)) + name + u64(len(form)) + form
+                                        + u32(len(held)) + held for port, name, form, held in entries)
 
 
 def body_of(server):
@@ -91,7 +97,8 @@ class Failed(Exception):
 
 
 class Disk:
-    """A file in memory of which the calls with these numbers fail; in the call of a stop, (number, tail), and in every later one the machine has stopped."""
+    """A file in memory of which the calls with these numbers fail; in the call of a stop, (number, tail), and in every
+    later one the machine has stopped."""
 
     def __init__(self, file=b"", fails=(), stop=None):
         self.file, self.fails, self.stop, self.calls = bytearray(file), set(fails), stop, 0
@@ -154,7 +161,8 @@ class Store:
 
 
 def with_stored(d, body):
-    """A description with the stored bytes as initial ones of each persistent symbol whose port, name, form and size are in the body."""
+    """A description with the stored bytes as initial ones of each persistent symbol whose port, name, form and size are
+    in the body."""
     server = protocol.Server(d, [])
     stored = {}
     for port, name, shape, held in entries_of(body) or []:
@@ -172,7 +180,8 @@ def with_stored(d, body):
 
 
 def kept(d, signals, events, disk):
-    """The status and the text of `keep`, and the bodies that the run had: what stood, then the body behind each tick, and that at the end."""
+    """The status and the text of `keep`, and the bodies that the run had: what stood, then the body behind each tick,
+    and that at the end."""
     bodies = []
     try:
         store = Store(disk)

@@ -1,9 +1,11 @@
-"""Random scripts and clients on the wide server, for model/random_runs.py: what `cases_wide` makes of whole scripts (--wide), and what `adsd` answers over sockets in
-both profiles (--adsd), against the model of the protocol. Requests are made wide here: lengths by handle and by name that are greater than the value, names with NULs and
-a full stop in front, modes in the context of a task, sums that tell lengths, additions and deletions in sums, packets to a local router before the first frame.
+"""Random scripts and clients on the wide server, for model/random_runs.py: what `cases_wide` makes of whole scripts
+(--wide), and what `adsd` answers over sockets in both profiles (--adsd), against the model of the protocol. Requests
+are made wide here: lengths by handle and by name that are greater than the value, names with NULs and a full stop in
+front, modes in the context of a task, sums that tell lengths, additions and deletions in sums, packets to a local
+router before the first frame.
 
-What a program does not have yet is found out first (`has_of_cases`, `has_of`), left out or asked for its refusal, and named in the last line.
-"""
+What a program does not have yet is found out first (`has_of_cases`, `has_of`), left out or asked for its refusal, and
+named in the last line. """
 import contextlib
 import random
 import struct
@@ -22,8 +24,10 @@ SMALL = {"schema": 1, "net": NET, "route": [{"net": ME, "rights": "control"}],
 
 
 def without_signals(d):
-    """The description, whose symbols follow no signal: `cases_wide` has none, and over sockets signals go by the clock."""
-    ports = [{**port, "symbol": [{key: it for key, it in symbol.items() if key != "signal"} for symbol in port.get("symbol", [])]} for port in d["port"]]
+    """The description, whose symbols follow no signal: `cases_wide` has none, and over sockets signals go by the
+    clock."""
+    ports = [{**port, "symbol": [{key: it for key, it in symbol.items() if key != "signal"}
+                                 for symbol in port.get("symbol", [])]} for port in d["port"]]
     return {**d, "port": ports}
 
 
@@ -38,7 +42,8 @@ class Has:
 
     def left_out(self):
         """What it does not have, in words."""
-        return [*(f"0x{group:X}" for group in MORE if group not in self.more), *(["other_routes"] if self.others == (None,) else [])]
+        return [*(f"0x{group:X}" for group in MORE if group not in self.more),
+                *(["other_routes"] if self.others == (None,) else [])]
 
 
 # Wider requests.
@@ -76,7 +81,8 @@ def note_sum(r, group, parts, room):
 def an_addition(r, payload):
     if r.random() < 0.3:
         width = r.choice((40, 40, 24))
-        return note_sum(r, 0xF085, [payload[:12] + u32(r.choice((3, 4, 5, 6, 7))) + payload[16:width] for _ in range(r.randint(1, 3))], 8)
+        return note_sum(r, 0xF085, [payload[:12] + u32(r.choice((3, 4, 5, 6, 7))) + payload[16:width]
+                                    for _ in range(r.randint(1, 3))], 8)
     return 6, payload[:12] + u32(r.choice((5, 6, 7))) + payload[16:] if r.random() < 0.5 else payload
 
 
@@ -93,7 +99,8 @@ def wider(r, command, payload):
         group, offset, most, count = struct.unpack("<IIII", payload[:16])
         if group in NAMES and count == len(payload) - 16:
             name = a_name(r, payload[16:])
-            return 9, u32(group) + u32(offset) + u32(a_length(r, most) if group == 0xF004 else most) + u32(len(name)) + name
+            return 9, u32(group) + u32(offset) + u32(a_length(r, most) if group == 0xF004
+                                                     else most) + u32(len(name)) + name
         if group == 0xF080 and count == len(payload) - 16 == 12 * offset:
             return 9, a_sum(r, offset, most, payload[16:])
     return command, payload
@@ -129,7 +136,8 @@ def is_of_signals(event):
 
 
 def of_cases(program, folder, d, events, script, more, others=None):
-    """What differs of a script on `cases_wide` from the model, or None; machines without a route have the right `others`."""
+    """What differs of a script on `cases_wide` from the model, or None; machines without a route have the right
+    `others`."""
     lines = [f"| {line}" for line in script.splitlines()]
     out = [f"| {line}" for line in protocol.play(d, [], events, True, others, more).splitlines()[:-1]]
     right = [f"others {others}"] if others else []
@@ -162,7 +170,8 @@ def one_wide(program, seed, folder, has):
     r = random.Random(seed)
     d = without_signals(random_runs.description(r))
     events = [wider_event(r, event) for event in random_runs.script(r, d) if not is_of_signals(event)]
-    return of_cases(program, folder, d, events, random_runs.lines_of(r, events), has.more, r.choice((None, *has.others)))
+    return of_cases(program, folder, d, events, random_runs.lines_of(r, events), has.more,
+                    r.choice((None, *has.others)))
 
 
 # Clients over sockets, by `adsd`.
@@ -202,7 +211,8 @@ def router_packets(r):
     one = r.choice((protocol.ASKS_PORT + u16(r.choice((0, 0, 32905, 1, 65535))), protocol.ASKS_NET))
     text = one + r.choice((b"", b"", protocol.ASKS_NET, protocol.ASKS_PORT + u16(7)))
     if r.random() < 0.1:
-        text = r.choice((text[:r.randrange(len(text))], b"\1\x10" + text[2:], text + b"\0\x10\3\0\0\0", text[:2] + b"\4" + text[3:]))
+        text = r.choice((text[:r.randrange(len(text))], b"\1\x10" + text[2:], text + b"\0\x10\3\0\0\0",
+                         text[:2] + b"\4" + text[3:]))
     return text
 
 
@@ -219,14 +229,18 @@ def with_router(r, event):
 def one_daemon(program, seed, folder, has):
     """Random clients of the daemon, in one of its profiles, one event behind another; what differs, or None."""
     r = random.Random(seed)
-    d, profile, others = without_signals(random_runs.description(r)), r.choice(("wide", "wide", "strict")), r.choice(has.others)
+    d, profile, others = without_signals(random_runs.description(r)), r.choice(("wide", "wide",
+                                                                                "strict")), r.choice(has.others)
     # (samples, ticks and reloads come by the clock)
     events = [event for event in random_runs.script(r, d, notes=False) if event[0] in ("open", "bytes", "close")]
-    events = [more for event in events for more in with_router(r, wider_event(r, event) if profile == "wide" or r.random() < 0.5 else event)]
+    events = [more for event in events for more in with_router(r,
+                                                               wider_event(r, event) if profile == "wide"
+                                                               or r.random() < 0.5 else event)]
     random_runs.write(folder, "words", f"{profile} {others}\n")
     try:
         with served(program, folder, d, profile, others) as (it, port):
             said = random_runs.talked(events, machine_of(d, profile, others, has), port)
-            return f"{profile}, other_routes {others}: {said}" if said else f"it ended with {it.returncode}" if it.poll() is not None else None
+            return (f"{profile}, other_routes {others}: {said}" if said else f"it ended with {it.returncode}"
+                    if it.poll() is not None else None)
     except OSError as fault:
         return str(fault)

@@ -1,5 +1,5 @@
-"""A run of `adsd` as a plant has it, for the tries of it: in a folder of its own, with a log, signals and a disk that are
-as a try wants them. The table of tries stands here too."""
+"""A run of `adsd` as a plant has it, for the tries of it: in a folder of its own, with a log, signals and a disk that
+are as a try wants them. The table of tries stands here too."""
 import dataclasses
 import pathlib
 import re
@@ -53,7 +53,7 @@ class How:
     listen: typing.Optional[list] = None    # addresses in place of one at this machine
     plant: typing.Any = True                # the description: that of examples/, another text, or none
     change: typing.Optional[tuple] = None   # what stands otherwise in that of examples/
-    full: bool = False                      # whether no file may have a byte, which is told by an error and not by a signal
+    full: bool = False                      # whether no file may have a byte: an error tells it, and no signal
     before: typing.Any = None               # what is called before the program begins
     popen: dict = dataclasses.field(default_factory=dict)
 
@@ -82,12 +82,14 @@ class Daemon:
     def __init__(self, stack, program, words=(), folder=None, port=None, **how):
         fields = {it.name for it in dataclasses.fields(How)}
         self.how = How(**{name: it for name, it in how.items() if name in fields},
-                       popen={"stderr": subprocess.PIPE, **{name: it for name, it in how.items() if name not in fields}})
+                       popen={"stderr": subprocess.PIPE, **{name: it for name,
+                                                            it in how.items() if name not in fields}})
         self.folder, self.port = folder or stack.enter_context(tempfile.TemporaryDirectory()), port or free_port()
         self.how.describe(pathlib.Path(self.folder, "plant.toml"))
         listen = [word for it in (self.how.listen or [f"127.0.0.1:{self.port}"]) for word in ("--listen", it)]
         words = [program, *words] if self.how.bare else [program, "plant.toml", *listen, *words]
-        self.process = subprocess.Popen(words, cwd=self.folder, stdout=subprocess.PIPE, preexec_fn=self.how.prepare, **self.how.popen)
+        self.process = subprocess.Popen(words, cwd=self.folder, stdout=subprocess.PIPE, preexec_fn=self.how.prepare,
+                                        **self.how.popen)
         stack.callback(self.end)
         if self.how.listens:
             said = self.process.stdout.readline()
@@ -110,7 +112,8 @@ class Daemon:
             began = time.monotonic()
             it.sendall(reading(number))
             got = reply(it)
-            expect(got is not None and got[0] == number and got[1][8:] == bytes([42, 0, 0, 0]), f"a read was answered by {got!r}")
+            expect(got is not None and got[0] == number and got[1][8:] == bytes([42, 0, 0, 0]),
+                   f"a read was answered by {got!r}")
             return time.monotonic() - began
 
     def stopped(self, *signals, seconds=20):

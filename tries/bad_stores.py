@@ -1,10 +1,12 @@
 #!/usr/bin/env python3
-"""`ads keep` over stores that are none: files damaged byte by byte, cut at each byte or longer; and stores that are a folder, a device, nobody's to read, or on a disk that is full.
+"""`ads keep` over stores that are none: files damaged byte by byte, cut at each byte or longer; and stores that are a
+folder, a device, nobody's to read, or on a disk that is full.
 
     python3 tries/bad_stores.py PROGRAM
 
-PROGRAM is crates/ads/out/ads. Over a file of any bytes it must do what the model of the store says (model/store.py): the status, each line, and each byte of the file. Over a store that
-cannot be opened, read or written it must end with status 14 and its line alone, and what stood must stand. A line a scene, `ok` or what differed; status 1 where one did.
+PROGRAM is crates/ads/out/ads. Over a file of any bytes it must do what the model of the store says (model/store.py):
+the status, each line, and each byte of the file. Over a store that cannot be opened, read or written it must end with
+status 14 and its line alone, and what stood must stand. A line a scene, `ok` or what differed; status 1 where one did.
 """
 import os
 import pathlib
@@ -21,7 +23,8 @@ import hostile  # noqa: E402
 import store  # noqa: E402
 
 FAULT = (14, "ads: store fault\n")
-EVENTS = [("open", 1), ("bytes", 1, hostile.read(1, 0x4040, 72, 8)), ("tick", 1), ("bytes", 1, hostile.write(2, 0x4040, 72, b"\x55")), ("tick", 2)]
+EVENTS = [("open", 1), ("bytes", 1, hostile.read(1, 0x4040, 72, 8)), ("tick", 1),
+          ("bytes", 1, hostile.write(2, 0x4040, 72, b"\x55")), ("tick", 2)]
 
 
 class Differs(Exception):
@@ -30,19 +33,23 @@ class Differs(Exception):
 
 def written(folder):
     (folder / "plant.toml").write_bytes(pathlib.Path(hostile.DATA, "plant.toml").read_bytes())
-    (folder / "it.script").write_text("".join(line[2:] + "\n" for event in EVENTS for line in hostile.lines_of(event, "")))
+    (folder / "it.script").write_text("".join(line[2:] + "\n" for event in EVENTS
+                                              for line in hostile.lines_of(event, "")))
 
 
 def saved(count):
     """The file that so many saves leave."""
     disk = store.Disk()
-    events = [("open", 1)] + [event for k in range(count) for event in (("bytes", 1, hostile.write(k, 0x4040, 72, bytes([k + 65] * 8))), ("tick", k))]
+    events = [("open", 1)] + [event for k in range(count)
+                              for event in (("bytes", 1, hostile.write(k, 0x4040, 72, bytes([k + 65] * 8))),
+                                            ("tick", k))]
     store.kept(hostile.PLANT, hostile.SIGNALS, events, disk)
     return bytes(disk.file)
 
 
 def keep(program, folder, name="store", **more):
-    done = subprocess.run([program, "keep", "plant.toml", "it.script", str(name)], cwd=folder, stdout=subprocess.PIPE, stderr=subprocess.DEVNULL, text=True, timeout=60, **more)
+    done = subprocess.run([program, "keep", "plant.toml", "it.script", str(name)], cwd=folder, stdout=subprocess.PIPE,
+                          stderr=subprocess.DEVNULL, text=True, timeout=60, **more)
     return done.returncode, done.stdout
 
 
@@ -132,7 +139,8 @@ def stands(path, body):
 
 
 def limited(program, folder):
-    """A file that may not grow beyond a limit, whether the signal of it ends the program or not: what stood, or a save of the run, stands."""
+    """A file that may not grow beyond a limit, whether the signal of it ends the program or not: what stood, or a save
+    of the run, stands."""
     _, _, bodies = store.kept(hostile.PLANT, hostile.SIGNALS, EVENTS, store.Disk(saved(1)))
     for limit in (0, 1, 13, 40, 100, 1048592, 1048593, 1048605, 1048640):
         for ignored in (False, True):
@@ -152,7 +160,8 @@ def full(program, folder):
     """A disk that is full: status 14, and what stood stands."""
     place = folder / "small"
     place.mkdir()
-    if subprocess.run(["mount", "-t", "tmpfs", "-o", "size=64k", "tmpfs", str(place)], stderr=subprocess.DEVNULL).returncode:
+    if subprocess.run(["mount", "-t", "tmpfs", "-o", "size=64k", "tmpfs", str(place)],
+                      stderr=subprocess.DEVNULL).returncode:
         return "not tried: no file system may be mounted here"
     try:
         _, _, bodies = store.kept(hostile.PLANT, hostile.SIGNALS, EVENTS, store.Disk(saved(1)))
@@ -181,7 +190,8 @@ def full(program, folder):
 
 def main():
     program, bad = os.path.abspath(sys.argv[1]), False
-    for name, scene in (("damaged", damaged), ("cut", cut), ("no files", no_files), ("nobody's", nobodys), ("limited", limited), ("a full disk", full)):
+    for name, scene in (("damaged", damaged), ("cut", cut), ("no files", no_files), ("nobody's", nobodys),
+                        ("limited", limited), ("a full disk", full)):
         with tempfile.TemporaryDirectory(dir="/tmp") as folder:
             folder = pathlib.Path(folder)
             written(folder)

@@ -11,7 +11,8 @@ import urllib.error
 import urllib.request
 
 DRIVERS, BROWSERS = ("chromedriver",), ("chromium", "chromium-browser", "google-chrome")
-KEYS = {"Enter": "\ue007", "Space": " ", "Escape": "\ue00c", "Tab": "\ue004", "Down": "\ue015", "Up": "\ue013", "Left": "\ue012", "Right": "\ue014",
+KEYS = {"Enter": "\ue007", "Space": " ", "Escape": "\ue00c", "Tab": "\ue004", "Down": "\ue015", "Up": "\ue013",
+        "Left": "\ue012", "Right": "\ue014",
         "Home": "\ue011", "End": "\ue010", "Shift": "\ue008"}
 ELEMENT = "element-6066-11e4-a52e-4f735466cecf"
 
@@ -36,7 +37,8 @@ class Driver:
             it.bind(("127.0.0.1", 0))
             self.port = it.getsockname()[1]
         self.folder, self.sessions = tempfile.mkdtemp(prefix="page-browser-"), []
-        self.process = subprocess.Popen([program, f"--port={self.port}", "--log-level=OFF"], stdin=subprocess.DEVNULL, stdout=subprocess.DEVNULL,
+        self.process = subprocess.Popen([program, f"--port={self.port}", "--log-level=OFF"], stdin=subprocess.DEVNULL,
+                                        stdout=subprocess.DEVNULL,
                                         stderr=subprocess.DEVNULL, env={**os.environ, "TMPDIR": self.folder})
 
     def __enter__(self):
@@ -59,7 +61,8 @@ class Driver:
         shutil.rmtree(self.folder, ignore_errors=True)
 
     def ask(self, method, path, said=None):
-        request = urllib.request.Request(f"http://127.0.0.1:{self.port}{path}", method=method, data=None if said is None else json.dumps(said).encode(),
+        request = urllib.request.Request(f"http://127.0.0.1:{self.port}{path}", method=method,
+                                         data=None if said is None else json.dumps(said).encode(),
                                          headers={"Content-Type": "application/json"})
         try:
             with urllib.request.urlopen(request, timeout=60) as answer:
@@ -68,9 +71,12 @@ class Driver:
             raise Failed(json.load(fault)["value"].get("message", "")[:400]) from None
 
     def browser(self):
-        options = {"binary": found(BROWSERS), "args": ["--headless=new", "--no-sandbox", "--disable-gpu", "--disable-dev-shm-usage", "--hide-scrollbars",
-                                                       "--force-color-profile=srgb", f"--user-data-dir={tempfile.mkdtemp(dir=self.folder)}"]}
-        given = {"alwaysMatch": {"browserName": "chrome", "goog:chromeOptions": options, "goog:loggingPrefs": {"browser": "ALL"}}}
+        options = {"binary": found(BROWSERS), "args": ["--headless=new", "--no-sandbox", "--disable-gpu",
+                                                       "--disable-dev-shm-usage", "--hide-scrollbars",
+                                                       "--force-color-profile=srgb",
+                                                       f"--user-data-dir={tempfile.mkdtemp(dir=self.folder)}"]}
+        given = {"alwaysMatch": {"browserName": "chrome", "goog:chromeOptions": options,
+                                 "goog:loggingPrefs": {"browser": "ALL"}}}
         path = "/session/" + self.ask("POST", "/session", {"capabilities": given})["sessionId"]
         self.sessions.append(path)
         return Browser(self, path)
@@ -97,7 +103,8 @@ class Browser:
         self.cdp("Emulation.setDeviceMetricsOverride", width=wide, height=high, deviceScaleFactor=scale, mobile=False)
 
     def dark(self, is_dark):
-        self.cdp("Emulation.setEmulatedMedia", features=[{"name": "prefers-color-scheme", "value": "dark" if is_dark else "light"}])
+        self.cdp("Emulation.setEmulatedMedia", features=[{"name": "prefers-color-scheme",
+                                                          "value": "dark" if is_dark else "light"}])
 
     def find(self, selector):
         return self.post("/element", {"using": "css selector", "value": selector})[ELEMENT]

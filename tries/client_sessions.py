@@ -1,8 +1,9 @@
-"""What common ADS clients send, client by client, and what the server answers in both profiles; for tries/connecting.py.
+"""What common ADS clients send, client by client, and what the server answers in both profiles; for
+tries/connecting.py.
 
-Written from what is known of the clients' sources and manuals: no client and no TwinCAT ran. A session is one connection. Its steps are what the client does, in its own
-words, with the request and the answers of the strict and of the wide server. What the wide server answers is what TwinCAT is known to answer; no capture was at hand.
-"""
+Written from what is known of the clients' sources and manuals: no client and no TwinCAT ran. A session is one
+connection. Its steps are what the client does, in its own words, with the request and the answers of the strict and of
+the wide server. What the wide server answers is what TwinCAT is known to answer; no capture was at hand. """
 import collections
 import struct
 
@@ -41,7 +42,8 @@ def ams_error(number):
     return Outcome(False, "error", number)
 
 
-# Requests: what is asked, of port 851 unless another is told. The data may need a handle that an earlier step was given: then it is a function of those.
+# Requests: what is asked, of port 851 unless another is told. The data may need a handle that an earlier step was
+# given: then it is a function of those.
 
 
 def step(said, request, strict, wide=None, *, port=851, keep=None, more=()):
@@ -99,7 +101,8 @@ def told_sum(group):
 
 
 def told(group):
-    return step(f"the sum 0x{group:X}", told_sum(group), code(0x702), gives(struct.pack("<IIII", 0, 4, 0, 4) + COUNT * 2), more=(group,))
+    return step(f"the sum 0x{group:X}", told_sum(group), code(0x702),
+                gives(struct.pack("<IIII", 0, 4, 0, 4) + COUNT * 2), more=(group,))
 
 
 def added_sum(said):
@@ -130,59 +133,94 @@ def system_state(said="port 10000"):
 
 
 def notes_of_version():
-    return [step("a notification on 0xF008", add(0xF008, 0, 1, 4), code(0x702), OK), step("a notification on 0xF100", add(0xF100, 0, 4, 4), code(0x702), OK)]
+    return [step("a notification on 0xF008", add(0xF008, 0, 1, 4), code(0x702), OK),
+            step("a notification on 0xF100", add(0xF100, 0, 4, 4), code(0x702), OK)]
 
 
 SESSIONS = (
     Session("AdsLib, adstool", OWN_IP, False, [
-        step("name and version", INFO, OK), step("state", STATE, OK), handle("handles", b"Main.title", "title"), handle("handles", b"Main.count", "count"),
-        step("values", read_handle("count", 4), gives(COUNT)), step("writes", write_handle("count", COUNT), gives(None)),
-        step("a buffer of 255 bytes (`adstool .. var`)", read_handle("title", 255), code(0x705), gives(TITLE)), *lists(),
-        step("notifications", add(DATA, 0, 4, 4), OK), step("notifications", (7, lambda handles: struct.pack("<I", handles["note"])), gives(None)),
-        step("handles", release("title"), gives(None)), system_state("port 10000 (`adstool .. state` without a port)")]),
+        step("name and version", INFO, OK), step("state", STATE, OK), handle("handles", b"Main.title", "title"),
+        handle("handles", b"Main.count", "count"),
+        step("values", read_handle("count", 4), gives(COUNT)),
+        step("writes", write_handle("count", COUNT), gives(None)),
+        step("a buffer of 255 bytes (`adstool .. var`)", read_handle("title", 255), code(0x705), gives(TITLE)),
+        *lists(),
+        step("notifications", add(DATA, 0, 4, 4), OK), step("notifications",
+                                                            (7, lambda handles: struct.pack("<I", handles["note"])),
+                                                            gives(None)),
+        step("handles", release("title"), gives(None)), system_state("port 10000 (`adstool .. state` without a "
+                                                                     "port)")]),
     Session("pyads", OWN_IP, False, [
-        step("name and version", INFO, OK), step("state", STATE, OK), handle("handles", b"Main.title\0", "title"), handle("handles", b"Main.count\0", "count"),
-        step("values", read_handle("count", 4), gives(COUNT)), step("a STRING, with a buffer of 1,024 bytes", read_handle("title", 1024), code(0x705), gives(TITLE)),
-        step("writes", write_handle("count", COUNT), gives(None)), step("a shorter text written", write_handle("title", b"Mix\0"), gives(None)),
-        step("a STRING by name, with a buffer of 1,024 bytes", read_write(0xF004, 0, 1024, b"Main.title\0"), code(0x705), gives(TITLE)),
+        step("name and version", INFO, OK), step("state", STATE, OK), handle("handles", b"Main.title\0", "title"),
+        handle("handles", b"Main.count\0", "count"),
+        step("values", read_handle("count", 4), gives(COUNT)),
+        step("a STRING, with a buffer of 1,024 bytes", read_handle("title", 1024), code(0x705), gives(TITLE)),
+        step("writes", write_handle("count", COUNT), gives(None)),
+        step("a shorter text written", write_handle("title", b"Mix\0"), gives(None)),
+        step("a STRING by name, with a buffer of 1,024 bytes", read_write(0xF004, 0, 1024, b"Main.title\0"),
+             code(0x705), gives(TITLE)),
         step("lists by name", read_write(0xF009, 0, 0xFFFF, b"Main.count\0"), OK), *plain_sums(), *lists(),
-        step("an array in a list by name, without `structure_defs`", read_write(0xF009, 0, 0xFFFF, b"Main.axis\0"), ARRAY_ID, OK),
-        step("notifications", watch_handle("count", 4), OK), step("notifications", add(DATA, 4, 4, 3), OK), step("handles", release("title"), gives(None))]),
+        step("an array in a list by name, without `structure_defs`", read_write(0xF009, 0, 0xFFFF, b"Main.axis\0"),
+             ARRAY_ID, OK),
+        step("notifications", watch_handle("count", 4), OK), step("notifications", add(DATA, 4, 4, 3), OK),
+        step("handles", release("title"), gives(None))]),
     Session("Home Assistant", OWN_IP, False, [
-        handle("handles", b"Main.count\0", "count"), step("values", read_handle("count", 4), gives(COUNT)), step("writes", write_handle("count", COUNT), gives(None)),
+        handle("handles", b"Main.count\0", "count"), step("values", read_handle("count", 4), gives(COUNT)),
+        step("writes", write_handle("count", COUNT), gives(None)),
         step("notifications", watch_handle("count", 4), OK), step("handles", release("count"), gives(None))]),
     Session("ads-client for node", NET, True, [
-        system_state(), step("name and version", INFO, OK), step("state", STATE, OK), step("the symbol version", read(0xF008, 0, 1), gives(b"\1")), *notes_of_version(),
-        step("`readRaw`, `writeRaw`", read(DATA, 0, 4), gives(COUNT)), step("`readRaw`, `writeRaw`", write(DATA, 0, COUNT), gives(None)),
+        system_state(), step("name and version", INFO, OK), step("state", STATE, OK),
+        step("the symbol version", read(0xF008, 0, 1), gives(b"\1")), *notes_of_version(),
+        step("`readRaw`, `writeRaw`", read(DATA, 0, 4), gives(COUNT)),
+        step("`readRaw`, `writeRaw`", write(DATA, 0, COUNT), gives(None)),
         step("`readRawByPath`", read_write(0xF004, 0, 0xFFFFFFFF, b"Main.title"), code(0x705), gives(TITLE)),
-        handle("`createVariableHandle`", b"Main.title\0", "title", useless(None), size=0xFFFFFFFF), step("`readRawByHandle`", read_handle("title", 0xFFFFFFFF), code(0x705), gives(TITLE)),
-        step("`subscribeRaw`", add(DATA, 0, 4, 4), OK), step("sums", read_write(0xF080, 2, 16, part() + part()), gives(AGAIN_42)), *lists(), types(),
-        step("a type by its name, 0xF011 (`readValue`)", read_write(0xF011, 0, 0xFFFFFFFF, b"Axis\0"), code(0x702), OK)]),
+        handle("`createVariableHandle`", b"Main.title\0", "title", useless(None), size=0xFFFFFFFF),
+        step("`readRawByHandle`", read_handle("title", 0xFFFFFFFF), code(0x705), gives(TITLE)),
+        step("`subscribeRaw`", add(DATA, 0, 4, 4), OK), step("sums", read_write(0xF080, 2, 16, part() + part()),
+                                                             gives(AGAIN_42)), *lists(), types(),
+        step("a type by its name, 0xF011 (`readValue`)", read_write(0xF011, 0, 0xFFFFFFFF, b"Axis\0"), code(0x702),
+             OK)]),
     Session("node-ads, node-red-contrib-ads", ME, False, [
-        step("name and version", INFO, OK), step("state", STATE, OK), handle("handles", b"Main.title\0", "title"), handle("handles", b"Main.count\0", "count"),
-        handle("names with a full stop in front", b".Main.count\0", "stop", code(0x710), OK), step("`ads.STRING`, 81 bytes", read_handle("title", 81), code(0x705), gives(TITLE)),
-        step("values", read_handle("count", 4), gives(COUNT)), step("writes", write_handle("count", COUNT), gives(None)), *plain_sums(), *lists(), types(),
+        step("name and version", INFO, OK), step("state", STATE, OK), handle("handles", b"Main.title\0", "title"),
+        handle("handles", b"Main.count\0", "count"),
+        handle("names with a full stop in front", b".Main.count\0", "stop", code(0x710), OK),
+        step("`ads.STRING`, 81 bytes", read_handle("title", 81), code(0x705), gives(TITLE)),
+        step("values", read_handle("count", 4), gives(COUNT)),
+        step("writes", write_handle("count", COUNT), gives(None)), *plain_sums(), *lists(), types(),
         step("notifications", watch_handle("count", 4), OK), step("handles", release("count"), gives(None))]),
     Session("TwinCAT: XAE, Scope, a PLC", ME, False, [
-        system_state("port 10000 (XAE)"), step("name and version", INFO, OK), step("state", STATE, OK), step("`ADSREAD`, `ADSWRITE`", read(DATA, 0, 4), gives(COUNT)),
-        step("`ADSREAD`, `ADSWRITE`", write(DATA, 0, COUNT), gives(None)), handle("`ADSRDWRT`", b"Main.count\0", "count"),
-        handle("names by SIZEOF, with their NULs", b"Main.title" + bytes(71), "title", code(0x710), OK), *lists(), types(), step("notifications", add(DATA, 0, 4, 3), OK),
-        step("modes 5 and 6 (Scope)", add(DATA, 0, 4, 5), code(0x713), OK), step("modes 5 and 6 (Scope)", add(DATA, 4, 4, 6), code(0x713), OK)]),
+        system_state("port 10000 (XAE)"), step("name and version", INFO, OK), step("state", STATE, OK),
+        step("`ADSREAD`, `ADSWRITE`", read(DATA, 0, 4), gives(COUNT)),
+        step("`ADSREAD`, `ADSWRITE`", write(DATA, 0, COUNT), gives(None)),
+        handle("`ADSRDWRT`", b"Main.count\0", "count"),
+        handle("names by SIZEOF, with their NULs", b"Main.title" + bytes(71), "title", code(0x710), OK), *lists(),
+        types(), step("notifications", add(DATA, 0, 4, 3), OK),
+        step("modes 5 and 6 (Scope)", add(DATA, 0, 4, 5), code(0x713), OK),
+        step("modes 5 and 6 (Scope)", add(DATA, 4, 4, 6), code(0x713), OK)]),
     Session("Beckhoff's .NET library", ME, False, [
-        step("state", STATE, OK), *lists(), types(), handle("handles", b"Main.title\0", "title"), handle("handles", b"Main.count\0", "count"),
-        step("values", read_handle("count", 4), gives(COUNT)), step("`ReadAnyString`, 81 bytes", read_handle("title", 81), code(0x705), gives(TITLE)),
-        step("writes", write_handle("count", COUNT), gives(None)), *plain_sums(), *map(told, protocol.TOLD_SUMS), added_sum("the sum 0xF085"), deleted_sum("the sum 0xF086"), step("notifications", watch_handle("count", 4), OK),
-        step("`CyclicInContext`, `OnChangeInContext`", add(DATA, 0, 4, 5), code(0x713), OK), step("`CyclicInContext`, `OnChangeInContext`", add(DATA, 4, 4, 6), code(0x713), OK),
+        step("state", STATE, OK), *lists(), types(), handle("handles", b"Main.title\0", "title"),
+        handle("handles", b"Main.count\0", "count"),
+        step("values", read_handle("count", 4), gives(COUNT)),
+        step("`ReadAnyString`, 81 bytes", read_handle("title", 81), code(0x705), gives(TITLE)),
+        step("writes", write_handle("count", COUNT), gives(None)), *plain_sums(), *map(told, protocol.TOLD_SUMS),
+        added_sum("the sum 0xF085"), deleted_sum("the sum 0xF086"), step("notifications", watch_handle("count", 4), OK),
+        step("`CyclicInContext`, `OnChangeInContext`", add(DATA, 0, 4, 5), code(0x713), OK),
+        step("`CyclicInContext`, `OnChangeInContext`", add(DATA, 4, 4, 6), code(0x713), OK),
         *notes_of_version()]),
     Session("the Rust crate `ads`", OWN_IP, False, [
-        step("name and version", INFO, OK), step("state", STATE, OK), handle("handles", b"Main.title", "title"), handle("handles", b"Main.count", "count"),
-        step("values", read_handle("count", 4), gives(COUNT)), step("writes", write_handle("count", COUNT), gives(None)), *lists(), types(),
-        step("`read_multi`", told_sum(0xF083), code(0x702), gives(struct.pack("<IIII", 0, 4, 0, 4) + COUNT * 2), more=(0xF083,)),
-        step("`write_multi`", read_write(0xF081, 1, 4, struct.pack("<III", DATA, 4, 1) + b"\7"), gives(ZERO)), step("notifications", add(DATA, 0, 4, 4), OK),
+        step("name and version", INFO, OK), step("state", STATE, OK), handle("handles", b"Main.title", "title"),
+        handle("handles", b"Main.count", "count"),
+        step("values", read_handle("count", 4), gives(COUNT)),
+        step("writes", write_handle("count", COUNT), gives(None)), *lists(), types(),
+        step("`read_multi`", told_sum(0xF083), code(0x702), gives(struct.pack("<IIII", 0, 4, 0, 4) + COUNT * 2),
+             more=(0xF083,)),
+        step("`write_multi`", read_write(0xF081, 1, 4, struct.pack("<III", DATA, 4, 1) + b"\7"), gives(ZERO)),
+        step("notifications", add(DATA, 0, 4, 4), OK),
         added_sum("`add_notification_multi`"), step("handles", release("title"), gives(None))]),
     Session("OPC servers (a guess)", ME, False, [
         step("state", STATE, OK), *lists(), types(), handle("handles", b"Main.count\0", "count"), *plain_sums(),
-        step("500 items in a group", read_write(0xF080, 500, 4000, part() * 500), OK), step("501 items in a group", read_write(0xF080, 501, 4008, part() * 501), code(0x706))]),
+        step("500 items in a group", read_write(0xF080, 500, 4000, part() * 500), OK),
+        step("501 items in a group", read_write(0xF080, 501, 4008, part() * 501), code(0x706))]),
 )
 
 

@@ -1,13 +1,15 @@
 #!/usr/bin/env python3
 """What docs/CONNECTING.md says that clients ask and are answered, played over sockets.
 
-    python3 tries/connecting.py [ADS]           where the strict server differs from TwinCAT: `ads serve` (crates/ads/out/ads)
-    python3 tries/connecting.py --adsd ADSD     the sessions of common clients (tries/client_sessions.py) on the daemon in both profiles; with a route for each
-                                                client, and with none but `other_routes`
+    python3 tries/connecting.py [ADS]
+        where the strict server differs from TwinCAT: `ads serve` (crates/ads/out/ads)
+    python3 tries/connecting.py --adsd ADSD
+        the sessions of common clients (tries/client_sessions.py) on the daemon in both profiles; with a route for each
+        client, and with none but `other_routes`
     python3 tries/connecting.py --table         prints the table of the page, which the sessions make
 
-A line each that came otherwise, then the count; status 1 where there is one. What a program does not have is named. house/docs.py runs the first, and looks at the table.
-"""
+A line each that came otherwise, then the count; status 1 where there is one. What a program does not have is named.
+house/docs.py runs the first, and looks at the table. """
 import contextlib
 import os
 import pathlib
@@ -33,7 +35,8 @@ PART = part()
 STEPS = [
     ("a handle, the name with its NUL", 851, read_write(HANDLE, 0, 4, b"Main.title\0"), 0, 0, struct.pack("<I", 1)),
     ("a name with two NULs", 851, read_write(HANDLE, 0, 4, b"Main.title\0\0"), 0, 0x710, b""),
-    ("a handle with a great buffer: its four bytes", 851, read_write(HANDLE, 0, 0xFFFFFFFF, b"Main.count"), 0, 0, struct.pack("<I", 2)),
+    ("a handle with a great buffer: its four bytes", 851, read_write(HANDLE, 0, 0xFFFFFFFF, b"Main.count"), 0, 0,
+     struct.pack("<I", 2)),
     ("a STRING(7) by handle, with a buffer of 1,024 bytes", 851, read(VALUE, 1, 1024), 0, 0x705, b""),
     ("a STRING(7) by handle, with its own size", 851, read(VALUE, 1, 8), 0, 0, b"Mix\0\0\0\0\0"),
     ("a value by name, with a great buffer", 851, read_write(BY_NAME, 0, 1024, b"Main.count"), 0, 0x705, b""),
@@ -41,7 +44,8 @@ STEPS = [
     ("the state", 851, (STATE, b""), 0, 0, None),
     ("another state than run and stop", 851, (CONTROL, struct.pack("<HHI", 2, 0, 0)), 0, 0x706, None),
     ("a type by its name", 851, read_write(TYPE_BY_NAME, 0, 0xFFFF, b"Axis"), 0, 0x702, b""),
-    *[(f"a sum 0x{group:X}", 851, read_write(group, 1, 64, PART), 0, 0x702, b"") for group in (0xF083, 0xF084, 0xF085, 0xF086)],
+    *[(f"a sum 0x{group:X}", 851, read_write(group, 1, 64, PART), 0, 0x702, b"")
+      for group in (0xF083, 0xF084, 0xF085, 0xF086)],
     ("a sum of 501 parts", 851, read_write(0xF080, 501, 4096, PART * 501), 0, 0x706, b""),
     *[(f"a notification in mode {mode}", 851, add(DATA, 0, 4, mode), 0, 0x713, None) for mode in (0, 1, 2, 5, 6)],
     ("a notification in mode 3", 851, add(DATA, 0, 4, 3), 0, 0, None),
@@ -161,7 +165,9 @@ def is_as_said(outcome, command, error, came):
         return struct.unpack("<I", value[20:24])[0] == outcome.value
     if kind != outcome.kind:
         return False
-    return outcome.value is None or value == (outcome.value if kind != "data" else struct.pack("<I", len(outcome.value)) + outcome.value if command in (2, 9) else outcome.value)
+    return outcome.value is None or value == (outcome.value if kind != "data"
+                                              else struct.pack("<I", len(outcome.value)) + outcome.value
+                                              if command in (2, 9) else outcome.value)
 
 
 def ask_router(link):
@@ -241,7 +247,8 @@ def try_clients(program):
             for it in wrong:
                 print(f"{session.client}, {profile}: {it}")
             works = sum(outcome_of(it, profile, has.more).works for it in session.steps)
-            print(f"{session.client}, {profile}: {works} of {len(session.steps)} steps go on, {len(wrong)} otherwise than told", flush=True)
+            print(f"{session.client}, {profile}: {works} of {len(session.steps)} steps go on, {len(wrong)} otherwise "
+                  f"than told", flush=True)
     with daemon(program, plant_with([ME]) + SYSTEM, "wide") as port, contextlib.closing(Link(port)) as link:
         if link.ask(10000, STATE, b"") != (0, struct.pack("<IHH", 0, 5, 0)):
             count += 1

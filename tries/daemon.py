@@ -1,12 +1,14 @@
 #!/usr/bin/env python3
 """Tries `adsd` as a plant has it: real sockets, real signals, a log that nobody reads, systemd's socket, a status file.
 
-    python3 tries/daemon.py PROGRAM [--kills N] [NAME ..]     PROGRAM is the built adsd; without a NAME all tries are made
-    python3 tries/daemon.py PROGRAM --kills 1000 keeps_over_kills      kills it a thousand times over one store, in half an hour; 12 times where it is not said
+    python3 tries/daemon.py PROGRAM [--kills N] [NAME ..]
+        PROGRAM is the built adsd; without a NAME all tries are made
+    python3 tries/daemon.py PROGRAM --kills 1000 keeps_over_kills
+        kills it a thousand times over one store, in half an hour; 12 times where it is not said
 
-Each try has a name and says what it saw; the last line counts them, and the status is 1 if one failed. Nothing is stubbed: the program runs
-in a folder of its own, and what it is to answer is worked out from the layouts of docs/FORMATS.md.
-"""
+Each try has a name and says what it saw; the last line counts them, and the status is 1 if one failed. Nothing is
+stubbed: the program runs in a folder of its own, and what it is to answer is worked out from the layouts of
+docs/FORMATS.md. """
 import contextlib
 import os
 import pathlib
@@ -29,7 +31,9 @@ import daemon_ends  # noqa: E402, F401
 import daemon_files  # noqa: E402, F401
 import daemon_store  # noqa: E402, F401
 import store_file  # noqa: E402, F401
-from adsd import COUNTS, SUMMARY, TRIES, Daemon, Failed, expect, in_order, reading, reply, tried, waits_for  # noqa: E402
+from adsd import (  # noqa: E402
+    COUNTS, SUMMARY, TRIES, Daemon, Failed, expect, in_order, reading, reply, tried, waits_for,
+)
 from ams import request, u32  # noqa: E402
 from under_test import PLANT  # noqa: E402
 
@@ -47,7 +51,8 @@ def stop_at_start(program):
 def stop_idle(program):
     """SIGTERM, SIGINT, both, and each twice."""
     took = []
-    for signals in ((signal.SIGTERM,), (signal.SIGINT,), (signal.SIGTERM, signal.SIGINT), (signal.SIGTERM, signal.SIGTERM)):
+    for signals in ((signal.SIGTERM,), (signal.SIGINT,), (signal.SIGTERM, signal.SIGINT),
+                    (signal.SIGTERM, signal.SIGTERM)):
         with contextlib.ExitStack() as stack:
             it = Daemon(stack, program)
             it.asks()
@@ -64,7 +69,8 @@ def stop_under_load(program, connections=32, in_flight=16):
     with contextlib.ExitStack() as stack:
         it = Daemon(stack, program)
         counts = [0] * connections
-        threads = [threading.Thread(target=keep_asking, args=(it, counts, k, in_flight), daemon=True) for k in range(connections)]
+        threads = [threading.Thread(target=keep_asking, args=(it, counts, k, in_flight), daemon=True)
+                   for k in range(connections)]
         for thread in threads:
             thread.start()
         time.sleep(2)
@@ -130,8 +136,10 @@ def stop_file(program):
 
 
 LOG_LINES = (
-    "<6>listening at 127.0.0.1:", "<6>opened 1 from 127.0.0.1:", "<6>speaks 1 as 192.168.0.9.1.1, port 32905", "<6>closed 1 from 127.0.0.1:",
-    '<4>no route for 2: to let it in, add three lines to the description: [[route]] and net = "10.0.0.7.1.1" and rights = "read"; '
+    "<6>listening at 127.0.0.1:", "<6>opened 1 from 127.0.0.1:", "<6>speaks 1 as 192.168.0.9.1.1, port 32905",
+    "<6>closed 1 from 127.0.0.1:",
+    '<4>no route for 2: to let it in, add three lines to the description: [[route]] and net = "10.0.0.7.1.1" and '
+    'rights = "read"; '
     'to let every NetId in, add other_routes = "read" to the configuration',
     "<5>shut 2 from 127.0.0.1:", "<6>speaks 3 no ADS", "<5>shut 3 from 127.0.0.1:",
     "<4>reload refused: rule 12 item 1: a symbol lies within its area", "<6>reload accepted: version 2",
@@ -174,12 +182,14 @@ UNREADABLE = {
 
 @tried
 def description_that_cannot_be_read(program):
-    """While the daemon runs its description is gone, or no reading of it succeeds: told once, and once when it is over; what is served stays."""
+    """While the daemon runs its description is gone, or no reading of it succeeds: told once, and once when it is over;
+    what is served stays."""
     cannot, can = "<4>description: cannot be read (", "<5>description: can be read again"
     with contextlib.ExitStack() as stack:
         folder = stack.enter_context(tempfile.TemporaryDirectory())
         plant, aside, other, log = (pathlib.Path(folder, name) for name in ("plant.toml", "aside", "other", "log"))
-        it = Daemon(stack, program, ["--log", "journal", "--status", "status.prom"], stderr=stack.enter_context(log.open("wb")), folder=folder)
+        it = Daemon(stack, program, ["--log", "journal", "--status", "status.prom"],
+                    stderr=stack.enter_context(log.open("wb")), folder=folder)
         for count, (name, put) in enumerate(UNREADABLE.items(), 1):
             put(other)
             plant.rename(aside)
@@ -196,14 +206,16 @@ def description_that_cannot_be_read(program):
         in_order(out, status)
         told = [log.read_text().count(line) for line in (cannot, can)]
         expect(told == 2 * [len(UNREADABLE)] and "reload" not in log.read_text(), f"the log says {log.read_text()!r}")
-        faults = re.search(r"^adsd_description_read_faults_total (\d+)$", pathlib.Path(folder, "status.prom").read_text(), re.M)
+        faults = re.search(r"^adsd_description_read_faults_total (\d+)$",
+                           pathlib.Path(folder, "status.prom").read_text(), re.M)
         expect(faults and int(faults[1]) >= 3 * len(UNREADABLE), f"the status file counts {faults and faults[1]}")
         return f"{', '.join(UNREADABLE)}: each told once, with {faults[1]} readings that failed"
 
 
 @tried
 def machines_without_a_route(program):
-    """`other_routes`: who has no route reads; a write of it is refused with 0x704, or done; the log says what it means."""
+    """`other_routes`: who has no route reads; a write of it is refused with 0x704, or done; the log says what it
+    means."""
     stranger, said = bytes([10, 0, 0, 7, 1, 1]), []
     for right, code in (("read", 0x704), ("write", 0)):
         with contextlib.ExitStack() as stack:
@@ -215,7 +227,8 @@ def machines_without_a_route(program):
                 expect(reply(link) == (2, struct.pack("<I", code)), "a write of a stranger was answered otherwise")
             out, err, status, _ = it.stopped(signal.SIGTERM)
             in_order(out, status)
-            expect(any(line.startswith(f"<5>other_routes {right}: each machine") for line in err.splitlines()), f"the log says {err!r}")
+            expect(any(line.startswith(f"<5>other_routes {right}: each machine") for line in err.splitlines()),
+                   f"the log says {err!r}")
             expect("no route for" not in err, f"the log says {err!r}")
             said.append(right)
     return " and ".join(said)
@@ -231,7 +244,8 @@ def busy(daemon, seconds=3):
 
 @tried
 def nobody_reads_the_log(program):
-    """A full pipe, a pipe whose reader is gone, a full unix stream, a full disk: clients are served as ever, and it stops in order."""
+    """A full pipe, a pipe whose reader is gone, a full unix stream, a full disk: clients are served as ever, and it
+    stops in order."""
     seen = []
     for name in ("full pipe", "no reader", "full stream", "full disk"):
         with contextlib.ExitStack() as stack:
@@ -337,8 +351,10 @@ def status_file(program, seconds=25):
                 reads += 1
                 texts.add(text)
                 lines = text.splitlines()
-                expect(text.endswith("\n") and lines[-1].startswith("adsd_log_lines_lost_total "), f"a part of it was read: {text!r}")
-                expect(all(re.fullmatch(r"# TYPE \w+ (counter|gauge)|\w+(\{outcome=\"\w+\"\})? \d+(\.\d+)?", line) for line in lines), f"no text of Prometheus: {text!r}")
+                expect(text.endswith("\n") and lines[-1].startswith("adsd_log_lines_lost_total "),
+                       f"a part of it was read: {text!r}")
+                expect(all(re.fullmatch(r"# TYPE \w+ (counter|gauge)|\w+(\{outcome=\"\w+\"\})? \d+(\.\d+)?", line)
+                           for line in lines), f"no text of Prometheus: {text!r}")
             time.sleep(0.002)
         expect(len(texts) > 1, "it was never replaced")
         in_order(*it.stopped(signal.SIGTERM)[::2][:2])
@@ -351,8 +367,10 @@ WRONG = [
     (["plant.toml", "--lisen", "x"], 1, "adsd: --lisen is no option"),
     (["plant.toml", "--save-each"], 1, "adsd: a value is missing: save_each takes a number of seconds from 1 to 86400"),
     (["plant.toml", "--save-each", "10"], 1, "adsd: save_each needs store"),
-    (["plant.toml", "--store", "kept", "--save-each", "0"], 1, "adsd: save_each takes a number of seconds from 1 to 86400"),
-    (["plant.toml", "--store", "kept", "--save-each", "86401"], 1, "adsd: save_each takes a number of seconds from 1 to 86400"),
+    (["plant.toml", "--store", "kept", "--save-each", "0"], 1,
+     "adsd: save_each takes a number of seconds from 1 to 86400"),
+    (["plant.toml", "--store", "kept", "--save-each", "86401"], 1,
+     "adsd: save_each takes a number of seconds from 1 to 86400"),
     (["plant.toml", "--listen", "nowhere"], 1, "adsd: listen takes an address"),
     (["plant.toml", "--listen", "127.0.0.1:0"], 1, "adsd: listen takes an address"),
     (["plant.toml", *["--listen", "127.0.0.1:48898"] * 17], 1, "adsd: listen is given more than 16 times"),
@@ -378,16 +396,20 @@ def wrong_words(program):
         folder = stack.enter_context(tempfile.TemporaryDirectory())
         shutil.copy(PLANT, os.path.join(folder, "plant.toml"))
         pathlib.Path(folder, "unknown.toml").write_text('description = "plant.toml"\nlisen = "x"\n')
-        pathlib.Path(folder, "signal.toml").write_text('description = "plant.toml"\n[[signal]]\nvalues = [1]\n[[signal]]\nramps = 3\n')
+        pathlib.Path(folder, "signal.toml").write_text('description = "plant.toml"\n[[signal]]\nvalues = '
+                                                       '[1]\n[[signal]]\nramps = 3\n')
         more = '[[signal]]\nvalues = [1]\n' * 2      # a plant without its signals is refused before they are read
-        pathlib.Path(folder, "numbers.toml").write_text(f'description = "plant.toml"\n[[signal]]\nfile = "numbers.txt"\n{more}')
+        pathlib.Path(folder, "numbers.toml").write_text(f'description = "plant.toml"\n[[signal]]\nfile = '
+                                                        f'"numbers.txt"\n{more}')
         pathlib.Path(folder, "numbers.txt").write_text("1\n2x\n")
-        pathlib.Path(folder, "recording.toml").write_text(f'description = "plant.toml"\n[[signal]]\nrecording = "none.db"\nname = "Main.count"\n{more}')
+        pathlib.Path(folder, "recording.toml").write_text(f'description = "plant.toml"\n[[signal]]\nrecording = '
+                                                          f'"none.db"\nname = "Main.count"\n{more}')
         pathlib.Path(folder, "kind.toml").write_text('description = "plant.toml"\nsave_each = "10"\n')
         for words, status, sentence in WRONG:
             it = subprocess.run([program, *words], cwd=folder, capture_output=True, timeout=20)
             said = it.stderr.decode()
-            expect(it.returncode == status and it.stdout == b"" and said.startswith(sentence) and said.count("\n") == 1 and said.endswith("\n"),
+            expect(it.returncode == status and it.stdout == b"" and said.startswith(sentence) and said.count("\n") == 1
+                   and said.endswith("\n"),
                    f"{words} ended with {it.returncode}, {it.stdout!r} and {said!r}")
         return f"{len(WRONG)} cases"
 

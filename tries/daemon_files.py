@@ -1,5 +1,6 @@
-"""Tries of `adsd` and its files: slips that make two of them one, the status file and what stands beside it, descriptors and files that are used up, a /proc
-that is away, descriptions that are refused at a start or half written. They are run by tries/daemon.py."""
+"""Tries of `adsd` and its files: slips that make two of them one, the status file and what stands beside it,
+descriptors and files that are used up, a /proc that is away, descriptions that are refused at a start or half written.
+They are run by tries/daemon.py."""
 import contextlib
 import os
 import pathlib
@@ -27,7 +28,8 @@ def ran(program, folder, *words, before=None):
 
 def held(folder):
     """All names in a folder, with what stands there."""
-    return {path.name: (path.lstat().st_mode, path.read_bytes() if path.is_file() else b"") for path in pathlib.Path(folder).iterdir()}
+    return {path.name: (path.lstat().st_mode, path.read_bytes() if path.is_file() else b"")
+            for path in pathlib.Path(folder).iterdir()}
 
 
 def linked(folder, way, name, target):
@@ -50,7 +52,8 @@ def linked(folder, way, name, target):
 
 
 USES = {
-    "description": ("description", "plant.toml"), "the configuration": ("configuration", "adsd.toml"), "store": ("store", "kept"),
+    "description": ("description", "plant.toml"), "the configuration": ("configuration", "adsd.toml"),
+    "store": ("store", "kept"),
     "status": ("status", "status.prom"), "stop_file": ("stop_file", "stop"), "[[signal]] 0": ("signal", "numbers.txt"),
     "the description that is kept beside the store": ("kept", "kept.description"),
 }
@@ -68,7 +71,8 @@ def configured(folder, names):
 
 @tried
 def slips(program):
-    """Each two files of a daemon that are one, by name, by a link, by a folder's link, there already or not: refused, and nothing is made or changed."""
+    """Each two files of a daemon that are one, by name, by a link, by a folder's link, there already or not: refused,
+    and nothing is made or changed."""
     count = 0
     for one, (first, target) in USES.items():
         for other, (second, _) in USES.items():
@@ -97,7 +101,8 @@ def slip(program, one, first, other, way, there):
         before = held(folder)
         for words in (["check", "adsd.toml"], ["adsd.toml"]):
             status, _, said = ran(program, folder, *words)
-            expect(status == 1 and said.count("\n") == 1 and " are one file, " in said, f"{one} and {other}, {way}: {words} ended with {status} and {said!r}")
+            expect(status == 1 and said.count("\n") == 1 and " are one file, " in said,
+                   f"{one} and {other}, {way}: {words} ended with {status} and {said!r}")
             expect(one in said and other in said, f"{one} and {other}, {way}: it says {said!r}")
             expect(held(folder) == before, f"{one} and {other}, {way}: {words} changed the folder")
         return 1
@@ -108,18 +113,22 @@ def log_into_its_files(program):
     """Standard error's file may be none of the others, if the log goes there."""
     with tempfile.TemporaryDirectory() as folder:
         path = pathlib.Path(folder, "plant.toml")
-        for name, words in (("plant.toml", []), ("kept", ["--store", "kept"]), ("status.prom", ["--status", "status.prom"])):
+        for name, words in (("plant.toml", []), ("kept", ["--store", "kept"]),
+                            ("status.prom", ["--status", "status.prom"])):
             path.write_text(TEXT)
             with open(os.path.join(folder, name), "ab") as error:
-                it = subprocess.run([program, "plant.toml", "--listen", "127.0.0.1:1", *words], cwd=folder, stderr=error, stdout=subprocess.PIPE, timeout=20)
+                it = subprocess.run([program, "plant.toml", "--listen", "127.0.0.1:1", *words], cwd=folder,
+                                    stderr=error, stdout=subprocess.PIPE, timeout=20)
             said = pathlib.Path(folder, name).read_text()
-            expect(it.returncode == 1 and "standard error, to which the log goes, are one file" in said, f"it ended with {it.returncode} and {said!r}")
+            expect(it.returncode == 1 and "standard error, to which the log goes, are one file" in said,
+                   f"it ended with {it.returncode} and {said!r}")
         return "the description, the store, the status file"
 
 
 @tried
 def status_beside(program):
-    """A link to the store, a pipe, a folder at names that a status file might be written beside, and at its own name."""
+    """A link to the store, a pipe, a folder at names that a status file might be written beside, and at its own
+    name."""
     with contextlib.ExitStack() as stack:
         folder = stack.enter_context(tempfile.TemporaryDirectory())
         at = pathlib.Path(folder)
@@ -133,15 +142,20 @@ def status_beside(program):
         until(lambda: "adsd_ticks_total" in (at / "target").read_text(), "the link's target was not replaced")
         it.asks()
         in_order(*it.stopped(signal.SIGTERM)[::2][:2])
-        expect((at / "precious").read_bytes() == b"not to be lost", "what a link at a guessed name leads to was changed")
-        expect((at / "status.prom").is_symlink() and stat.S_IMODE((at / "target").stat().st_mode) == 0o640, "the link or the mode is another")
-        expect(set(held(folder)) == {"precious", "status.prom.new", "target.new", "target", "status.prom", "plant.toml"}, f"left are {sorted(held(folder))}")
+        expect((at / "precious").read_bytes() == b"not to be lost",
+               "what a link at a guessed name leads to was changed")
+        expect((at / "status.prom").is_symlink() and stat.S_IMODE((at / "target").stat().st_mode) == 0o640,
+               "the link or the mode is another")
+        expect(set(held(folder)) == {"precious", "status.prom.new", "target.new", "target", "status.prom",
+                                     "plant.toml"}, f"left are {sorted(held(folder))}")
         (at / "folder").mkdir()
         for name in ("folder", "target.new", "/dev/null"):
             for words in (["plant.toml", "--status", name],):
                 status, out, said = ran(program, folder, *words)
-                expect(status == 1 and said.startswith("adsd: status is to be a file or not there yet, and "), f"{name}: {status}, {said!r}")
-        return "a link, a pipe and a folder stay; a link's target is replaced; a folder, a pipe and a device are refused"
+                expect(status == 1 and said.startswith("adsd: status is to be a file or not there yet, and "),
+                       f"{name}: {status}, {said!r}")
+        return ("a link, a pipe and a folder stay; a link's target is replaced; a folder, a pipe and a device are "
+                "refused")
 
 
 @tried
@@ -150,11 +164,13 @@ def status_that_cannot_be_written(program):
     with contextlib.ExitStack() as stack:
         folder = stack.enter_context(tempfile.TemporaryDirectory())
         log = pathlib.Path(folder, "log")
-        it = Daemon(stack, program, ["--log", "journal", "--status", "there/status.prom"], stderr=stack.enter_context(log.open("wb")), folder=folder)
+        it = Daemon(stack, program, ["--log", "journal", "--status", "there/status.prom"],
+                    stderr=stack.enter_context(log.open("wb")), folder=folder)
         until(lambda: "<4>status: the status file cannot be written: " in log.read_text(), "it is not told")
         time.sleep(12)
         pathlib.Path(folder, "there").mkdir()
-        until(lambda: "<5>status: the status file is written again" in log.read_text(), "it is not told that it goes well again")
+        until(lambda: "<5>status: the status file is written again" in log.read_text(),
+              "it is not told that it goes well again")
         in_order(*it.stopped(signal.SIGTERM)[::2][:2])
         lines = [line for line in log.read_text().splitlines() if "status: " in line]
         expect(len(lines) == 2 and "No such file or directory" in lines[0], f"the log says {lines}")
@@ -172,12 +188,14 @@ def folders_that_are_checked(program):
         at.joinpath("closed").mkdir(0o755)
         as_other = (lambda: os.setuid(NOBODY)) if os.getuid() == 0 else None
         for key in ("store", "status"):
-            for name, wanted in (("missing/x", "its folder is not there"), ("file/x", "is no folder"), ("closed/x", "this user may make no file")):
+            for name, wanted in (("missing/x", "its folder is not there"), ("file/x", "is no folder"),
+                                 ("closed/x", "this user may make no file")):
                 at.joinpath("adsd.toml").write_text(f'description = "plant.toml"\n{key} = "{name}"\n')
                 if name == "closed/x" and as_other is None:
                     at.joinpath("closed").chmod(0o555)
                 status, _, said = ran(program, folder, "check", "adsd.toml", before=as_other)
-                expect(status == 1 and said.startswith(f"adsd: {key} {name} cannot be written") and wanted in said, f"{key} {name}: {status}, {said!r}")
+                expect(status == 1 and said.startswith(f"adsd: {key} {name} cannot be written") and wanted in said,
+                       f"{key} {name}: {status}, {said!r}")
         at.joinpath("adsd.toml").write_text('description = "plant.toml"\nstore = "kept"\nstatus = "s.prom"\n')
         status, _, said = ran(program, folder, "check", "adsd.toml")
         expect(status == 0 and said == "", f"a right configuration: {status}, {said!r}")
@@ -193,7 +211,8 @@ def descriptors_used_up(program, most=24):
         it = Daemon(stack, program, ["--log", "journal"], stderr=stack.enter_context(log.open("wb")), folder=folder,
                     before=lambda: resource.setrlimit(resource.RLIMIT_NOFILE, (most, most)))
         links = [stack.enter_context(it.link()) for _ in range(40)]
-        until(lambda: "<4>no descriptor is left for a new connection: raise the limit" in log.read_text(), "it is not told")
+        until(lambda: "<4>no descriptor is left for a new connection: raise the limit" in log.read_text(),
+              "it is not told")
         links[0].sendall(reading(7))
         expect(reply(links[0]) is not None, "who is there is not served")
         plant.with_suffix(".new").write_text(TEXT + "\n# changed\n")
@@ -213,9 +232,11 @@ def without_proc(program):
     with contextlib.ExitStack() as stack:
         folder = stack.enter_context(tempfile.TemporaryDirectory())
         pathlib.Path(folder, "plant.toml").write_text(TEXT)
-        away = ["unshare", "-m", "sh", "-c", 'mount -t tmpfs none /proc && exec env --block-signal=TERM,INT,HUP "$@"', "sh", program, "plant.toml",
+        away = ["unshare", "-m", "sh", "-c", 'mount -t tmpfs none /proc && exec env --block-signal=TERM,INT,HUP "$@"',
+                "sh", program, "plant.toml",
                 "--listen", f"127.0.0.1:{free_port()}"]
-        it = subprocess.Popen([*away, "--log", "journal", "--stop-file", "stop"], cwd=folder, stdout=subprocess.PIPE, stderr=subprocess.PIPE)
+        it = subprocess.Popen([*away, "--log", "journal", "--stop-file", "stop"], cwd=folder, stdout=subprocess.PIPE,
+                              stderr=subprocess.PIPE)
         stack.callback(it.kill)
         expect(it.stdout.readline() == b"listening\n", "it does not listen")
         it.send_signal(signal.SIGTERM)
@@ -223,7 +244,8 @@ def without_proc(program):
         expect(it.poll() is None, "a signal that it can't see ended it")
         pathlib.Path(folder, "stop").touch()
         _, said = it.communicate(timeout=20)
-        expect(it.returncode == 0 and b"<3>stop: /proc/self/status cannot be opened" in said, f"{it.returncode}, {said!r}")
+        expect(it.returncode == 0 and b"<3>stop: /proc/self/status cannot be opened" in said,
+               f"{it.returncode}, {said!r}")
         return "told, and the stop file ends it"
 
 
@@ -255,7 +277,8 @@ BAD = {"refused": TEXT.replace("offset = 8", "offset = 2"), "no TOML": TEXT[:100
 
 @tried
 def kept_description(program):
-    """`keep_description`: what was accepted last is served where a start finds a description that is refused or gone; it is told, and the named one is taken."""
+    """`keep_description`: what was accepted last is served where a start finds a description that is refused or gone;
+    it is told, and the named one is taken."""
     with contextlib.ExitStack() as stack:
         folder = stack.enter_context(tempfile.TemporaryDirectory())
         plant, kept = pathlib.Path(folder, "plant.toml"), pathlib.Path(folder, "kept.description")
@@ -267,10 +290,12 @@ def kept_description(program):
         for name, text in (*BAD.items(), ("gone", None)):
             with contextlib.ExitStack() as inner:
                 log = pathlib.Path(folder, "log")
-                it = Daemon(inner, program, words, folder=folder, stderr=inner.enter_context(log.open("wb")), plant=text)
+                it = Daemon(inner, program, words, folder=folder, stderr=inner.enter_context(log.open("wb")),
+                            plant=text)
                 it.asks()
                 line = "<3>description" + (": cannot be read;" if text is None else " refused: rule ")
-                expect(line in log.read_text() and "the last one that was accepted is served, kept.description" in log.read_text(), f"{name}: {log.read_text()!r}")
+                expect(line in log.read_text() and "the last one that was accepted is served, "
+                       "kept.description" in log.read_text(), f"{name}: {log.read_text()!r}")
                 plant.with_suffix(".new").write_text(TEXT)
                 plant.with_suffix(".new").replace(plant)
                 until(lambda: "reload accepted" in log.read_text(), f"{name}: the right one is not taken")
@@ -290,11 +315,13 @@ def kept_description(program):
 
 @tried
 def settle(program):
-    """`settle`: a description that is written in place, a line each half second, is taken once, when it stood for so long."""
+    """`settle`: a description that is written in place, a line each half second, is taken once, when it stood for so
+    long."""
     with contextlib.ExitStack() as stack:
         folder = stack.enter_context(tempfile.TemporaryDirectory())
         plant, log = pathlib.Path(folder, "plant.toml"), pathlib.Path(folder, "log")
-        it = Daemon(stack, program, ["--log", "journal", "--settle", "3"], stderr=stack.enter_context(log.open("wb")), folder=folder)
+        it = Daemon(stack, program, ["--log", "journal", "--settle", "3"], stderr=stack.enter_context(log.open("wb")),
+                    folder=folder)
         parts = (TEXT + "\n# one\n# two\n# three\n").split("\n[[port.symbol]]")
         with plant.open("w") as file:
             for n, part in enumerate(parts):
@@ -315,14 +342,22 @@ def slips_of_toml(program):
     """What is wrong with a configuration, with its line and column; a value that is refused is told."""
     with tempfile.TemporaryDirectory() as folder:
         pathlib.Path(folder, "plant.toml").write_text(TEXT)
-        for text, wanted in (('description = "plant.toml"\nlisten = [\n', r"adsd: this is no configuration: TOML parse error at line \d, column \d+: .+\n"),
-                             ('description = "plant.toml"\nlisten = "0.0.0.0"\n', r"adsd: listen takes an address: .*, not 0\.0\.0\.0\n"),
-                             ('description = "plant.toml"\nallow = ["10.0.0.0/33"]\n', r"adsd: allow takes a net.*, not 10\.0\.0\.0/33\n"),
-                             ('description = "plant.toml"\nsettle = 3601\n', r"adsd: settle takes a number of seconds from 0 to 3600\n"),
-                             ('description = "plant.toml"\nkeep_description = "yes"\n', r"adsd: keep_description takes true or false\n"),
-                             ('description = "plant.toml"\nkeep_description = true\n', r"adsd: keep_description needs store, .*\n"),
-                             ('description = "plant.toml"\nstore = "k"\nstore_damaged = "go"\n', r"adsd: store_damaged takes begin.*, not go\n"),
-                             ('description = "plant.toml"\nlisten = "a\\nb"\n', r"adsd: listen takes an address: .*, not a\?b\n")):
+        for text, wanted in (('description = "plant.toml"\nlisten = [\n',
+                              r"adsd: this is no configuration: TOML parse error at line \d, column \d+: .+\n"),
+                             ('description = "plant.toml"\nlisten = "0.0.0.0"\n',
+                              r"adsd: listen takes an address: .*, not 0\.0\.0\.0\n"),
+                             ('description = "plant.toml"\nallow = ["10.0.0.0/33"]\n',
+                              r"adsd: allow takes a net.*, not 10\.0\.0\.0/33\n"),
+                             ('description = "plant.toml"\nsettle = 3601\n',
+                              r"adsd: settle takes a number of seconds from 0 to 3600\n"),
+                             ('description = "plant.toml"\nkeep_description = "yes"\n',
+                              r"adsd: keep_description takes true or false\n"),
+                             ('description = "plant.toml"\nkeep_description = true\n',
+                              r"adsd: keep_description needs store, .*\n"),
+                             ('description = "plant.toml"\nstore = "k"\nstore_damaged = "go"\n',
+                              r"adsd: store_damaged takes begin.*, not go\n"),
+                             ('description = "plant.toml"\nlisten = "a\\nb"\n',
+                              r"adsd: listen takes an address: .*, not a\?b\n")):
             pathlib.Path(folder, "adsd.toml").write_text(text)
             status, _, said = ran(program, folder, "check", "adsd.toml")
             expect(status == 1 and re.fullmatch(wanted, said), f"{text!r}: {status}, {said!r}")

@@ -1,4 +1,5 @@
-"""Tries of `adsd` with a store, several addresses, an allow list, the wide profile and signals: tries/daemon.py makes them with the others."""
+"""Tries of `adsd` with a store, several addresses, an allow list, the wide profile and signals: tries/daemon.py makes
+them with the others."""
 import contextlib
 import itertools
 import os
@@ -75,7 +76,8 @@ def keeps_over_a_restart(program):
 
 @tried
 def keeps_over_kills(program):
-    """Killed at a random moment, again and again: the value that comes back was written, and at most a second and a save before the last one."""
+    """Killed at a random moment, again and again: the value that comes back was written, and at most a second and a
+    save before the last one."""
     chance, ages, writes, times = random.Random(7), [], 0, COUNTS["kills"]
     with contextlib.ExitStack() as stack:
         folder = stack.enter_context(tempfile.TemporaryDirectory())
@@ -102,7 +104,8 @@ def keeps_over_kills(program):
             it.process.kill()
             killed = time.monotonic()
             it.end()
-        return f"{times} kills, {writes} writes; the oldest write that was lost was {max(ages, default=0):.2f} s before the kill"
+        return (f"{times} kills, {writes} writes; the oldest write that was lost was {max(ages, default=0):.2f} s "
+                f"before the kill")
 
 
 @tried
@@ -135,7 +138,8 @@ def one_daemon_a_store(program):
         in_folder(stack, program, folder, ["--store", "kept"])
         second = in_folder(stack, program, folder, ["--store", "kept"], listens=False)
         out, err, status, _ = second.stopped()
-        expect(status != 0 and out == "" and "kept: another daemon keeps its values there" in err, f"it ended with {status}, {out!r} and {err!r}")
+        expect(status != 0 and out == "" and "kept: another daemon keeps its values there" in err,
+               f"it ended with {status}, {out!r} and {err!r}")
         return f"status {status}"
 
 
@@ -150,7 +154,8 @@ def a_value_that_fits_nothing(program):
             write_title(link, 1, title_of(1))
         kept_in_order(*first.stopped(signal.SIGTERM)[::2][:2])
         before = pathlib.Path(folder, "kept").read_bytes()
-        second = in_folder(stack, program, folder, words, change=('type = "STRING(7)"', 'type = "ARRAY [1..8] OF BYTE"'))
+        second = in_folder(stack, program, folder, words, change=('type = "STRING(7)"',
+                                                                  'type = "ARRAY [1..8] OF BYTE"'))
         _, err, status, _ = second.stopped(signal.SIGTERM)
         expect(status == 0 and "no persistent symbol fits the entry Main.title" in err, f"the log says {err!r}")
         copies = [store.standing_of(it.read_bytes()) for it in pathlib.Path(folder).glob("kept.before-*")]
@@ -164,7 +169,8 @@ def a_value_that_came_later(program):
     with contextlib.ExitStack() as stack:
         folder = stack.enter_context(tempfile.TemporaryDirectory())
         kept, other = pathlib.Path(folder, "kept"), ('name = "Main.title"', 'name = "Main.label"')
-        it = in_folder(stack, program, folder, ["--store", "kept", "--save-each", "1"], change=("persistent = true", "persistent = false"))
+        it = in_folder(stack, program, folder, ["--store", "kept", "--save-each", "1"],
+                       change=("persistent = true", "persistent = false"))
         plant = pathlib.Path(folder, "plant.toml")
         text = plant.read_text().replace("persistent = false", "persistent = true")
         plant.write_text(text)
@@ -177,7 +183,8 @@ def a_value_that_came_later(program):
         _, err, status, _ = it.stopped(signal.SIGTERM)
         expect(status == 0 and "no persistent symbol fits the entry Main.title" in err, f"the log says {err!r}")
         copies = [it.read_bytes() for it in pathlib.Path(folder).glob("kept.before-*")]
-        expect(b"Main.title" in before and len(copies) == 1 and b"Main.title" in copies[0], "there is not one copy with what stood there")
+        expect(b"Main.title" in before and len(copies) == 1 and b"Main.title" in copies[0],
+               "there is not one copy with what stood there")
         return "told and copied"
 
 
@@ -218,10 +225,12 @@ def several_addresses(program):
 
 @tried
 def allow_list(program, refused=100):
-    """Peers that the list leaves out are closed at once, take no number and are told; the others are served beside them."""
+    """Peers that the list leaves out are closed at once, take no number and are told; the others are served beside
+    them."""
     with contextlib.ExitStack() as stack:
         it = Daemon(stack, program, ["--allow", "127.0.0.2", "--status", "status.prom"], listens=True)
-        good = stack.enter_context(socket.create_connection(("127.0.0.1", it.port), timeout=10, source_address=("127.0.0.2", 0)))
+        good = stack.enter_context(socket.create_connection(("127.0.0.1", it.port), timeout=10,
+                                                            source_address=("127.0.0.2", 0)))
         for number in range(refused):
             with it.link() as link, contextlib.suppress(ConnectionError):
                 link.sendall(reading(number))
@@ -249,7 +258,8 @@ def given_socket(program):
         def hand_over():
             os.dup2(given.fileno(), 3)
 
-        it = Daemon(stack, "/bin/sh", port=port, words=["-c", f'LISTEN_PID=$$ LISTEN_FDS=1 exec {program} plant.toml'], bare=True,
+        it = Daemon(stack, "/bin/sh", port=port, words=["-c", f'LISTEN_PID=$$ LISTEN_FDS=1 exec {program} plant.toml'],
+                    bare=True,
                     before=hand_over, pass_fds=(3,))
         it.asks()
         out, _, status, _ = it.stopped(signal.SIGTERM)

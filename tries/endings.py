@@ -1,12 +1,13 @@
 #!/usr/bin/env python3
-"""A thousand connections that end in each way: what `ads serve` and `ads relay --listen`, or `adsd` in both profiles, keep of them.
+"""A thousand connections that end in each way: what `ads serve` and `ads relay --listen`, or `adsd` in both profiles,
+keep of them.
 
     python3 tries/endings.py [PROGRAM] [--count N]
     python3 tries/endings.py --adsd PROGRAM [--count N]
 
-For each way N connections (1,000) come, 32 at a time, and end so. Behind them a good client asks, and must be told each byte; the process must have as many descriptors
-and threads as before the first, and what it holds of memory is told before and behind. The program ends with 1 where anything is left over or a client is told otherwise.
-"""
+For each way N connections (1,000) come, 32 at a time, and end so. Behind them a good client asks, and must be told each
+byte; the process must have as many descriptors and threads as before the first, and what it holds of memory is told
+before and behind. The program ends with 1 where anything is left over or a client is told otherwise. """
 import os
 import socket
 import sys
@@ -36,8 +37,9 @@ def of_relay(k):
 
 def routes():
     """A description with a route for each of the connections of a relay, and one for the good client."""
-    return "schema = 1\nnet = \"5.1.2.3.1.1\"\n" + "".join(f"[[route]]\nnet = \"192.168.0.{k}.1.1\"\nrights = \"write\"\n" for k in range(TOGETHER + 1)) \
-        + "[[port]]\nport = 851\nname = \"A\"\nmajor = 1\nminor = 1\nbuild = 1\ndata = 8\n"
+    nets = "".join(f'[[route]]\nnet = "192.168.0.{k}.1.1"\nrights = "write"\n' for k in range(TOGETHER + 1))
+    port = '[[port]]\nport = 851\nname = "A"\nmajor = 1\nminor = 1\nbuild = 1\ndata = 8\n'
+    return f'schema = 1\nnet = "5.1.2.3.1.1"\n{nets}{port}'
 
 
 def exactly(s, want):
@@ -167,9 +169,11 @@ def main():
     of_daemon = "--adsd" in words
     words = [word for word in words if word not in ("--count", "--adsd")]
     PROGRAM = os.path.abspath(words[0] if words else ADS)
-    print("| of | how the connections ended | how many | descriptors left over | threads | KiB more than before the first |\n|---|---|---|---|---|---|")
+    print("| of | how the connections ended | how many | descriptors left over | threads | KiB more than before the "
+          "first |\n|---|---|---|---|---|---|")
     if of_daemon:
-        sys.exit(1 if sum(play(daemon_words(PLANT, profile), OfServer, of_server, count) for profile in ("strict", "wide")) else 0)
+        sys.exit(1 if sum(play(daemon_words(PLANT, profile), OfServer, of_server, count)
+                          for profile in ("strict", "wide")) else 0)
     wrong = play(serve_words(PLANT), OfServer, of_server, count)
     with tempfile.NamedTemporaryFile("w", suffix=".toml") as description:
         description.write(routes())

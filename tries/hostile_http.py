@@ -1,13 +1,15 @@
 #!/usr/bin/env python3
-"""Hostile peers of tools/page.py over HTTP, many times, and what its process holds behind each kind: descriptors, threads, memory.
+"""Hostile peers of tools/page.py over HTTP, many times, and what its process holds behind each kind: descriptors,
+threads, memory.
 
     python3 tries/hostile_http.py [PROGRAM] [--times N] [--short]
 
-PROGRAM is crates/ads/out/ads where it is absent, whose `serve` is under the page. The single requests are those of tools/tries/page_http.py, each with the
-answer that must come; `--times` (20) is how often they come, and how many hundred connections each other kind has; `--short` is 1. Behind each kind /healthz
-must be answered within half a minute and /values.json be right, and once all are gone there must be as many descriptors and threads as before; the memory is
-told, and more than 32 MiB of growth behind the first round is a fault. The page may write nothing to standard error. Status 1 where anything differs.
-"""
+PROGRAM is crates/ads/out/ads where it is absent, whose `serve` is under the page. The single requests are those of
+tools/tries/page_http.py, each with the answer that must come; `--times` (20) is how often they come, and how many
+hundred connections each other kind has; `--short` is 1. Behind each kind /healthz must be answered within half a minute
+and /values.json be right, and once all are gone there must be as many descriptors and threads as before; the memory is
+told, and more than 32 MiB of growth behind the first round is a fault. The page may write nothing to standard error.
+Status 1 where anything differs. """
 import argparse
 import contextlib
 import os
@@ -47,7 +49,8 @@ def asks(page, path):
 
 
 class Kinds:
-    """Each is given the page, a client of the server that can change a value, and how many hundreds of connections are meant."""
+    """Each is given the page, a client of the server that can change a value, and how many hundreds of connections are
+    meant."""
 
     @staticmethod
     def requests_that_are_none(page, rig, times):
@@ -70,7 +73,8 @@ class Kinds:
     def reset_in_a_body(page, rig, times):
         for _ in range(100 * times):
             s = opened(page)
-            s.sendall(f"POST /write HTTP/1.1\r\nHost: 127.0.0.1:{page.port}\r\nContent-Length: 300000\r\n\r\n".encode() + bytes(1000))
+            s.sendall(f"POST /write HTTP/1.1\r\nHost: 127.0.0.1:{page.port}\r\nContent-Length: "
+                      f"300000\r\n\r\n".encode() + bytes(1000))
             reset(s)
 
     @staticmethod
@@ -152,11 +156,13 @@ def tried(program, times):
         page.until(page.is_well, "the server")
         page_http.of_requests(page)
         page_http.of_many(page)
-        Kinds.streams_that_are_left(page, rig, times)    # what so many streams take of memory at once, the process keeps
+        # (what so many streams take of memory at once, the process keeps)
+        Kinds.streams_that_are_left(page, rig, times)
         time.sleep(7)    # those that say nothing are let go after five seconds
         look(page, rig, "a first round")
         before, wrong = held.counts(page.process.pid), 0
-        print(f"before: {before[0]} descriptors, {before[1]} threads, {before[2]:,} KiB\n\n| peers | seconds | behind them |\n|---|---|---|")
+        print(f"before: {before[0]} descriptors, {before[1]} threads, {before[2]:,} KiB\n\n| peers | seconds | behind "
+              f"them |\n|---|---|---|")
         for what, kind in kinds():
             began = time.monotonic()
             try:

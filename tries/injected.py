@@ -1,29 +1,35 @@
 #!/usr/bin/env python3
-"""Faults of single calls of the system, put in by strace: each call that touches the store of `ads keep` or `adsd`, the file of `ads record` or the history of
-tools/history.py fails in turn, or is the one at which the program is killed; then the program is started again over what is left.
+"""Faults of single calls of the system, put in by strace: each call that touches the store of `ads keep` or `adsd`, the
+file of `ads record` or the history of tools/history.py fails in turn, or is the one at which the program is killed;
+then the program is started again over what is left.
 
-    python3 tries/injected.py ADS ADSD [--runs N] [--short] [--only SCENE] [--call NAME] [--fault WORD] [--at K] [--jobs N]
+    python3 tries/injected.py ADS ADSD [--runs N] [--short] [--only SCENE] [--call NAME] [--fault WORD] [--at K]
+                              [--jobs N]
 
-ADS and ADSD are the built programs; it needs Debian's strace. A first run of each scene counts its calls (openat, write and pwrite64, fsync and fdatasync,
-link, rename, ftruncate, unlink) on the file, on what stands beside it and on its folder. Then the K-th call of a name fails with EIO, with ENOSPC, with EIO
-together with all behind it, or is not made because the program is killed at it. `--runs N` tries at most N calls of each name and fault (else all),
-`--short` one, of EIO and of the kill, in less than a minute. It prints a table of what was seen, and how often. Each run that differed is told on standard
-error with the words that repeat it; then the status is 1.
+ADS and ADSD are the built programs; it needs Debian's strace. A first run of each scene counts its calls (openat, write
+and pwrite64, fsync and fdatasync, link, rename, ftruncate, unlink) on the file, on what stands beside it and on its
+folder. Then the K-th call of a name fails with EIO, with ENOSPC, with EIO together with all behind it, or is not made
+because the program is killed at it. `--runs N` tries at most N calls of each name and fault (else all), `--short` one,
+of EIO and of the kill, in less than a minute. It prints a table of what was seen, and how often. Each run that differed
+is told on standard error with the words that repeat it; then the status is 1.
 
 What must hold, of each scene:
 
-- keep, keep on top: status 14 and its line; the file stands for what the model of the store says (model/store.py); so does that of the next run.
-- adsd: the file stands for one save, its values are of one moment, none older than the last save that the log told. The daemon tells `store fault`, counts it,
-  serves on and saves later, or it ends with 14. The next start serves what stands there.
+- keep, keep on top: status 14 and its line; the file stands for what the model of the store says (model/store.py); so
+  does that of the next run.
+- adsd: the file stands for one save, its values are of one moment, none older than the last save that the log told. The
+  daemon tells `store fault`, counts it, serves on and saves later, or it ends with 14. The next start serves what
+  stands there.
 - adsd, a name is gone: the old value stands in the store, or in a copy with .before-, which is never a part.
 - adsd, its status file: it serves on and ends with 0; the file is whole where it is there.
-- record, record on top: the rows that stood and a first part of the others, each once, with their totals; status 16, or 0 and all rows. The next run goes on
-  behind them.
-- history: each sample once, and a gap where one is lost; status 0, or 16 and a sentence. The next run goes on behind them.
+- record, record on top: the rows that stood and a first part of the others, each once, with their totals; status 16, or
+  0 and all rows. The next run goes on behind them.
+- history: each sample once, and a gap where one is lost; status 0, or 16 and a sentence. The next run goes on behind
+  them.
 
-Not tried: a write that writes less than it is told to. strace can make a call return less, but not write less, so the program would be told a lie; what a
-cut write leaves is tried by kills at any moment (tries/killed.py, tries/daemon.py). And a loss of power: what was written stays in the system here.
-"""
+Not tried: a write that writes less than it is told to. strace can make a call return less, but not write less, so the
+program would be told a lie; what a cut write leaves is tried by kills at any moment (tries/killed.py, tries/daemon.py).
+And a loss of power: what was written stays in the system here. """
 import argparse
 import collections
 import concurrent.futures
@@ -55,8 +61,10 @@ from tries.history_checks import of_sqlite, sound  # noqa: E402
 from tries.running import ME, NET, Wrong  # noqa: E402
 from under_test import free_port  # noqa: E402
 
-CALLS = ("openat", "write", "pwrite64", "fsync", "fdatasync", "link", "linkat", "rename", "renameat", "renameat2", "ftruncate", "truncate", "unlink", "unlinkat")
-FAULTS = {"EIO": "error=EIO:when={}", "KILL": "signal=KILL:when={}", "ENOSPC": "error=ENOSPC:when={}", "EIO from there on": "error=EIO:when={}+"}
+CALLS = ("openat", "write", "pwrite64", "fsync", "fdatasync", "link", "linkat", "rename", "renameat", "renameat2",
+         "ftruncate", "truncate", "unlink", "unlinkat")
+FAULTS = {"EIO": "error=EIO:when={}", "KILL": "signal=KILL:when={}", "ENOSPC": "error=ENOSPC:when={}",
+          "EIO from there on": "error=EIO:when={}+"}
 SHORT = ("EIO", "KILL")
 HISTORY = os.path.join(HERE, "..", "tools", "history.py")
 
@@ -75,14 +83,16 @@ class Spot:
 
     def __init__(self, folder, call=None, fault=None, at=0):
         self.folder, self.call, self.fault, self.at = pathlib.Path(folder), call, fault, at
-        self.trace, self.is_kill, self.goes_on, self.missed = self.folder / "trace", fault == "KILL", fault == "EIO from there on", False
+        self.trace, self.is_kill, self.goes_on, self.missed = (self.folder / "trace", fault == "KILL",
+                                                               fault == "EIO from there on", False)
 
     def words(self, *names):
         """The words before a program's: strace looks at its calls on these files of the folder."""
         paths = [word for name in names for word in ("-P", os.path.normpath(self.folder / name))]
         inject = ["-e", f"inject={self.call}:{FAULTS[self.fault].format(self.at)}"] if self.call else []
         faster = [] if self.is_kill else ["--seccomp-bpf"]    # (with it, strace does not send the signal)
-        return ["strace", "-D", "-f", *faster, "-q", "-e", "signal=KILL", "-e", f"trace={','.join(CALLS)}", *inject, *paths, "-o", str(self.trace), "--"]
+        return ["strace", "-D", "-f", *faster, "-q", "-e", "signal=KILL", "-e", f"trace={','.join(CALLS)}", *inject,
+                *paths, "-o", str(self.trace), "--"]
 
     def said(self, process):
         """What strace said of a process that has ended."""
@@ -100,7 +110,8 @@ class Spot:
 
     def is_hit(self, process):
         """Whether the run came to the call; a run has not always as many as the first."""
-        is_hit = self.call and ("(INJECTED)" in self.said(process) or self.is_kill and "+++ killed by SIGKILL" in self.said(process))
+        is_hit = self.call and ("(INJECTED)" in self.said(process) or self.is_kill
+                                and "+++ killed by SIGKILL" in self.said(process))
         self.missed = self.call and not is_hit
         return is_hit
 
@@ -109,7 +120,8 @@ class Spot:
 
 
 class Kinds(store.Disk):
-    """A disk that notes what its calls are to the system: of an opening those on the file and its folder, of all others one or none."""
+    """A disk that notes what its calls are to the system: of an opening those on the file and its folder, of all others
+    one or none."""
 
     def __init__(self, file):
         super().__init__(file)
@@ -119,7 +131,9 @@ class Kinds(store.Disk):
         super().call(write)
         before = self.kinds[-1][0] if self.kinds else ""
         opening = {1: ["openat", "openat", "fsync"], 2: ["fsync"]}
-        self.kinds.append(("write", ["write"]) if write else ("", opening.get(self.calls, ["fsync"] if before == "write" else [])))
+        self.kinds.append(("write", ["write"]) if write else ("",
+                                                              opening.get(self.calls, ["fsync"] if before == "write"
+                                                                          else [])))
 
     def system(self):
         """The calls of the system, each with the number of the disk's call that makes it."""
@@ -143,19 +157,23 @@ class Keep:
 
     def go(self, spot):
         shutil.copy(killed.PLANT, spot.folder / "plant.toml")
-        (spot.folder / "it.script").write_text("".join(line[2:] + "\n" for event in self.events for line in hostile.lines_of(event, "")))
+        (spot.folder / "it.script").write_text("".join(line[2:] + "\n" for event in self.events
+                                                       for line in hostile.lines_of(event, "")))
         if self.before:
             (spot.folder / "store").write_bytes(self.before)
         it, out = self.ran(spot.folder, spot.words("store", "."))
         kinds = Kinds(self.before)
         store.kept(hostile.PLANT, hostile.SIGNALS, self.events, kinds)
         if not spot.call:
-            see([call for _, call in spot.calls(it)] == [call for call, _ in kinds.system()], f"its calls are {spot.calls(it)}, and not those of the model")
+            see([call for _, call in spot.calls(it)] == [call for call, _ in kinds.system()],
+                f"its calls are {spot.calls(it)}, and not those of the model")
         at = [number for call, number in kinds.system() if call == spot.call][spot.at - 1] if spot.call else 0
-        disk = store.Disk(self.before, () if spot.is_kill or not spot.call else (at,), (at, b"") if spot.is_kill else None)
+        disk = store.Disk(self.before, () if spot.is_kill or not spot.call else (at,),
+                          (at, b"") if spot.is_kill else None)
         status, text, _ = store.kept(hostile.PLANT, hostile.SIGNALS, self.events, disk)
         status, text = (-signal.SIGKILL, "") if spot.is_kill else (status, text)
-        see((it.returncode, out) == (status, text), f"status {it.returncode} and {out[-100:]!r}, and not {status} and {text[-100:]!r}")
+        see((it.returncode, out) == (status, text), f"status {it.returncode} and {out[-100:]!r}, and not {status} and "
+            f"{text[-100:]!r}")
         left = killed.read(spot.folder / "store")
         stands, wanted = store.standing_of(left), store.standing_of(disk.file)
         see(stands == wanted, f"the file stands for {stands}, and not for {wanted}")
@@ -166,8 +184,10 @@ class Keep:
         disk = store.Disk(left)
         status, text, bodies = store.kept(hostile.PLANT, hostile.SIGNALS, self.events, disk)
         it, out = self.ran(spot.folder)
-        see((it.returncode, out) == (status, text), f"the next run ends with {it.returncode} and {out[-100:]!r}, and not with {status} and {text[-100:]!r}")
-        see(store.standing_of(killed.read(spot.folder / "store"))[2] == bodies[-1], "the file of the next run stands for another body than its last")
+        see((it.returncode, out) == (status, text), f"the next run ends with {it.returncode} and {out[-100:]!r}, and "
+            f"not with {status} and {text[-100:]!r}")
+        see(store.standing_of(killed.read(spot.folder / "store"))[2] == bodies[-1],
+            "the file of the next run stands for another body than its last")
 
 
 # The daemon.
@@ -185,7 +205,8 @@ major = 1
 minor = 0
 build = 0
 data = 64
-""" + "".join(f'[[port.symbol]]\nname = "Kept.a{k}"\ntype = "UDINT"\narea = "data"\noffset = {4 * k}\npersistent = true\n' for k in range(PARTS))
+""" + "".join(f'[[port.symbol]]\nname = "Kept.a{k}"\ntype = "UDINT"\narea = "data"\noffset = {4 * k}\n'
+              "persistent = true\n" for k in range(PARTS))
 ANOTHER = PLANT.replace("Kept.a0", "Kept.b0")
 STORE = ("kept", "kept.part-1", ".")
 KEEPS = ("--store", "kept", "--save-each", "1")
@@ -200,8 +221,10 @@ class Run:
         (folder / "it.toml").write_text(plant)
         port, stderr = free_port(), stack.enter_context(open(self.log, "wb"))
         more = [str(folder / word) if word == "kept" else word for word in more]
-        given = [*words, program, "it.toml", "--listen", f"127.0.0.1:{port}", "--status", str(folder / "status.prom"), *more]
-        self.it = adsd.Daemon(stack, given[0], given[1:], bare=True, listens=False, folder=str(folder), port=port, stderr=stderr)
+        given = [*words, program, "it.toml", "--listen", f"127.0.0.1:{port}", "--status", str(folder / "status.prom"),
+                 *more]
+        self.it = adsd.Daemon(stack, given[0], given[1:], bare=True, listens=False, folder=str(folder), port=port,
+                              stderr=stderr)
         self.listens, self.link = self.it.process.stdout.readline() == b"listening\n", None
         if self.listens:
             with contextlib.suppress(ConnectionError):
@@ -222,7 +245,8 @@ class Run:
 
     def write(self, number):
         """One request gives all symbols this number."""
-        return self.ask(number, 3, struct.pack("<III", 0x4040, 0, 4 * PARTS) + struct.pack("<I", number) * PARTS) is not None
+        return self.ask(number, 3, struct.pack("<III", 0x4040, 0, 4 * PARTS) + struct.pack("<I",
+                                                                                           number) * PARTS) is not None
 
     def read(self):
         got = self.ask(1, 2, struct.pack("<III", 0x4040, 0, 4 * PARTS))
@@ -244,12 +268,14 @@ class Run:
 def values_in(folder):
     """The numbers that the store stands for, by name; none where nothing stands."""
     standing = store.standing_of(killed.read(folder / "kept"))
-    return {name.decode(): struct.unpack("<I", held)[0] for _, name, _, held in store.entries_of(standing[2])} if standing else {}
+    return {name.decode(): struct.unpack("<I", held)[0] for _, name, _,
+            held in store.entries_of(standing[2])} if standing else {}
 
 
 def one_moment(values):
     """The number that all values have; 0 where nothing stands."""
-    see(len(set(values.values())) <= 1 and len(values) in (0, PARTS), f"the store has values of more than one moment: {values}")
+    see(len(set(values.values())) <= 1 and len(values) in (0, PARTS),
+        f"the store has values of more than one moment: {values}")
     return next(iter(values.values()), 0)
 
 
@@ -276,16 +302,19 @@ class Adsd:
             before = len(run.lines("saved "))
             if not run.write(number):
                 return number, saved
-            run.waits(lambda: len(run.lines("saved ")) > before or self.stands_anyway(run, spot, number), 2.5 if spot.goes_on else 30)
+            run.waits(lambda: len(run.lines("saved ")) > before or self.stands_anyway(run, spot, number),
+                      2.5 if spot.goes_on else 30)
             if len(run.lines("saved ")) > before:
                 saved = number
             elif not self.stands_anyway(run, spot, number):
-                see(run.it.process.poll() is not None or spot.goes_on, f"{number} was written, and not saved in 30 seconds: {run.lines('')[-3:]}")
+                see(run.it.process.poll() is not None or spot.goes_on,
+                    f"{number} was written, and not saved in 30 seconds: {run.lines('')[-3:]}")
         return number, saved
 
     @staticmethod
     def stands_anyway(run, spot, number):
-        """Whether a save that failed stands in the file: where its last sync failed, the next look finds nothing to save."""
+        """Whether a save that failed stands in the file: where its last sync failed, the next look finds nothing to
+        save."""
         return run.lines("store fault") and set(values_in(spot.folder).values()) == {number}
 
     def judged(self, run, spot, status, number, saved):
@@ -317,10 +346,12 @@ class Adsd:
         stands = one_moment(values_in(spot.folder))
         with contextlib.ExitStack() as stack:
             run = Run(stack, self.program, spot.folder)
-            see(run.listens and run.read() == [stands] * PARTS, f"the next start does not serve what stands, {stands}: {run.lines('')}")
+            see(run.listens and run.read() == [stands] * PARTS,
+                f"the next start does not serve what stands, {stands}: {run.lines('')}")
             run.write(number + 1)
             status, _ = run.stopped()
-        see(status == 0 and one_moment(values_in(spot.folder)) == number + 1, f"the next run ends with {status} and leaves {values_in(spot.folder)}")
+        see(status == 0 and one_moment(values_in(spot.folder)) == number + 1,
+            f"the next run ends with {status} and leaves {values_in(spot.folder)}")
 
 
 class Gone(Adsd):
@@ -351,9 +382,11 @@ class Gone(Adsd):
         """Where the old value is."""
         values, copies = values_in(spot.folder), [killed.read(path) for path in spot.folder.glob("kept.before-*")]
         stood = store.standing_of(self.before)
-        see(all(store.standing_of(copy) == stood for copy in copies), f"the copies, of {[len(copy) for copy in copies]} bytes, are not what stood")
+        see(all(store.standing_of(copy) == stood for copy in copies),
+            f"the copies, of {[len(copy) for copy in copies]} bytes, are not what stood")
         see(len(copies) <= 1 or spot.fault, f"one change made {len(copies)} copies")
-        see(all(value == self.OLD for name, value in values.items() if name != "Kept.b0") and values.get("Kept.b0", 0) == 0, f"the store has {values}")
+        see(all(value == self.OLD for name, value in values.items() if name != "Kept.b0")
+            and values.get("Kept.b0", 0) == 0, f"the store has {values}")
         if values.get("Kept.a0") == self.OLD:
             return "in the store"
         see(copies, f"the old value is lost, and the log says {run.lines('')}")
@@ -373,9 +406,11 @@ class StatusFile(Adsd):
                 time.sleep(0.1)
             status, _ = run.stopped()
             was_hit, file = spot.is_hit(run.it.process), spot.folder / "status.prom"
-            see(status == (-signal.SIGKILL if was_hit and spot.is_kill else 0), f"status {status}: {run.lines('')[-3:]}")
+            see(status == (-signal.SIGKILL if was_hit and spot.is_kill else 0),
+                f"status {status}: {run.lines('')[-3:]}")
             text = file.read_text() if file.exists() else None
-            see(text is None or re.search(r"^adsd_log_lines_lost_total \d+\n\Z", text, re.M), f"a part of the status file stands there: {text!r}")
+            see(text is None or re.search(r"^adsd_log_lines_lost_total \d+\n\Z", text, re.M),
+                f"a part of the status file stands there: {text!r}")
             see(was_hit or text is not None, "no status file was written")
         return f"status {status}, {'a whole file' if text else 'no file'}"
 
@@ -406,12 +441,14 @@ class Record:
             self.rows = self.rows_in(pathlib.Path(folder))
 
     def ran(self, folder, words=()):
-        given = ["record", "Main.wave", "Main.count", "--mode", "cycle", "--cycle", "0", "--count", "12", "--store", str(folder / "it.db"), *recorded.LOCAL]
+        given = ["record", "Main.wave", "Main.count", "--mode", "cycle", "--cycle", "0", "--count", "12", "--store",
+                 str(folder / "it.db"), *recorded.LOCAL]
         it = subprocess.Popen([*words, self.ads, *given], cwd=folder, stdout=subprocess.PIPE, stderr=subprocess.DEVNULL)
         return it, it.communicate(timeout=60)[0].decode()
 
     def rows_in(self, folder):
-        """The rows of the file, which is whole; none where it is not there, has no table, or was not yet made: its first byte is written last."""
+        """The rows of the file, which is whole; none where it is not there, has no table, or was not yet made: its
+        first byte is written last."""
         if not (folder / "it.db").exists():
             return []
         with tempfile.TemporaryDirectory() as to:
@@ -428,10 +465,12 @@ class Record:
         it, out = self.ran(spot.folder, spot.words(*self.FILES))
         was_hit, rows = spot.is_hit(it), self.rows_in(spot.folder)
         # One that is killed has printed nothing, or all where it was killed at its last calls, and then all rows stand.
-        ends = {(0, self.usual)} | ({(-signal.SIGKILL, ""), (-signal.SIGKILL, self.usual)} if spot.is_kill else {(16, "ads: keeper fault\n")} if was_hit else set())
+        ends = {(0, self.usual)} | ({(-signal.SIGKILL, ""), (-signal.SIGKILL, self.usual)} if spot.is_kill
+                                    else {(16, "ads: keeper fault\n")} if was_hit else set())
         see((it.returncode, out) in ends, f"status {it.returncode} and {out[-100:]!r}")
         see(out != self.usual or rows == self.rows, f"all was printed of {len(rows)} rows of {len(self.rows)}")
-        see(len(self.stood) <= len(rows) and rows == self.rows[:len(rows)], f"{len(rows)} rows, where {len(self.stood)} stood: {rows[-2:]}")
+        see(len(self.stood) <= len(rows) and rows == self.rows[:len(rows)],
+            f"{len(rows)} rows, where {len(self.stood)} stood: {rows[-2:]}")
         see(it.returncode or rows == self.rows, f"status 0 and {len(rows)} rows of {len(self.rows)}")
         again, out = self.ran(spot.folder)
         see(again.returncode == 0, f"the next run ends with {again.returncode} and {out[-100:]!r}")
@@ -445,7 +484,8 @@ class History:
     name, FILES, SECONDS = "history", Record.FILES, 2
 
     def ran(self, spot, plant, words=()):
-        given = ["record", "GVL.*", "--to", plant.to, "--netid", NET, "--me", ME, "--mode", "cycle", "--cycle", "0", "--sqlite", str(spot.folder / "it.db")]
+        given = ["record", "GVL.*", "--to", plant.to, "--netid", NET, "--me", ME, "--mode", "cycle", "--cycle", "0",
+                 "--sqlite", str(spot.folder / "it.db")]
         given = [*words, sys.executable, HISTORY, *given, "--seconds", str(self.SECONDS)]
         it = subprocess.Popen(given, cwd=spot.folder, stdout=subprocess.PIPE, stderr=subprocess.PIPE)
         out, err = it.communicate(timeout=120)
@@ -476,7 +516,8 @@ class History:
             after = self.read(spot)
         for key, (rows, _) in history.items():
             see(after[key][0][:len(rows)] == rows, f"{key}: rows that stood are gone")
-        see(all(rows for rows, _ in after.values()) and len(after) == 4, f"the next run recorded {[len(rows) for rows, _ in after.values()]}")
+        see(all(rows for rows, _ in after.values()) and len(after) == 4,
+            f"the next run recorded {[len(rows) for rows, _ in after.values()]}")
         return seen
 
     @staticmethod
@@ -504,7 +545,8 @@ def tried(scene, call, fault, at):
             spot = Spot(folder, call, fault, at)
             seen = scene.go(spot)
             return "not reached" if spot.missed else seen
-        except (Differs, Wrong, adsd.Failed, recorded.Differs, OSError, ValueError, sqlite3.Error, subprocess.SubprocessError) as why:
+        except (Differs, Wrong, adsd.Failed, recorded.Differs, OSError, ValueError, sqlite3.Error,
+                subprocess.SubprocessError) as why:
             return f"WRONG: {type(why).__name__}: {why}"
 
 
@@ -531,7 +573,8 @@ def chosen(count, most):
 def scenes_of(given):
     ads, adsd = os.path.abspath(given.ads), os.path.abspath(given.adsd)
     made = {"keep": lambda: Keep(ads, False), "keep on top": lambda: Keep(ads, True), "adsd": lambda: Adsd(adsd),
-            "adsd, a name is gone": lambda: Gone(adsd), "adsd, its status file": lambda: StatusFile(adsd), "record": lambda: Record(ads, False),
+            "adsd, a name is gone": lambda: Gone(adsd), "adsd, its status file": lambda: StatusFile(adsd),
+            "record": lambda: Record(ads, False),
             "record on top": lambda: Record(ads, True), "history": History}
     return [make() for name, make in made.items() if given.only in ("", name)]
 
@@ -539,7 +582,8 @@ def scenes_of(given):
 def tasks_of(scene, given):
     """The runs of a scene: call, fault and number."""
     seen, calls = counted(scene)
-    print(f"{scene.name}: {', '.join(f'{count} {call}' for call, count in calls.items())}; without a fault: {seen}", flush=True)
+    print(f"{scene.name}: {', '.join(f'{count} {call}' for call, count in calls.items())}; without a fault: {seen}",
+          flush=True)
     for call, count in calls.items():
         for fault in SHORT if given.short else FAULTS:
             if given.call in ("", call) and given.fault in ("", fault):
@@ -563,10 +607,12 @@ def main():
             table[scene.name, call, fault][seen.split(":")[0]] += 1
             if seen.startswith("WRONG"):
                 wrong += 1
-                print(f"--only '{scene.name}' --call {call} --fault '{fault}' --at {at}: {seen}", file=sys.stderr, flush=True)
+                print(f"--only '{scene.name}' --call {call} --fault '{fault}' --at {at}: {seen}", file=sys.stderr,
+                      flush=True)
     print("\n| scene | call | fault | runs | seen |\n|---|---|---|---|---|")
     for key, seen in table.items():
-        print(f"| {' | '.join(key)} | {sum(seen.values())} | {'; '.join(f'{what} {count}' for what, count in seen.most_common())} |")
+        print(f"| {' | '.join(key)} | {sum(seen.values())} | "
+              f"{'; '.join(f'{what} {count}' for what, count in seen.most_common())} |")
     print(f"\n{len(tasks)} runs, {wrong} differ")
     return 1 if wrong else 0
 

@@ -1,13 +1,14 @@
 #!/usr/bin/env python3
-"""Kills `ads keep` with SIGKILL at many moments, starts it again over what it left, and compares what the file stands for with the bodies that the run may leave.
+"""Kills `ads keep` with SIGKILL at many moments, starts it again over what it left, and compares what the file stands
+for with the bodies that the run may leave.
 
     python3 tries/killed.py PROGRAM [--times 1000] [--ticks 40] [--seed 1]
 
-PROGRAM is the built `ads`. Each run writes a persistent symbol before each tick, so each tick saves; again and again it is stopped, and a
-reader looks at the file. What stands is to be a body of the run by
-the model (model/store.py) or what stood before, never one that is older than what was seen standing, and a run that ends prints what the model says. The last run of each ten is let
-through. Killing a process leaves what it wrote to the system: what a loss of power leaves is proved of the model of a disk, and not tried here.
-"""
+PROGRAM is the built `ads`. Each run writes a persistent symbol before each tick, so each tick saves; again and again it
+is stopped, and a reader looks at the file. What stands is to be a body of the run by the model (model/store.py) or what
+stood before, never one that is older than what was seen standing, and a run that ends prints what the model says. The
+last run of each ten is let through. Killing a process leaves what it wrote to the system: what a loss of power leaves
+is proved of the model of a disk, and not tried here. """
 import argparse
 import os
 import random
@@ -71,10 +72,12 @@ def try_once(program, folder, r, ticks, let_through):
     status, text, bodies = store.kept(hostile.PLANT, hostile.SIGNALS, events, store.Disk(before))
     stood = store.standing_of(before)
     places = {body: k for k, body in enumerate(bodies)}
-    process = subprocess.Popen([program, "keep", "plant.toml", "it.script", "store"], cwd=folder, stdout=subprocess.PIPE, stderr=subprocess.DEVNULL)
+    process = subprocess.Popen([program, "keep", "plant.toml", "it.script", "store"], cwd=folder,
+                               stdout=subprocess.PIPE, stderr=subprocess.DEVNULL)
     ends, seen = time.monotonic() + r.random() * try_once.lasts, 0
     while process.poll() is None and (let_through or time.monotonic() < ends):
-        # It is stopped meanwhile: a file of a MiB that is read while it is written shows one slot before a save and the other behind it.
+        # It is stopped meanwhile: a file of a MiB that is read while it is written shows one slot before a save and the
+        # other behind it.
         process.send_signal(signal.SIGSTOP)
         if is_stopped(process):
             seen = newest(read(path), stood, places, seen)
@@ -132,7 +135,8 @@ def main():
                 return 1
             killed += was
             places.add(seen)
-    print(f"{given.times} runs, {killed} killed, {len(places)} places at which a run stood still; each file stood for a body of its run, and none came again")
+    print(f"{given.times} runs, {killed} killed, {len(places)} places at which a run stood still; each file stood for "
+          f"a body of its run, and none came again")
     return 0
 
 

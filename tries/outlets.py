@@ -1,12 +1,13 @@
 #!/usr/bin/env python3
-"""tools/history.py and tools/mqtt.py against SQLite, PostgreSQL and mosquitto: killed, stopped and started again at random moments, and how fast they are.
+"""tools/history.py and tools/mqtt.py against SQLite, PostgreSQL and mosquitto: killed, stopped and started again at
+random moments, and how fast they are.
 
     /usr/bin/python3 tries/outlets.py [PROGRAM] [--times 24] [--seconds 10] [--seed 1] [--only SCENE] [--driver psycopg]
 
-PROGRAM is crates/ads/out/ads. tries/services.sh starts what is needed, from Debian's packages, whose Python parts serve /usr/bin/python3. The server is
-mostly one in this process whose symbols count its ticks (tools/tries/fake_plant.py), so that each sample that is lost, or there twice, is seen in the values.
-`--times` is how often something is killed, or stopped, in each scene. A line a scene, `ok` or what differed; status 1 where one did.
-"""
+PROGRAM is crates/ads/out/ads. tries/services.sh starts what is needed, from Debian's packages, whose Python parts serve
+/usr/bin/python3. The server is mostly one in this process whose symbols count its ticks (tools/tries/fake_plant.py), so
+that each sample that is lost, or there twice, is seen in the values. `--times` is how often something is killed, or
+stopped, in each scene. A line a scene, `ok` or what differed; status 1 where one did. """
 import argparse
 import contextlib
 import csv
@@ -32,7 +33,8 @@ from tries.history_checks import of_cursor, of_sqlite, sound  # noqa: E402
 from tries.running import ME, NET, PLANT, Served, Wrong, see  # noqa: E402
 
 SERVICES, KINDS = str(ROOT / "tries/services.sh"), ("DINT", "LREAL", "UDINT", "REAL")
-HOSTILE = ["a'b", 'a"b', "a;DROP TABLE sample;--", "a\\b", "a\tb", "a b", "a,b=c", "a/b/+/#", "$SYS", "%s%(x)s{}", "=cmd", "-o", "\xfc\xff\x80", "\\x41", "..",
+HOSTILE = ["a'b", 'a"b', "a;DROP TABLE sample;--", "a\\b", "a\tb", "a b", "a,b=c", "a/b/+/#", "$SYS", "%s%(x)s{}",
+           "=cmd", "-o", "\xfc\xff\x80", "\\x41", "..",
            "a\nb", "N" * 250]
 
 
@@ -43,9 +45,12 @@ def words(plant, *names, mode="cycle", cycle="0"):
 def recorder(plant, where, *more, names=("GVL.*",)):
     """A recorder; with `Store.driver` over this driver alone."""
     other = {"psycopg": "psycopg2", "psycopg2": "psycopg"}.get(Store.driver)
-    tool = ["-c", f"import sys, runpy; sys.modules[{other!r}] = None; runpy.run_path({str(ROOT / 'tools/history.py')!r}, run_name='__main__')"]
-    return subprocess.Popen([sys.executable, *(tool if other else [str(ROOT / "tools/history.py")]), "record", *words(plant, *names), *where, *more],
-                            stdout=subprocess.PIPE, stderr=subprocess.PIPE, text=True, env={**os.environ, "PYTHONFAULTHANDLER": "1"})
+    tool = ["-c", f"import sys, runpy; sys.modules[{other!r}] = None; "
+            f"runpy.run_path({str(ROOT / 'tools/history.py')!r}, run_name='__main__')"]
+    return subprocess.Popen([sys.executable, *(tool if other else [str(ROOT / "tools/history.py")]), "record",
+                             *words(plant, *names), *where, *more],
+                            stdout=subprocess.PIPE, stderr=subprocess.PIPE, text=True,
+                            env={**os.environ, "PYTHONFAULTHANDLER": "1"})
 
 
 def begun(it):
@@ -132,7 +137,8 @@ def killed(store, r, times):
     for _, holes in history.values():
         for _, _, why in holes:
             whys[why] = whys.get(why, 0) + 1
-    see(samples and set(whys) <= {"the recorder was killed"} and runs[-1][2] == "stopped", f"{samples} samples, gaps {whys}, runs {runs[-1:]}")
+    see(samples and set(whys) <= {"the recorder was killed"} and runs[-1][2] == "stopped",
+        f"{samples} samples, gaps {whys}, runs {runs[-1:]}")
     return f"ok: {times} kills, {samples} samples of {len(history)} names, each once, {gaps} gaps marked"
 
 
@@ -158,7 +164,8 @@ def base_goes(store, r, times, folder):
         _, err = ended(it, "the recorder")
     samples, gaps = sound(store.read()[0])
     see("takes samples again" in err and not gaps, f"{gaps} gaps where nothing was lost; it said {err[-600:]}")
-    return f"ok: stopped {times - times // 2} times and ended at once {times // 2} times, {samples} samples, each once, no gap"
+    return (f"ok: stopped {times - times // 2} times and ended at once {times // 2} times, {samples} samples, each "
+            f"once, no gap")
 
 
 def base_stays_away(store, folder):
@@ -211,7 +218,8 @@ def hostile(store, folder):
         ended(it, "the recorder")
     history, _ = store.read()
     sound(history)
-    see(len(history) == len(HOSTILE) and all(rows for rows, _ in history.values()), f"{len(history)} names of {len(HOSTILE)}: {sorted(history)}")
+    see(len(history) == len(HOSTILE) and all(rows for rows, _ in history.values()),
+        f"{len(history)} names of {len(HOSTILE)}: {sorted(history)}")
     for kind in ("csv", "influx"):
         words_of = [sys.executable, str(ROOT / "tools/history.py"), "export", "*", *where, "--format", kind]
         done = subprocess.run(words_of, capture_output=True, text=True, timeout=120)
@@ -222,13 +230,18 @@ def hostile(store, folder):
 
 
 def published(folder, r, times, at):
-    """mosquitto is stopped and started, and so is the server; each time all values stand on it again, and a set is written. Its own clients look."""
+    """mosquitto is stopped and started, and so is the server; each time all values stand on it again, and a set is
+    written. Its own clients look."""
     port = at["mosquitto"].rpartition(":")[2]
-    def ask(*more): return subprocess.run(["mosquitto_sub", "-p", port, "-W", "3", *more], capture_output=True, text=True).stdout
+    def ask(*more): return subprocess.run(["mosquitto_sub", "-p", port, "-W", "3", *more], capture_output=True,
+                                          text=True).stdout
     def newest(topic): return json.loads(ask("-t", topic, "-C", "1").strip() or "{}")
-    with FakePlant({**{f"GVL.v{k}": "DINT" for k in range(50)}, **{name: "DINT" for name in HOSTILE}}, still=True) as plant:
-        it = subprocess.Popen([sys.executable, str(ROOT / "tools/mqtt.py"), "*", "--to", plant.to, "--netid", NET, "--me", ME, "--broker", f"127.0.0.1:{port}",
-                               "--plant", "rig", "--set", "--cycle", "0"], stdout=subprocess.PIPE, stderr=subprocess.PIPE, text=True)
+    with FakePlant({**{f"GVL.v{k}": "DINT" for k in range(50)}, **{name: "DINT" for name in HOSTILE}},
+                   still=True) as plant:
+        it = subprocess.Popen([sys.executable, str(ROOT / "tools/mqtt.py"), "*", "--to", plant.to, "--netid", NET,
+                               "--me", ME, "--broker", f"127.0.0.1:{port}",
+                               "--plant", "rig", "--set", "--cycle", "0"], stdout=subprocess.PIPE,
+                               stderr=subprocess.PIPE, text=True)
         try:
             for turn in range(times):
                 time.sleep(r.uniform(0.3, 1.0))
@@ -252,7 +265,8 @@ def published(folder, r, times, at):
 
 
 def dashboard(store):
-    """The statements of examples/grafana-plant.json, with what Grafana puts in place of its words, over a history with a gap."""
+    """The statements of examples/grafana-plant.json, with what Grafana puts in place of its words, over a history with
+    a gap."""
     where, found = store.fresh(), {}
     with FakePlant({"GVL.v1": "DINT", "GVL.v'2": "LREAL"}) as plant:
         for _ in range(2):
@@ -266,7 +280,8 @@ def dashboard(store):
             "$__unixEpochNanoFrom()": str(now - 10 ** 12), "$__unixEpochNanoTo()": str(now)}
     given = json.loads((ROOT / "examples/grafana-plant.json").read_text())
     asked = {it["title"]: it["targets"][0]["rawSql"] for it in given["panels"]}
-    asked.update({it["name"]: it["target"]["rawSql"] for it in given["annotations"]["list"]}, names=given["templating"]["list"][0]["query"])
+    asked.update({it["name"]: it["target"]["rawSql"] for it in given["annotations"]["list"]},
+                 names=given["templating"]["list"][0]["query"])
     with contextlib.closing(store.connected()) as base:
         for name, statement in asked.items():
             for word, text in said.items():
@@ -295,22 +310,27 @@ def real(program, store, folder):
         it = recorder(At, store.fresh(), names=("Main.*", "Main.axis[2].pos"))
         begun(it)
         time.sleep(3)
-        text = place.read_text().replace('name = "Main.limit"', 'name = "Main.other"').replace("offset = 0\ninitial", "offset = 100\ninitial")
+        text = place.read_text().replace('name = "Main.limit"', 'name = "Main.other"').replace("offset = 0\ninitial",
+                                                                                               "offset = 100\ninitial")
         (folder / "new.toml").write_text(text)
         os.replace(folder / "new.toml", place)
         time.sleep(6)
     time.sleep(1)
-    again = subprocess.Popen([program, "serve", str(place), "--listen", server.to, "--events", "18446744073709551615"], stdout=subprocess.DEVNULL)
+    again = subprocess.Popen([program, "serve", str(place), "--listen", server.to, "--events", "18446744073709551615"],
+                             stdout=subprocess.DEVNULL)
     time.sleep(6)
     ended(it, "the recorder")
     again.kill()
     history, _ = store.read()
     gaps = {name: [hole[2] for hole in holes] for (name, _), (_, holes) in history.items()}
-    see(set(gaps) == {"Main.count", "Main.axis", "Main.limit", "Main.wave", "Main.title", "Main.other", "Main.axis[2].pos"}, f"the names: {gaps}")
-    see(len(gaps["Main.count"]) == 1 and len(gaps["Main.limit"]) == 1 and "description" in gaps["Main.limit"][0], f"the gaps: {gaps}")
+    see(set(gaps) == {"Main.count", "Main.axis", "Main.limit", "Main.wave", "Main.title", "Main.other",
+                      "Main.axis[2].pos"}, f"the names: {gaps}")
+    see(len(gaps["Main.count"]) == 1 and len(gaps["Main.limit"]) == 1 and "description" in gaps["Main.limit"][0],
+        f"the gaps: {gaps}")
     cycle = len(history["Main.wave", "UINT"][0])
     see(cycle > 20, f"{cycle} samples of Main.wave")
-    return f"ok: {sum(len(rows) for rows, _ in history.values())} samples, one gap of the loss, one of the symbol that is gone"
+    return (f"ok: {sum(len(rows) for rows, _ in history.values())} samples, one gap of the loss, one of the symbol "
+            f"that is gone")
 
 
 def used(pid):
@@ -332,7 +352,8 @@ def rate(store, count, seconds):
     samples, gaps = sound(store.read()[0])
     size = store.path.stat().st_size if not store.url else 0
     return (f"{count * 100:,} samples a second sent: {samples:,} recorded and written in {lasted:.1f} s, {gaps} gaps, "
-            f"{1e6 * spent / max(samples, 1):.1f} microseconds of the processor each" + (f", {size / max(samples, 1):.0f} bytes each" if size else ""))
+            f"{1e6 * spent / max(samples, 1):.1f} microseconds of the processor each"
+            + (f", {size / max(samples, 1):.0f} bytes each" if size else ""))
 
 
 def scenes(given, program, folder, at, r):

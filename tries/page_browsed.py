@@ -3,10 +3,10 @@
 
     python3 tries/page_browsed.py [PROGRAM] [--shots FOLDER] [--cost] [--operated]
 
-PROGRAM is crates/ads/out/ads where it is absent. It needs Debian's chromium and chromium-driver, and nothing else. `--shots` keeps pictures of the page.
-`--cost` prints instead what the page costs: 134 symbols of which all change ten times a second, with no browser, one and ten.
-`--operated` looks only at what is for who operates a plant: alarms, units, limits, bits, groups, several values in one plot.
-"""
+PROGRAM is crates/ads/out/ads where it is absent. It needs Debian's chromium and chromium-driver, and nothing else.
+`--shots` keeps pictures of the page. `--cost` prints instead what the page costs: 134 symbols of which all change ten
+times a second, with no browser, one and ten. `--operated` looks only at what is for who operates a plant: alarms,
+units, limits, bits, groups, several values in one plot. """
 import argparse
 import contextlib
 import os
@@ -39,7 +39,8 @@ HEAD = ('schema = 2\nnet = "5.1.2.3.1.1"\n[[route]]\nnet = "192.168.0.9.1.1"\nri
 def many(folder, count):
     """A description of so many numbers."""
     place = os.path.join(folder, f"{count}.toml")
-    symbols = "".join(f'[[port.symbol]]\nname = "Hall{at % 7}.value{at}"\ntype = "DINT"\narea = "data"\noffset = {4 * at}\n' for at in range(count))
+    symbols = "".join(f'[[port.symbol]]\nname = "Hall{at % 7}.value{at}"\ntype = "DINT"\narea = "data"\noffset = '
+                      f'{4 * at}\n' for at in range(count))
     put(place, f"{HEAD}data = {4 * count}\n{symbols}")
     return place
 
@@ -65,17 +66,21 @@ def described_anew(it, place):
     """A new description, and the end of the page's own program."""
     it.click("Main.wave")
     with open(PLANT, encoding="utf-8") as file:
-        put(place, file.read().replace('name = "Main.bits"', 'name = "Main.fresh"').replace('name = "Auto"', 'name = "Running"'))
-    it.see(it.until(ROW + "return Boolean(row('Main.fresh'))", seconds=40), "a new description builds the table anew", it.names())
+        put(place, file.read().replace('name = "Main.bits"', 'name = "Main.fresh"').replace('name = "Auto"',
+                                                                                            'name = "Running"'))
+    it.see(it.until(ROW + "return Boolean(row('Main.fresh'))", seconds=40), "a new description builds the table anew",
+           it.names())
     it.see("Main.bits" not in it.names(), "without what is gone")
-    it.see(it.text("bar") == "The server has a new description, version 2: 1 symbol came, 1 symbol went.", "a bar says so", it.text("bar"))
+    it.see(it.text("bar") == "The server has a new description, version 2: 1 symbol came, 1 symbol went.",
+           "a bar says so", it.text("bar"))
     it.see(it.title() == "Main.wave", "the plot stays", it.title())
     it.browser.press("Escape")
     with Rig(it.server) as rig:
         rig.put("Main.mode", struct.pack("<h", 2))
     it.shows("Main.mode", "Running", "enumerations have their new names")
     it.page.end()
-    it.see(it.until(BAR, "This page's own program does not answer"), "a bar says that the page's own program is gone", it.text("bar"))
+    it.see(it.until(BAR, "This page's own program does not answer"), "a bar says that the page's own program is gone",
+           it.text("bar"))
 
 
 def restarted(it, place):
@@ -85,13 +90,15 @@ def restarted(it, place):
         fresh = it.until("return document.querySelector('meta[name=token]').content !== arguments[0] && "
                          "document.getElementById('pill-text').textContent === 'live'", token, seconds=40)
         it.see(fresh, "the page loads itself again when its program is back, with its new token")
-        it.see(it.browser.script("return document.querySelectorAll('.card').length") == 1, "and has the form of the new start")
+        it.see(it.browser.script("return document.querySelectorAll('.card').length") == 1,
+               "and has the form of the new start")
 
 
 def rights(it):
     with Page(PLANT, it.server.to, me=READER) as page:
         it.open(page)
-        it.see(it.browser.script("return document.getElementById('forms').hidden && document.querySelectorAll('form').length === 0"),
+        it.see(it.browser.script("return document.getElementById('forms').hidden && "
+                                 "document.querySelectorAll('form').length === 0"),
                "without --write there is no form")
     with Page(PLANT, it.server.to, "--write", "Main.count", me=READER) as page:
         it.open(page)
@@ -110,8 +117,10 @@ def many_symbols(it, folder):
     with Served(it.program, place) as server, Page(place, server.to, "--seconds", "30") as page:
         live = it.open(page)
         it.see(live and len(it.names()) == 500, "of 10,000 symbols 500 rows are shown at first", len(it.names()))
-        took = it.browser.script("const began = performance.now(), it = document.getElementById('filter'); it.value = 'hall3 99'; "
-                                 "it.dispatchEvent(new Event('input')); document.body.offsetHeight; return performance.now() - began")
+        took = it.browser.script("const began = performance.now(), it = document.getElementById('filter'); it.value = "
+                                 "'hall3 99'; "
+                                 "it.dispatchEvent(new Event('input')); document.body.offsetHeight; return "
+                                 "performance.now() - began")
         it.see(took < 1000, f"the filter over them took {took:.0f} ms", took)
         it.filter("")
         it.see(it.text("more") == "Show 500 of 9,500 further rows", "the rest is told", it.text("more"))
@@ -129,8 +138,10 @@ def ten_browsers(it):
             counts.append((it.between.requests - before) / (time.monotonic() - at))
         moved = it.main("Main.wave")
         it.see(max(counts) < 1.5 and it.between.connections == 1,
-               f"requests a second at the server: {counts[0]:.1f} with this browser, {counts[1]:.1f} with nine more", counts)
-        it.see(it.until(ROW + "return row('Main.wave').main.textContent !== arguments[0]", moved), "and all of them go on")
+               f"requests a second at the server: {counts[0]:.1f} with this browser, {counts[1]:.1f} with nine more",
+               counts)
+        it.see(it.until(ROW + "return row('Main.wave').main.textContent !== arguments[0]", moved),
+               "and all of them go on")
 
 
 def ended(it):
@@ -152,7 +163,8 @@ def tried(program, shots, only_operated=False):
         it.browser.size(1200, 900)
         it.server = stack.enter_context(Served(program, place))
         it.between = stack.enter_context(Counting(it.server.to))
-        page = stack.enter_context(Page(place, it.between.to, *(word for name in WRITTEN for word in ("--write", name))))
+        page = stack.enter_context(Page(place, it.between.to,
+                                        *(word for name in WRITTEN for word in ("--write", name))))
         it.see(it.open(page), "the page opens, and is live")
         for part in (values, parts, filters, plots, keyboard, forms, hostile, widths, ten_browsers):
             part(it)
@@ -167,7 +179,8 @@ def tried(program, shots, only_operated=False):
 
 
 def cost(program, seconds=10):
-    """Processor time of the page and requests at the server, with no browser, one and ten, while all of 134 values change each 100 ms."""
+    """Processor time of the page and requests at the server, with no browser, one and ten, while all of 134 values
+    change each 100 ms."""
     with tempfile.TemporaryDirectory() as folder, contextlib.ExitStack() as stack:
         place, turn = many(folder, 134), 0
         server = stack.enter_context(Served(program, place))
@@ -185,15 +198,18 @@ def cost(program, seconds=10):
                 rig.link.ask(851, Request(READ_WRITE, 0xF081, 134, 4 * 134, heads + struct.pack("<I", turn) * 134))
                 time.sleep(max(0.0, 0.1 - (time.monotonic() - at) % 0.1))
             took, after = time.monotonic() - at, measured(page)
-            print(f"{count} browsers: {100 * (after['cpu_seconds_total'] - before['cpu_seconds_total']) / took:.1f} % of a processor, "
+            print(f"{count} browsers: {100 * (after['cpu_seconds_total'] - before['cpu_seconds_total']) / took:.1f} % "
+                  f"of a processor, "
                   f"{(after['changes_total'] - before['changes_total']) / took:.0f} changes/s, "
-                  f"at the server {(between.requests - requests) / took:.1f} requests/s, {(between.sent - sent) / took / 1000:.1f} kB/s from it, "
+                  f"at the server {(between.requests - requests) / took:.1f} requests/s, "
+                  f"{(between.sent - sent) / took / 1000:.1f} kB/s from it, "
                   f"{between.connections} connection(s)", flush=True)
     return 0
 
 
 def measured(page):
-    return {name: float(value) for name, value in re.findall(r"^ads_page_(\w+) ([\d.e+-]+)$", page.ask("/metrics")[2].decode(), re.M)}
+    return {name: float(value) for name, value in re.findall(r"^ads_page_(\w+) ([\d.e+-]+)$",
+                                                             page.ask("/metrics")[2].decode(), re.M)}
 
 
 def main():

@@ -1,15 +1,19 @@
 #!/usr/bin/env python3
 """Peers that behave badly against `ads serve`, or `adsd` in a profile, and what the others get meanwhile.
 
-Build the program first: in crates/ads, `rt run -- selftest ../../examples/state.script`. Each scene starts with a good client that asks for the state and reads a
-value, before and after, and compares every byte. One line a scene: `ok` or what came. The program ends with 1 where a scene differs.
+Build the program first: in crates/ads, `rt run -- selftest ../../examples/state.script`. Each scene starts with a good
+client that asks for the state and reads a value, before and after, and compares every byte. One line a scene: `ok` or
+what came. The program ends with 1 where a scene differs.
 
-The scenes of the last group are played while 40 further connections ask without end. In two scenes the server's own clocks are set forward (tries/set_clocks.c, which gcc builds), so
-that five minutes pass at once; where this program may do so (as root), one has its peers vanish without a word, by TCP repair. The profile `wide` has three scenes more,
-of peers that ask a local AMS router. Behind each group descriptors and threads must be as many as before; what the process grew by is told.
+The scenes of the last group are played while 40 further connections ask without end. In two scenes the server's own
+clocks are set forward (tries/set_clocks.c, which gcc builds), so that five minutes pass at once; where this program may
+do so (as root), one has its peers vanish without a word, by TCP repair. The profile `wide` has three scenes more, of
+peers that ask a local AMS router. Behind each group descriptors and threads must be as many as before; what the process
+grew by is told.
 
 python3 tries/peers.py [PROGRAM] [--short]
-python3 tries/peers.py --adsd PROGRAM [--profile strict|wide] [--short]      without a profile both; --short leaves out the scenes in which seconds must pass
+python3 tries/peers.py --adsd PROGRAM [--profile strict|wide] [--short]
+    without a profile both; --short leaves out the scenes in which seconds must pass
 """
 import argparse
 import contextlib
@@ -103,7 +107,8 @@ def reset_in_mid_frame(server):
 
 
 def never_reads(server):
-    """It asks for far more than is queued for it, and never reads: it is shut, and the other is served all the while."""
+    """It asks for far more than is queued for it, and never reads: it is shut, and the other is served all the
+    while."""
     ask = request(2, 3, area(0x4040, 0, 1000000))
     with server.open() as s, server.open() as other:
         s.settimeout(0.2)
@@ -240,7 +245,8 @@ def is_served(s, seconds=2.0):
 
 
 def silent_longest(server_unused):
-    """All places are taken, and two are silent for five minutes: they go for two that wait, the one that is silent longest first; a third waits."""
+    """All places are taken, and two are silent for five minutes: they go for two that wait, the one that is silent
+    longest first; a third waits."""
     with contextlib.ExitStack() as stack:
         clocks = Later(stack)
         subscriber = stack.enter_context(clocks.server.open())
@@ -391,7 +397,8 @@ def part_of_a_router_packet(server):
 
 
 def router_never_read(server):
-    """A peer that asks for far more of a router than is queued for it, and never reads: the other is served all the while."""
+    """A peer that asks for far more of a router than is queued for it, and never reads: the other is served all the
+    while."""
     with server.open() as s, server.open() as other:
         s.settimeout(0.2)
         with contextlib.suppress(ConnectionError, TimeoutError, socket.timeout):

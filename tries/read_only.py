@@ -1,17 +1,21 @@
 #!/usr/bin/env python3
-"""A disk that the system makes read-only, as it does with one that is broken: `adsd`, `ads keep`, `ads record` and tools/history.py over it.
+"""A disk that the system makes read-only, as it does with one that is broken: `adsd`, `ads keep`, `ads record` and
+tools/history.py over it.
 
     python3 tries/read_only.py ADS ADSD
 
-ADS and ADSD are the built programs. The disk is a file system of its own (ext4, over a loop device; root alone may mount one), which is made read-only at once,
-under open files (`mount -o remount,abort`), and mounted anew behind it. A line a scene, `ok` or what differed; status 1 where one did.
+ADS and ADSD are the built programs. The disk is a file system of its own (ext4, over a loop device; root alone may
+mount one), which is made read-only at once, under open files (`mount -o remount,abort`), and mounted anew behind it. A
+line a scene, `ok` or what differed; status 1 where one did.
 
-- adsd: tells `store fault` once, serves as before, and ends with 14. What was saved last stands, and the next start serves it. A start over a read-only disk
-  ends with 14 before it listens. A status file on that disk hinders it in nothing.
+- adsd: tells `store fault` once, serves as before, and ends with 14. What was saved last stands, and the next start
+  serves it. A start over a read-only disk ends with 14 before it listens. A status file on that disk hinders it in
+  nothing.
 - keep: status 14 and its line, and no byte is another.
-- record: status 16 and its line, in its middle and at its start; each row is there once, with the totals, and the next run goes on behind them.
-- history: status 16 and a sentence, in its middle and at its start; each sample is there once, and the next run tells a gap.
-"""
+- record: status 16 and its line, in its middle and at its start; each row is there once, with the totals, and the next
+  run goes on behind them.
+- history: status 16 and a sentence, in its middle and at its start; each sample is there once, and the next run tells a
+  gap. """
 import contextlib
 import os
 import pathlib
@@ -62,7 +66,8 @@ class Disk:
 
 
 def of_adsd(stack, folder, disk, ads, adsd):
-    words, log = ["--store", "disk/kept", "--save-each", "1", "--status", "disk/status.prom"], pathlib.Path(folder, "log")
+    words, log = ["--store", "disk/kept", "--save-each", "1", "--status", "disk/status.prom"], pathlib.Path(folder,
+                                                                                                            "log")
     it = Daemon(stack, adsd, words, folder=folder, stderr=stack.enter_context(log.open("wb")))
     with it.link() as link:
         write_title(link, 1, title_of(1))
@@ -73,7 +78,8 @@ def of_adsd(stack, folder, disk, ads, adsd):
         time.sleep(3)
         expect(it.asks() < 2 and read_title(it) == title_of(2), "it does not serve as before")
     out, _, status, _ = it.stopped(signal.SIGTERM)
-    expect((status, out.splitlines()[-1:], log.read_text().count("store fault")) == (14, ["ads: store fault"], 1), f"it ended with {status}, {out!r}")
+    expect((status, out.splitlines()[-1:], log.read_text().count("store fault")) == (14, ["ads: store fault"], 1),
+           f"it ended with {status}, {out!r}")
     again = Daemon(stack, adsd, words, folder=folder, listens=False)
     out, err, status, _ = again.stopped()
     expect(status == 14 and "listening" not in out + err, f"a start over it: status {status}, {out!r}, {err!r}")
@@ -97,7 +103,8 @@ def of_keep(stack, folder, disk, ads, adsd):
 
 def of_record(stack, folder, disk, ads, adsd):
     server, store = stack.enter_context(Served(ads, recorded.PLANT)), disk.place / "s"
-    words = [ads, "record", "Main.count", "--mode", "cycle", "--cycle", "100000", "--count", "100000", "--store", store, *server.words()]
+    words = [ads, "record", "Main.count", "--mode", "cycle", "--cycle", "100000", "--count", "100000", "--store", store,
+             *server.words()]
     it = subprocess.Popen(words, stdout=subprocess.PIPE, text=True)
     stack.callback(it.kill)
     time.sleep(3)
@@ -106,7 +113,8 @@ def of_record(stack, folder, disk, ads, adsd):
     expect((it.returncode, out) == (16, "ads: keeper fault\n"), f"in its middle: {it.returncode}, {out!r}")
     for name in ("s", "new"):
         done = recorded.record(ads, ["Main.count"], "cycle", 2, disk.place / name, recorded.LOCAL)
-        expect((done.returncode, done.stdout) == (16, "ads: keeper fault\n"), f"a start over {name}: {done.returncode}, {done.stdout!r}")
+        expect((done.returncode, done.stdout) == (16, "ads: keeper fault\n"),
+               f"a start over {name}: {done.returncode}, {done.stdout!r}")
     disk.mend()
     stood = len(recorded.whole(store))
     expect(stood > 1, f"{stood} rows stand")
@@ -123,14 +131,17 @@ def of_history(stack, folder, disk, ads, adsd):
     time.sleep(4)
     disk.break_off()
     out, err = it.communicate(timeout=60)
-    expect(it.returncode == 16 and err.splitlines()[-1].startswith(f"{base}: "), f"in its middle: {it.returncode}, {out!r}, {err!r}")
+    expect(it.returncode == 16 and err.splitlines()[-1].startswith(f"{base}: "),
+           f"in its middle: {it.returncode}, {out!r}, {err!r}")
     done = subprocess.run([*words, "--seconds", "2"], capture_output=True, text=True, timeout=60)
-    expect(done.returncode == 16 and done.stderr.startswith(f"{base}: ") and done.stderr.count("\n") == 1, f"a start: {done.returncode}, {done.stderr!r}")
+    expect(done.returncode == 16 and done.stderr.startswith(f"{base}: ") and done.stderr.count("\n") == 1,
+           f"a start: {done.returncode}, {done.stderr!r}")
     disk.mend()
     stood, _ = sound(of_sqlite(base)[0], ())
     done = subprocess.run([*words, "--seconds", "2"], capture_output=True, text=True, timeout=60)
     rows, gaps = sound(of_sqlite(base)[0], ())
-    expect(done.returncode == 0 and 0 < stood < rows and gaps == 1, f"the next run: {done.returncode}, {stood} samples stood, now {rows} and {gaps} gaps")
+    expect(done.returncode == 0 and 0 < stood < rows and gaps == 1,
+           f"the next run: {done.returncode}, {stood} samples stood, now {rows} and {gaps} gaps")
     return f"{stood} samples stand, and {rows - stood} behind a gap"
 
 
@@ -145,7 +156,8 @@ def main():
             folder = stack.enter_context(tempfile.TemporaryDirectory())
             try:
                 print(f"{name}: ok, {scene(stack, folder, Disk(stack, folder), ads, adsd)}", flush=True)
-            except (Failed, Wrong, recorded.Differs, bad_stores.Differs, OSError, subprocess.SubprocessError, sqlite3.Error) as why:
+            except (Failed, Wrong, recorded.Differs, bad_stores.Differs, OSError, subprocess.SubprocessError,
+                    sqlite3.Error) as why:
                 print(f"{name}: WRONG: {why}", flush=True)
                 bad = True
     return 1 if bad else 0

@@ -1,13 +1,13 @@
 #!/usr/bin/env python3
-"""`ads record` for real: over SQLite files, with a server on the other end of a socket, killed in its middle, and over stores that are none; with --history N
-also tools/history.py, killed N times over one file.
+"""`ads record` for real: over SQLite files, with a server on the other end of a socket, killed in its middle, and over
+stores that are none; with --history N also tools/history.py, killed N times over one file.
 
     python3 tries/recorded.py PROGRAM [--times 100] [--history N] [--puts 2000] [--seed 1]
 
-PROGRAM is crates/ads/out/ads. A line a scene, `ok` or what differed; status 1 where one did. What is read back is read by Python's sqlite3, not by the program. The last lines say
-what a put cost: processor time of the program, and how many a second the disk of the working folder and memory (/dev/shm) gave; of samples that come one at a time, each with a sync,
-and of 5,000 in one frame.
-"""
+PROGRAM is crates/ads/out/ads. A line a scene, `ok` or what differed; status 1 where one did. What is read back is read
+by Python's sqlite3, not by the program. The last lines say what a put cost: processor time of the program, and how many
+a second the disk of the working folder and memory (/dev/shm) gave; of samples that come one at a time, each with a
+sync, and of 5,000 in one frame. """
 import argparse
 import contextlib
 import os
@@ -54,7 +54,8 @@ def rows_of(path):
 
 
 def whole(path, least=0):
-    """The file opens, its numbers are 1, 2, .., each once, and its totals are those of its rows; no fewer rows than there were."""
+    """The file opens, its numbers are 1, 2, .., each once, and its totals are those of its rows; no fewer rows than
+    there were."""
     rows, totals = rows_of(path)
     wanted("the numbers", [r[0] for r in rows], list(range(1, len(rows) + 1)))
     if len(rows) < least:
@@ -77,19 +78,23 @@ def twice(program, folder, r):
     for run, (wave, count) in enumerate(((3, 1), (6, 2))):
         done = record(program, ["Main.wave", "Main.count"], "change", 4, folder / "s", LOCAL)
         wanted("the status", done.returncode, 0)
-        wanted("the lines", done.stdout, f"Main.wave count {wave} last 300000 4\nMain.count count {count} last 100000 42\n")
+        wanted("the lines", done.stdout, f"Main.wave count {wave} last 300000 4\nMain.count count {count} last 100000 "
+               f"42\n")
     rows = whole(folder / "s")
-    first = [(b"Main.wave", 100000, b"\3\0"), (b"Main.count", 100000, b"\x2a\0\0\0"), (b"Main.wave", 200000, b"\1\0"), (b"Main.wave", 300000, b"\4\0")]
+    first = [(b"Main.wave", 100000, b"\3\0"), (b"Main.count", 100000, b"\x2a\0\0\0"), (b"Main.wave", 200000, b"\1\0"),
+             (b"Main.wave", 300000, b"\4\0")]
     wanted("the rows", rows, [(k + 1, *row) for k, row in enumerate(first * 2)])
 
 
 def over_a_socket(program, folder, r):
-    """A server that another client writes to while its symbol is recorded: the rows are among what was written, in its order."""
+    """A server that another client writes to while its symbol is recorded: the rows are among what was written, in its
+    order."""
     server = Server(program)
     try:
         host, port = server.socket.getpeername()
         peer = ["--to", f"{host}:{port}", "--netid", "5.1.2.3.1.1", "--me", "192.168.0.10.1.1"]
-        it = subprocess.Popen([program, "record", "Main.count", "--mode", "change", "--cycle", "0", "--count", "20", "--store", str(folder / "s"), *peer],
+        it = subprocess.Popen([program, "record", "Main.count", "--mode", "change", "--cycle", "0", "--count", "20",
+                               "--store", str(folder / "s"), *peer],
                               stdout=subprocess.PIPE, text=True)
         written = [42]
         while it.poll() is None and len(written) < 20000:
@@ -124,7 +129,9 @@ def bursts(frames, count, pause=0.0):
     def answer(frame):
         if frame.command == ADD:
             return sent(frame)
-        return reply(frame, bytes(4)) if frame.command == DELETE else data(frame, symbol(b"Main.count", b"UDINT", 0x4040, 0, 4, 19))
+        return reply(frame, bytes(4)) if frame.command == DELETE else data(frame,
+                                                                           symbol(b"Main.count", b"UDINT", 0x4040, 0, 4,
+                                                                                  19))
 
     def sent(frame):
         yield reply(frame, struct.pack("<II", 0, 1))
@@ -152,7 +159,8 @@ def killed_in_bursts(program, folder, r, times):
     for k in range(times):
         store = folder / f"s{k}"
         with bursts(10, 1000, pause=0.01) as fake:
-            it = subprocess.Popen([program, "record", "Main.count", "--mode", "change", "--cycle", "0", "--count", "10000", "--store", str(store), *of_fake(fake)],
+            it = subprocess.Popen([program, "record", "Main.count", "--mode", "change", "--cycle", "0", "--count",
+                                   "10000", "--store", str(store), *of_fake(fake)],
                                   stdout=subprocess.DEVNULL)
             try:
                 it.wait(r.random() * 0.4)
@@ -192,7 +200,8 @@ def no_stores(program, folder, r):
     with contextlib.closing(sqlite3.connect(folder / "other")) as base:
         base.execute("CREATE TABLE sample (number INTEGER)")
     fault("another program's table", folder / "other")
-    wanted("the status of a sound one", record(program, ["Main.count"], "cycle", 2, folder / "cut", LOCAL).returncode, 0)
+    wanted("the status of a sound one", record(program, ["Main.count"], "cycle", 2, folder / "cut", LOCAL).returncode,
+           0)
     sound = (folder / "cut").read_bytes()
     (folder / "cut").write_bytes(sound[: len(sound) // 2 + 100])
     done = record(program, ["Main.count"], "cycle", 2, folder / "cut", LOCAL)
@@ -207,7 +216,8 @@ def full(program, folder, r):
     """A disk that is full in the middle: status 16, and the file opens and is whole."""
     place = folder / "small"
     place.mkdir()
-    if subprocess.run(["mount", "-t", "tmpfs", "-o", "size=8m", "tmpfs", str(place)], stderr=subprocess.DEVNULL).returncode:
+    if subprocess.run(["mount", "-t", "tmpfs", "-o", "size=8m", "tmpfs", str(place)],
+                      stderr=subprocess.DEVNULL).returncode:
         return "not tried: no file system may be mounted here"
     try:
         done = record(program, ["Main.title", "Main.count"], "cycle", 100000, place / "s", LOCAL)
@@ -226,7 +236,8 @@ def killed(program, folder, r, times):
     record(program, ["Main.count"], "cycle", 300, folder / "first", LOCAL)
     lasts = time.monotonic() - started
     for k in range(times):
-        it = subprocess.Popen([program, "record", "Main.count", "Main.wave", "--mode", "cycle", "--cycle", "0", "--count", "300", "--store", str(folder / "s"), *LOCAL],
+        it = subprocess.Popen([program, "record", "Main.count", "Main.wave", "--mode", "cycle", "--cycle", "0",
+                               "--count", "300", "--store", str(folder / "s"), *LOCAL],
                               stdout=subprocess.DEVNULL)
         try:
             it.wait(r.random() * lasts)
@@ -256,7 +267,8 @@ def cost(program, folder, puts):
             lasted, after = time.monotonic() - started, resource.getrusage(resource.RUSAGE_CHILDREN)
             spent = after.ru_utime + after.ru_stime - before.ru_utime - before.ru_stime
             wanted("the status", done.returncode, 0)
-            print(f"{puts} puts on {what}: {puts / lasted:,.0f} a second, {1e6 * spent / puts:.0f} microseconds of the processor each")
+            print(f"{puts} puts on {what}: {puts / lasted:,.0f} a second, {1e6 * spent / puts:.0f} microseconds of the "
+                  f"processor each")
             with bursts(1, 5000) as fake:
                 started = time.monotonic()
                 done = record(program, ["Main.count"], "change", 5000, pathlib.Path(there) / "burst", of_fake(fake))
@@ -274,8 +286,10 @@ def main():
     given.add_argument("--seed", type=int, default=1)
     given = given.parse_args()
     program, r, bad = os.path.abspath(given.program), random.Random(given.seed), False
-    scenes = [("twice", twice), ("over a socket", over_a_socket), ("a burst", burst), ("no stores", no_stores), ("a full disk", full),
-              ("killed", lambda *some: killed(*some, given.times)), ("killed in bursts", lambda *some: killed_in_bursts(*some, given.times))]
+    scenes = [("twice", twice), ("over a socket", over_a_socket), ("a burst", burst), ("no stores", no_stores),
+              ("a full disk", full),
+              ("killed", lambda *some: killed(*some, given.times)),
+              ("killed in bursts", lambda *some: killed_in_bursts(*some, given.times))]
     if given.history:
         scenes.append(("history killed", lambda _, folder, chance: history_killed(folder, given.history)))
     for name, scene in scenes:

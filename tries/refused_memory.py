@@ -1,14 +1,17 @@
 #!/usr/bin/env python3
-"""Refused memory: each call for memory of a run fails in turn, alone and with all behind it, and the run must end as it does with memory, or with status 10; and
-then what it printed is a beginning of what it prints with memory, and behind it a beginning of `ads: memory`. The file of a run that keeps values must stand for what stood, or
-for what the run saves; that of a run that records must have the rows that stood and a first part of those of the whole run, with their totals, as Python's sqlite3 reads them.
+"""Refused memory: each call for memory of a run fails in turn, alone and with all behind it, and the run must end as it
+does with memory, or with status 10; and then what it printed is a beginning of what it prints with memory, and behind
+it a beginning of `ads: memory`. The file of a run that keeps values must stand for what stood, or for what the run
+saves; that of a run that records must have the rows that stood and a first part of those of the whole run, with their
+totals, as Python's sqlite3 reads them.
 
     python3 tries/refused_memory.py [--program PATH] [--most N] [--run WORD]
-    python3 tries/refused_memory.py --adsd PATH [--most N] [--run WORD]          runs of the daemon, of tries/refused_daemon.py
+    python3 tries/refused_memory.py --adsd PATH [--most N] [--run WORD]
+        runs of the daemon, of tries/refused_daemon.py
 
-Build the program first: in crates/ads, `rt run -- selftest ../../examples/state.script`. The runs are those below; of one with more than N calls for memory
-(2,000 unless told) every k-th fails. It prints a table, and ends with 1 where anything else came.
-"""
+Build the program first: in crates/ads, `rt run -- selftest ../../examples/state.script`. The runs are those below; of
+one with more than N calls for memory (2,000 unless told) every k-th fails. It prints a table, and ends with 1 where
+anything else came. """
 import argparse
 import os
 import shutil
@@ -38,15 +41,20 @@ RUNS = {
     "a panel, a rig, and a plant that is described anew": ["replay", "plant.toml", "plant.script"],
     "the state over the built-in description": ["selftest", "state.script"],
     "a notification over ticks and writes": ("plant", [
-        ("open", 1), ("bytes", 1, add(1, 0x4040, 0, 4)), ("tick", 1000), ("bytes", 1, write(2, 0x4040, 0, b"\5\0\0\0")), ("tick", 2000), ("tick", 3000)]),
+        ("open", 1), ("bytes", 1, add(1, 0x4040, 0, 4)), ("tick", 1000), ("bytes", 1, write(2, 0x4040, 0, b"\5\0\0\0")),
+        ("tick", 2000), ("tick", 3000)]),
     "sums of each kind": ("plant", [
-        ("open", 1), ("bytes", 1, sum_of(1, 0xF080, 3, 26, head(0x4040, 0, 4) + head(0x4040, 200, 2) + head(0x4025, 0, 8))),
-        ("bytes", 1, sum_of(2, 0xF081, 2, 8, head(0x4040, 0, 1) + head(0x4040, 60, 1), b"\1\2")), ("bytes", 1, sum_of(3, 0xF082, 2, 24, head(0xF003, 0, 4, 10) * 2, NAME * 2))]),
+        ("open", 1), ("bytes", 1, sum_of(1, 0xF080, 3, 26,
+                                         head(0x4040, 0, 4) + head(0x4040, 200, 2) + head(0x4025, 0, 8))),
+        ("bytes", 1, sum_of(2, 0xF081, 2, 8, head(0x4040, 0, 1) + head(0x4040, 60, 1), b"\1\2")),
+        ("bytes", 1, sum_of(3, 0xF082, 2, 24, head(0xF003, 0, 4, 10) * 2, NAME * 2))]),
     "a reload under handles and notifications": ("plant", [
-        ("open", 1), ("bytes", 1, ask(1, 0xF003, 0, 4, NAME)), ("bytes", 1, add(2, 0x4040, 0, 4)), ("bytes", 1, add(3, 0x4040, 72, 8)), ("tick", 1000),
+        ("open", 1), ("bytes", 1, ask(1, 0xF003, 0, 4, NAME)), ("bytes", 1, add(2, 0x4040, 0, 4)),
+        ("bytes", 1, add(3, 0x4040, 72, 8)), ("tick", 1000),
         ("reload", hostile.PLANT2), ("tick", 2000), ("bytes", 1, read(4, 0xF005, 1, 4))]),
     "two connections, and offers that are cut": ("plant", [
-        ("open", 1), ("open", 2), ("room", 1, 10), ("bytes", 1, state(1) + state(2)), ("bytes", 2, state(3)), ("fail", 2), ("bytes", 2, state(4)), ("room", 1, 1000)]),
+        ("open", 1), ("open", 2), ("room", 1, 10), ("bytes", 1, state(1) + state(2)), ("bytes", 2, state(3)),
+        ("fail", 2), ("bytes", 2, state(4)), ("room", 1, 1000)]),
     "the report of a description": ["check", "plant.toml"],
     "a description under schema 2": ["migrate", "plant.toml"],
     "a load of 20 requests": ["load", "20"],
@@ -55,13 +63,19 @@ RUNS = {
     "values that are kept, and come back": ["keep", "plant.toml", "change.script", "some.store"],
     "samples that are recorded into a new file": [*RECORD, "none.db", *LOCAL],
     "samples that are recorded on top of others": [*RECORD, "some.db", *LOCAL],
-    "samples that are recorded over a socket": ["record", "Main.wave", *RECORD[3:], "none.db", "--to", "PEER", "--netid", "5.1.2.3.1.1", "--me", "192.168.0.9.1.1"],
-    **{f"a client in the same process: {said}": [*words, "--local", "plant.toml", "--me", "192.168.0.9.1.1"] for said, words in {
+    "samples that are recorded over a socket": ["record", "Main.wave", *RECORD[3:], "none.db", "--to", "PEER",
+                                                "--netid", "5.1.2.3.1.1", "--me", "192.168.0.9.1.1"],
+    **{f"a client in the same process: {said}": [*words, "--local", "plant.toml", "--me", "192.168.0.9.1.1"] for said,
+       words in {
         "name and version": ["info"], "the states": ["state"], "other states": ["control", "6", "0"],
-        "a value": ["get", "Main.title"], "a value that is set": ["set", "Main.count", "7"], "a list": ["list"], "the leaves of an array": ["show", "Main.axis"],
-        "three samples": WATCH, "a refusal": ["get", "Main.nope"], "a text that is no value": ["set", "Main.count", "x"]}.items()},
-    **{f"a client over a socket: {said}": [*words, "--to", "PEER", "--netid", "5.1.2.3.1.1", "--me", "192.168.0.9.1.1"] for said, words in {
-        "the states": ["state"], "a value": ["get", "Main.title"], "a value that is set": ["set", "Main.count", "7"], "a list": ["list"], "the leaves of an array": ["show", "Main.axis"],
+        "a value": ["get", "Main.title"], "a value that is set": ["set", "Main.count", "7"], "a list": ["list"],
+        "the leaves of an array": ["show", "Main.axis"],
+        "three samples": WATCH, "a refusal": ["get", "Main.nope"],
+        "a text that is no value": ["set", "Main.count", "x"]}.items()},
+    **{f"a client over a socket: {said}": [*words, "--to", "PEER", "--netid", "5.1.2.3.1.1", "--me", "192.168.0.9.1.1"]
+       for said, words in {
+        "the states": ["state"], "a value": ["get", "Main.title"], "a value that is set": ["set", "Main.count", "7"],
+        "a list": ["list"], "the leaves of an array": ["show", "Main.axis"],
         "three samples": WATCH, "a refusal": ["get", "Main.nope"]}.items()},
     "a description that is refused": ["check", "overlap.toml"],
     "words that are no command": ["replay"],
@@ -69,7 +83,8 @@ RUNS = {
 
 
 class Peer(threading.Thread):
-    """A server by the model, on a port of its own: a device anew for each connection, which ticks where something is watched and nothing is asked for a while."""
+    """A server by the model, on a port of its own: a device anew for each connection, which ticks where something is
+    watched and nothing is asked for a while."""
 
     def __init__(self):
         super().__init__(daemon=True)
@@ -111,10 +126,12 @@ def built(folder, name="fail_nth"):
 def written(folder):
     """The files of the runs, and the words of each."""
     for name in ("plant.toml", "plant.script", "state.script", "overlap.toml", "relay.script", "keep.script"):
-        with open(os.path.join(HERE, "..", "examples", name), "rb") as one, open(os.path.join(folder, name), "wb") as it:
+        with open(os.path.join(HERE, "..", "examples", name), "rb") as one, open(os.path.join(folder, name),
+                                                                                 "wb") as it:
             it.write(one.read())
     for name in ("plant.toml", "plant2.toml"):
-        with open(os.path.join(hostile.DATA, name), "rb") as one, open(os.path.join(folder, "of_data_" + name), "wb") as it:
+        with open(os.path.join(hostile.DATA, name), "rb") as one, open(os.path.join(folder, "of_data_" + name),
+                                                                       "wb") as it:
             it.write(one.read())
     with open(os.path.join(folder, "change.script"), "w") as it:
         it.write("".join(line[2:] + "\n" for event in CHANGES for line in hostile.lines_of(event, "")))
@@ -125,7 +142,8 @@ def written(folder):
                 second = one.read()
             lines = []
             for event in run[1]:
-                lines += ["reload", *second.splitlines(), "."] if event[0] == "reload" else [line[2:] for line in hostile.lines_of(event, "")]
+                lines += ["reload", *second.splitlines(), "."] if event[0] == "reload" else [
+                    line[2:] for line in hostile.lines_of(event, "")]
             with open(os.path.join(folder, f"{number}.script"), "w") as it:
                 it.write("\n".join(lines) + "\n")
             run = ["replay", "of_data_plant.toml", f"{number}.script"]
@@ -135,7 +153,8 @@ def written(folder):
 
 def saved(*values):
     """Events that write these bytes to the persistent symbol, each before a tick."""
-    return [("open", 1)] + [event for k, value in enumerate(values) for event in (("bytes", 1, write(k, 0x4040, 72, value)), ("tick", k))]
+    return [("open", 1)] + [event for k, value in enumerate(values)
+                            for event in (("bytes", 1, write(k, 0x4040, 72, value)), ("tick", k))]
 
 
 STOOD = store.Disk()
@@ -199,7 +218,8 @@ def ran(program, words, folder, shim, nth, on):
     with open(tell, "wb") as it:
         it.write(bytes(8))
     given = {"LD_PRELOAD": shim, "FAIL_NTH": str(nth), "FAIL_TELL": tell, **({"FAIL_ON": "1"} if on else {})}
-    it = subprocess.run([program, *words], cwd=folder, env=given, stdout=subprocess.PIPE, stderr=subprocess.DEVNULL, timeout=60)
+    it = subprocess.run([program, *words], cwd=folder, env=given, stdout=subprocess.PIPE, stderr=subprocess.DEVNULL,
+                        timeout=60)
     with open(tell, "rb") as one:
         return it.returncode, it.stdout, int.from_bytes(one.read(8), "little")
 
@@ -210,7 +230,8 @@ def fits(status, out, usual):
         return True
     if status != 10:
         return False
-    return any(out == usual[1][:cut] + LINE[:end] for cut in range(len(usual[1]) + 1) for end in (len(out) - cut,) if 0 <= end <= len(LINE))
+    return any(out == usual[1][:cut] + LINE[:end] for cut in range(len(usual[1]) + 1) for end in (len(out) - cut,
+               ) if 0 <= end <= len(LINE))
 
 
 def main():
@@ -221,7 +242,8 @@ def main():
     it.add_argument("--adsd")
     given = it.parse_args()
     program, wrong = os.path.abspath(given.program), 0
-    print("| run | calls for memory | failed in turn | as usual | status 10 | wrong |\n|---|---|---|---|---|---|", flush=True)
+    print("| run | calls for memory | failed in turn | as usual | status 10 | wrong |\n|---|---|---|---|---|---|",
+          flush=True)
     if given.adsd:
         import refused_daemon  # noqa: PLC0415
         with tempfile.TemporaryDirectory() as folder:
@@ -231,7 +253,8 @@ def main():
     peer.start()
     with tempfile.TemporaryDirectory() as folder:
         shim = built(folder)
-        subprocess.run([program, *RECORD, "kept_some.db", "--local", os.path.join(hostile.DATA, "..", "..", "..", "examples", "plant.toml"), *LOCAL[2:]], cwd=folder,
+        subprocess.run([program, *RECORD, "kept_some.db", "--local",
+                        os.path.join(hostile.DATA, "..", "..", "..", "examples", "plant.toml"), *LOCAL[2:]], cwd=folder,
                        stdout=subprocess.DEVNULL, check=True)
         stood = len(rows_in(folder, "kept_some.db"))
         for said, words in written(folder).items():
@@ -247,9 +270,14 @@ def main():
                     one, printed, _ = ran(program, words, folder, shim, nth, on)
                     tried += 1
                     counts[one == 10] += 1
-                    if not fits(one, printed, (status, out)) or not stands_well(folder, words) or not records_well(folder, words, before, rows):
+                    if not fits(one, printed, (status, out)) or not stands_well(folder,
+                                                                                words) or not records_well(folder,
+                                                                                                           words,
+                                                                                                           before,
+                                                                                                           rows):
                         bad += 1
-                        print(f"  {' '.join(words)}, call {nth}{' and all behind it' if on else ''}: status {one}, {len(printed)} bytes", file=sys.stderr)
+                        print(f"  {' '.join(words)}, call {nth}{' and all behind it' if on else ''}: status {one}, "
+                              f"{len(printed)} bytes", file=sys.stderr)
             wrong += bad
             print(f"| {said} | {calls} | {tried} | {counts[False]} | {counts[True]} | {bad} |", flush=True)
     return 1 if wrong else 0

@@ -1,13 +1,14 @@
 #!/usr/bin/env python3
-"""Peers that behave badly at `ads relay --listen`, beside a panel that asks a rig through it: what the two get meanwhile, and what is left over.
+"""Peers that behave badly at `ads relay --listen`, beside a panel that asks a rig through it: what the two get
+meanwhile, and what is left over.
 
     python3 tries/relay_peers.py [PROGRAM] [--short]
 
-PROGRAM is crates/ads/out/ads where it is absent. Before and behind each scene the panel asks the rig, and each byte on both sides must be as it was sent. A
-line a scene, `ok` or what came; behind them all descriptors and threads must be as many as before, and what the process grew by is told. Status 1 where
-anything differs. `--short` sends a tenth. Connections that end in each way are tried by tries/endings.py, silent and vanished peers by tries/peers.py over
-the same wire.
-"""
+PROGRAM is crates/ads/out/ads where it is absent. Before and behind each scene the panel asks the rig, and each byte on
+both sides must be as it was sent. A line a scene, `ok` or what came; behind them all descriptors and threads must be as
+many as before, and what the process grew by is told. Status 1 where anything differs. `--short` sends a tenth.
+Connections that end in each way are tried by tries/endings.py, silent and vanished peers by tries/peers.py over the
+same wire. """
 import argparse
 import contextlib
 import os
@@ -121,7 +122,8 @@ def claims_of_others(relay):
 def broken_frames(relay):
     """Frames that are none, or whose lengths disagree."""
     whole = frame(own(0), RIG, 1, b"12345678")
-    texts = {"no frame": b"\1" + whole[1:], "a frame of 31 bytes": b"\0\0\x1f\0\0\0" + bytes(31), "a frame of 4 GB": b"\0\0\xff\xff\xff\xff" + whole[6:],
+    texts = {"no frame": b"\1" + whole[1:], "a frame of 31 bytes": b"\0\0\x1f\0\0\0" + bytes(31),
+             "a frame of 4 GB": b"\0\0\xff\xff\xff\xff" + whole[6:],
              "another data length": whole[:26] + b"\x09" + whole[27:], "HTTP": b"GET / HTTP/1.1\r\n\r\n"}
     for said, text in texts.items():
         with relay.open() as s:
@@ -139,7 +141,8 @@ def responses_that_nobody_asked_for(relay):
         asked = frame(own(0), RIG, 3)
         s.sendall(asked)
         got = next_frame(s)
-        return None if got == answer(asked) and is_quiet(relay.panel) else "the panel was told a response that it did not ask for"
+        return None if got == answer(asked) and is_quiet(
+            relay.panel) else "the panel was told a response that it did not ask for"
 
 
 def frames_to_nobody(relay):
@@ -162,7 +165,8 @@ def frames_to_nobody(relay):
 
 
 def requests_without_an_answer(relay):
-    """A target that takes all and answers nothing: its asker may ask without end, and the last 4,096 can still be answered."""
+    """A target that takes all and answers nothing: its asker may ask without end, and the last 4,096 can still be
+    answered."""
     with relay.claimed(SILENT) as target, relay.claimed(own(0)) as s:
         for k in range(TIMES[0]):
             s.sendall(frame(own(0), SILENT, k))
@@ -177,7 +181,8 @@ def requests_without_an_answer(relay):
 
 
 def a_target_that_never_reads(relay):
-    """More than is queued for it is sent to a target that reads nothing: it is closed, its asker is told so, and the others go on."""
+    """More than is queued for it is sent to a target that reads nothing: it is closed, its asker is told so, and the
+    others go on."""
     with relay.claimed(SILENT) as target, relay.claimed(own(0)) as s:
         target.setsockopt(socket.SOL_SOCKET, socket.SO_RCVBUF, 4096)
         s.settimeout(20)
@@ -187,7 +192,8 @@ def a_target_that_never_reads(relay):
             if wrong:
                 return wrong
         got = next_frame(s)
-        return None if got[:38] and got[22:24] == b"\2\0" and got[30:34] == b"\7\0\0\0" else f"the asker was told {got[:60].hex()}"
+        return None if got[:38] and got[22:24] == b"\2\0" and got[
+            30:34] == b"\7\0\0\0" else f"the asker was told {got[:60].hex()}"
 
 
 def an_asker_that_never_reads(relay):
@@ -251,8 +257,10 @@ def sixty_five(relay):
     return None if got == answer(frame(own(MOST), RIG, 1)) else got.hex()
 
 
-SCENES = [byte_by_byte, claims_of_others, broken_frames, responses_that_nobody_asked_for, frames_to_nobody, requests_without_an_answer,
-          a_target_that_never_reads, an_asker_that_never_reads, reset_in_mid_frame, an_owner_that_goes, half_closed, sixty_five]
+SCENES = [byte_by_byte, claims_of_others, broken_frames, responses_that_nobody_asked_for, frames_to_nobody,
+          requests_without_an_answer,
+          a_target_that_never_reads, an_asker_that_never_reads, reset_in_mid_frame, an_owner_that_goes, half_closed,
+          sixty_five]
 
 
 def main():

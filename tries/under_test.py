@@ -142,8 +142,8 @@ class Clocks:
 
 
 def play(scenes, says, process, more=""):
-    """Plays scenes over a program, a line each: `ok`, or what `says(scene)` says. Behind them the program runs, and holds
-    what it held before. How many were otherwise."""
+    """Plays scenes over a program, a line each: `ok`, or what `says(scene)` says. Behind them the program runs, and
+    holds what it held before. How many were otherwise."""
     before, wrong = held.counts(process.pid), 0
     for scene in scenes:
         try:
