@@ -70,12 +70,16 @@ class Relay(Program):
         threading.Thread(target=self.answers, daemon=True).start()
 
     def claimed(self, net):
-        """A connection that owns a NetId: a notification to itself comes back."""
-        s, note = self.open(), frame(net, net, 0, command=8)
-        s.sendall(note)
-        if next_frame(s) != note:
-            sys.exit(f"{net.hex()} could not be claimed")
-        return s
+        """A connection that owns a NetId: a notification to itself comes back, once the owner before is gone."""
+        note = frame(net, net, 0, command=8)
+        for _ in range(50):
+            s = self.open()
+            s.sendall(note)
+            if next_frame(s) == note:
+                return s
+            s.close()
+            time.sleep(0.1)
+        sys.exit(f"{net.hex()} could not be claimed")
 
     def answers(self):
         self.rig.settimeout(None)
