@@ -13,7 +13,8 @@ the others), or where a moment does not lie a whole number of cycles behind the 
 With --wall the system's wall clock is set for the program alone (tries/set_clocks.c, which gcc builds). For a server:
 an hour forward, and then two hours back, while samples come; it prints how the moments follow. For a client: an hour
 forward just before each answer comes, which must time nothing out; and two hours back while no answer comes, which must
-end it after its five seconds all the same. """
+end it after its five seconds all the same.
+"""
 import argparse
 import os
 import selectors

@@ -24,7 +24,8 @@ with 0, have told no fault in its log and its status file, and have answered eac
 values of all symbols; and a new start must serve the last block. The memory (VmRSS) of adsd, page, history and mqtt is
 told each minute; where one grows by more than 16 MiB in the second half of an hour, the history by more than the 64 MiB
 of its file that SQLite keeps in memory, it is a fault. The longest gaps and the ticks that were passed over are told.
-Status 1 where anything differs. """
+Status 1 where anything differs.
+"""
 import argparse
 import contextlib
 import json

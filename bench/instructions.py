@@ -14,7 +14,8 @@ wait for all replies; that is a round. Each kind is run for 4 rounds and for 20,
 the requests of 16 rounds, is what a request costs: the start, the handles and most ticks fall out. The kind "sample" is
 other: each connection has 512 notifications of a symbol that changes at each tick, and a sample is counted, of a run of
 8 ticks and one of 40. Its clocks go, so that ticks come. Copies of the C library and its malloc are in the count. Every
-reply's length and result are looked at; bytes are compared by serve.py. """
+reply's length and result are looked at; bytes are compared by serve.py.
+"""
 import argparse
 import contextlib
 import os

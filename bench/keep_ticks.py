@@ -6,7 +6,8 @@ value is saved.
 
 PROGRAM is crates/ads/out/ads. A tick without a change is to cost at most 1 ms of the processor: the least of three runs
 of so many ticks, less that of a run without ticks. A tick with a save is told for the disk of the working folder and
-for memory (/dev/shm), with the processor's part of it: on a disk its syncs are to be all that it waits for. """
+for memory (/dev/shm), with the processor's part of it: on a disk its syncs are to be all that it waits for.
+"""
 import argparse
 import os
 import pathlib

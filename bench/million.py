@@ -7,7 +7,8 @@ PROGRAM is crates/cases_run/out/cases_run, which plays `record .. --local ..` ov
 status, the lines and every row with what must come (the moments are those of ticks of 10 ms). What reading the wanted
 rows costs is measured by a run of another command beside the same text, and taken away; what is left is the recording,
 the text of its rows and their comparison. It is to be under 5 s. Status 1 where a run ended otherwise, or it costs
-more. """
+more.
+"""
 import argparse
 import os
 import pathlib

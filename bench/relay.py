@@ -14,7 +14,8 @@ that it is told. Over loopback each figure is the median of five turns, in which
 and each ratio the median of the turns' ratios; with --quick of one short turn. With 32 pairs and 32 in flight the ratio
 is to be at least 0.7. Of a script the time is the program's processor time, the least of five runs, less that of the
 same script without the requests and responses; a frame is to cost with 1,000 connections at most 1.1 times what it
-costs with 2. Other work on the machine spoils all figures. """
+costs with 2. Other work on the machine spoils all figures.
+"""
 import argparse
 import contextlib
 import itertools

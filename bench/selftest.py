@@ -6,7 +6,8 @@
 The files hold 1, 2, 4 and 8 MiB of text, whose frames have AMS length 64: 70 bytes come in and 38 go out a frame, so
 that all are answered. The ratio of the last time of these per MiB to the first is to be at most 1.3. The last file
 holds whole state requests in 16 MiB of text: the queue limit shuts the connection, and the file takes no longer per
-MiB. """
+MiB.
+"""
 import sys
 
 sys.dont_write_bytecode = True

@@ -25,7 +25,8 @@ The parts are made of the theorems that they are for (PARTS): a definition stand
 it. Two things are taken apart. A type of CHOICES is a choice of what a program does: a case counts from the part on
 that makes this case, and so does an equation that says what becomes of it. (A clause about all values of such a type
 would need all cases: `wrong_in` looks that there is none.) And of a trait of PROVED, whose implementation in the
-programs is proved, the calls count in the last part only. """
+programs is proved, the calls count in the last part only.
+"""
 import collections
 import functools
 import pathlib

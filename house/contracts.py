@@ -9,7 +9,8 @@ crates.txt.
 
 Of a README it takes the first sentence, and the names of the clauses: what stands in backquotes in the last column of
 each table whose last column is headed `clause` or `by`. What each clause says, what is only tested, and the limits
-stand in the README. """
+stand in the README.
+"""
 import pathlib
 import re
 import sys

@@ -26,7 +26,8 @@ programs and tests too.
 
 Hosts differ, and a virtual one from minute to minute. So each half minute a loop of a million additions is timed, and
 its quickest and middle times are told. It is a hint for who compares two runs, and changes no figure: it is no prover,
-and the budget is for the minutes as they are counted. """
+and the budget is for the minutes as they are counted.
+"""
 import os
 import re
 import resource

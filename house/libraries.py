@@ -7,7 +7,8 @@ it twice.
 `rt check` takes the libraries below a crate from the crates' out/ folders, and not from what `rt ci` keeps. This puts
 there what is kept, by the gate's own keys: a library comes only where its text, its line of crates.txt and all below
 are the same as in the run that proved it. Call it again when a run has proved more; it takes some seconds. It changes
-nothing that a verdict rests on. """
+nothing that a verdict rests on.
+"""
 import hashlib
 import importlib.machinery
 import importlib.util

@@ -7,7 +7,8 @@
 
 Headings become sections, a table a list whose tags are its first column, a block of code is shown as it stands. The
 synopsis is the table whose first columns are headed `command` and `words`; without one, the table headed `command`
-alone. """
+alone.
+"""
 import pathlib
 import re
 import sys

@@ -7,7 +7,8 @@
 
 To be mended are: a use that no file of the crate names, a use that crates.txt lacks, a crate that stands above what it
 uses, a spec_ crate with code or a crate of definitions without the prefix, a group that the drawing has no place for,
-and a line that would run behind a box. The status is 1 where there is one. """
+and a line that would run behind a box. The status is 1 where there is one.
+"""
 import os
 import re
 import sys

@@ -3,7 +3,8 @@
 A line has the crate and the edit, the day, a sum of what the crate promised then and of the edit, and a sum of the
 crate's text. What a crate promises is its specs/, and of src/ all but comments, imports of Rust and the bodies of
 functions. The promises of the crates below are not in it: their own edits try these. A line without a day is of an edit
-that was not tried since the table began; then its sums are those of the day when the line was made. """
+that was not tried since the table began; then its sums are those of the day when the line was made.
+"""
 import functools
 import hashlib
 import pathlib

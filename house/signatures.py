@@ -12,7 +12,8 @@ otherwise is followed by a line `here:`, as it stands in the crate (nothing behi
 `since:`, the beginning of the line of docs/DECISIONS.md that gives the reason.
 
 It prints each deviation with its reason. The status is 1 where a crate has something else than the list says, or
-docs/DECISIONS.md no such line. """
+docs/DECISIONS.md no such line.
+"""
 import pathlib
 import re
 import sys

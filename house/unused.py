@@ -7,7 +7,8 @@ An item is named where code names it: not in a comment, a clause, a `use`, in it
 in its own impl blocks, nor, of a method, where one of its name passes the call on. A function without `self` is named
 by its type (`Octets::new`), one outside of a type in its own crate, or in files that name its crate; a name of a method
 that two types share is printed only where neither is named. Laws, which have no body, are called by nobody, and are
-left out. What tests alone name is told as such. The status is 0 where nothing is printed. """
+left out. What tests alone name is told as such. The status is 0 where nothing is printed.
+"""
 import collections
 import pathlib
 import re

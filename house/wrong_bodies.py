@@ -31,7 +31,8 @@ such a file tells as refused is not tried again.
 It prints for each crate which edits the prover refuses, which are still proved (a contract is too weak there, or the
 edit means the same as before), which no longer apply or can't be read, and which were not tried. The status is 0 where
 all are refused. What is refused comes into refused.txt, with the day and sums of what its crate promised and of its
-text; the gate fails where a crate promises something else since. """
+text; the gate fails where a crate promises something else since.
+"""
 import os
 import pathlib
 import re

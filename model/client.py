@@ -4,7 +4,8 @@ how it ends, by what comes over the link.
 It shares nothing with the program or its definitions. `python3 model/hostile.py` writes runs by it, and `python3
 model/random_runs.py` compares the program with it over peers that do as they like. What comes is a list of ("bytes",
 moment, given), ("quiet", moment), or the same so many times, as ("quiet", moment, 1000000), and ("closed", moment);
-moments count 100 ns. """
+moments count 100 ns.
+"""
 import re
 import struct
 

@@ -4,7 +4,8 @@ In a life random clients send one event behind another, in one of the profiles, 
 refused, take the place of the one that is served. Each reply must be that of the model (model/protocol.py), and the log
 must tell of each description what the model says of it. A life ends by a signal, with the model's summary. Then the
 store's file must stand for the values that the model has (model/store.py), and the next life begins with them, often
-over another description. """
+over another description.
+"""
 import functools
 import os
 import pathlib

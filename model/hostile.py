@@ -15,7 +15,8 @@ what the model of a client (model/client.py) says; and runs over the two descrip
         profiles (model/hostile_sockets.py); a line a profile, status 1 where anything differs
 
 What must come is computed from the protocol alone, never from what the program prints. The counts in
-crates/cases_run/stdout are all runs of that program. """
+crates/cases_run/stdout are all runs of that program.
+"""
 import itertools
 import os
 import re

@@ -3,7 +3,8 @@ replay`, and what `ads relay` passes on, byte for byte.
 
 It shares nothing with the program or its definitions, and is written for reading, not for speed. `python3
 model/random_runs.py` compares the two over random descriptions and scripts. A description is a dict with the keys of
-its text; a script is a list of events (see `turn`). """
+its text; a script is a list of events (see `turn`).
+"""
 import math
 import re
 import struct

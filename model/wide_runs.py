@@ -5,7 +5,8 @@ front, modes in the context of a task, sums that tell lengths, additions and del
 router before the first frame.
 
 What a program does not have yet is found out first (`has_of_cases`, `has_of`), left out or asked for its refusal, and
-named in the last line. """
+named in the last line.
+"""
 import contextlib
 import random
 import struct

@@ -3,7 +3,8 @@ tries/connecting.py.
 
 Written from what is known of the clients' sources and manuals: no client and no TwinCAT ran. A session is one
 connection. Its steps are what the client does, in its own words, with the request and the answers of the strict and of
-the wide server. What the wide server answers is what TwinCAT is known to answer; no capture was at hand. """
+the wide server. What the wide server answers is what TwinCAT is known to answer; no capture was at hand.
+"""
 import collections
 import struct
 

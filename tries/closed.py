@@ -7,7 +7,8 @@ that is needed.
 PROGRAM is crates/ads/out/ads; `adsd` is tried where it was built beside it. Each command is run with each choice of the
 descriptors 0, 1 and 2 closed, as the gate does (tools/tries/closed.py says what must come). Then it is started at ports
 that can't be had, and must name each on standard error in one line. A line a scene, `ok` or what differed; status 1
-where one did. """
+where one did.
+"""
 import argparse
 import os
 import pathlib

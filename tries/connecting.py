@@ -9,7 +9,8 @@
     python3 tries/connecting.py --table         prints the table of the page, which the sessions make
 
 A line each that came otherwise, then the count; status 1 where there is one. What a program does not have is named.
-house/docs.py runs the first, and looks at the table. """
+house/docs.py runs the first, and looks at the table.
+"""
 import contextlib
 import os
 import pathlib

@@ -8,7 +8,8 @@
 
 Each try has a name and says what it saw; the last line counts them, and the status is 1 if one failed. Nothing is
 stubbed: the program runs in a folder of its own, and what it is to answer is worked out from the layouts of
-docs/FORMATS.md. """
+docs/FORMATS.md.
+"""
 import contextlib
 import os
 import pathlib

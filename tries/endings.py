@@ -7,7 +7,8 @@ keep of them.
 
 For each way N connections (1,000) come, 32 at a time, and end so. Behind them a good client asks, and must be told each
 byte; the process must have as many descriptors and threads as before the first, and what it holds of memory is told
-before and behind. The program ends with 1 where anything is left over or a client is told otherwise. """
+before and behind. The program ends with 1 where anything is left over or a client is told otherwise.
+"""
 import os
 import socket
 import sys

@@ -9,7 +9,8 @@ tools/tries/page_http.py, each with the answer that must come; `--times` (20) is
 hundred connections each other kind has; `--short` is 1. Behind each kind /healthz must be answered within half a minute
 and /values.json be right, and once all are gone there must be as many descriptors and threads as before; the memory is
 told, and more than 32 MiB of growth behind the first round is a fault. The page may write nothing to standard error.
-Status 1 where anything differs. """
+Status 1 where anything differs.
+"""
 import argparse
 import contextlib
 import os

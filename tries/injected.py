@@ -29,7 +29,8 @@ What must hold, of each scene:
 
 Not tried: a write that writes less than it is told to. strace can make a call return less, but not write less, so the
 program would be told a lie; what a cut write leaves is tried by kills at any moment (tries/killed.py, tries/daemon.py).
-And a loss of power: what was written stays in the system here. """
+And a loss of power: what was written stays in the system here.
+"""
 import argparse
 import collections
 import concurrent.futures

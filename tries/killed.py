@@ -8,7 +8,8 @@ PROGRAM is the built `ads`. Each run writes a persistent symbol before each tick
 is stopped, and a reader looks at the file. What stands is to be a body of the run by the model (model/store.py) or what
 stood before, never one that is older than what was seen standing, and a run that ends prints what the model says. The
 last run of each ten is let through. Killing a process leaves what it wrote to the system: what a loss of power leaves
-is proved of the model of a disk, and not tried here. """
+is proved of the model of a disk, and not tried here.
+"""
 import argparse
 import os
 import random

@@ -7,7 +7,8 @@ random moments, and how fast they are.
 PROGRAM is crates/ads/out/ads. tries/services.sh starts what is needed, from Debian's packages, whose Python parts serve
 /usr/bin/python3. The server is mostly one in this process whose symbols count its ticks (tools/tries/fake_plant.py), so
 that each sample that is lost, or there twice, is seen in the values. `--times` is how often something is killed, or
-stopped, in each scene. A line a scene, `ok` or what differed; status 1 where one did. """
+stopped, in each scene. A line a scene, `ok` or what differed; status 1 where one did.
+"""
 import argparse
 import contextlib
 import csv

@@ -6,7 +6,8 @@
 PROGRAM is crates/ads/out/ads where it is absent. It needs Debian's chromium and chromium-driver, and nothing else.
 `--shots` keeps pictures of the page. `--cost` prints instead what the page costs: 134 symbols of which all change ten
 times a second, with no browser, one and ten. `--operated` looks only at what is for who operates a plant: alarms,
-units, limits, bits, groups, several values in one plot. """
+units, limits, bits, groups, several values in one plot.
+"""
 import argparse
 import contextlib
 import os

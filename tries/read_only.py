@@ -15,7 +15,8 @@ line a scene, `ok` or what differed; status 1 where one did.
 - record: status 16 and its line, in its middle and at its start; each row is there once, with the totals, and the next
   run goes on behind them.
 - history: status 16 and a sentence, in its middle and at its start; each sample is there once, and the next run tells a
-  gap. """
+  gap.
+  """
 import contextlib
 import os
 import pathlib

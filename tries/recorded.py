@@ -7,7 +7,8 @@ stores that are none; with --history N also tools/history.py, killed N times ove
 PROGRAM is crates/ads/out/ads. A line a scene, `ok` or what differed; status 1 where one did. What is read back is read
 by Python's sqlite3, not by the program. The last lines say what a put cost: processor time of the program, and how many
 a second the disk of the working folder and memory (/dev/shm) gave; of samples that come one at a time, each with a
-sync, and of 5,000 in one frame. """
+sync, and of 5,000 in one frame.
+"""
 import argparse
 import contextlib
 import os

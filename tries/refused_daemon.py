@@ -3,7 +3,8 @@ clients ask, a save or a new description, and a stop. Each call for memory behin
 with all behind it. The daemon must end with 10, or with 14 where a save was due, or go on and serve right. What it
 sends is what the model of the protocol says (model/protocol.py), or a beginning of it where it ends; its store stands
 for what stood or for what was written, and a value that fits no symbol any more stands in the store or in its copy, or
-the log says that there is none. Some runs are tried at once, since most of a run is waiting. """
+the log says that there is none. Some runs are tried at once, since most of a run is waiting.
+"""
 import collections
 import concurrent.futures
 import contextlib

@@ -11,7 +11,8 @@ totals, as Python's sqlite3 reads them.
 
 Build the program first: in crates/ads, `rt run -- selftest ../../examples/state.script`. The runs are those below; of
 one with more than N calls for memory (2,000 unless told) every k-th fails. It prints a table, and ends with 1 where
-anything else came. """
+anything else came.
+"""
 import argparse
 import os
 import shutil

@@ -8,7 +8,8 @@ PROGRAM is crates/ads/out/ads where it is absent. Before and behind each scene t
 both sides must be as it was sent. A line a scene, `ok` or what came; behind them all descriptors and threads must be as
 many as before, and what the process grew by is told. Status 1 where anything differs. `--short` sends a tenth.
 Connections that end in each way are tried by tries/endings.py, silent and vanished peers by tries/peers.py over the
-same wire. """
+same wire.
+"""
 import argparse
 import contextlib
 import os

@@ -149,7 +149,7 @@ class Sampling:
 
 def puts_before_a_deletion(program, folder, count=20000):
     """Puts that take longer than the five seconds in which an answer must come: the deletion behind them has its own five seconds."""
-    env = slow_disk(folder, 400)
+    env = slow_disk(folder, 600)
     if env is None:
         return
     os.unlink(env["SLOW_WHILE"])
