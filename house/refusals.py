@@ -3,8 +3,7 @@
 A line has the crate and the edit, the day, a sum of what the crate promised then and of the edit, and a sum of the
 crate's text. What a crate promises is its specs/, and of src/ all but comments, imports of Rust and the bodies of
 functions. The promises of the crates below are not in it: their own edits try these. A line without a day is of an edit
-that was not tried since the table began; then its sums are those of the day when the line was made.
-"""
+that was not tried since the table began; its sums are those of the last time that the table was made. """
 import functools
 import hashlib
 import pathlib
@@ -84,11 +83,12 @@ def rows():
 
 def record(refused):
     """Puts into the table that these edits, a crate and a name each, were refused on this text, today; those that are
-    in no line get one without a day, and those that are gone are left out. How many of them it knew."""
+    in no line get one without a day, and those that are gone are left out. How many of them are in it."""
     old, new, day = rows(), {}, time.strftime("%Y-%m-%d")
     for crate, name, kind in edits():
-        sums = sums_of(crate, name, kind)
-        new[crate, name] = (day, *sums) if (crate, name) in refused else old.get((crate, name), (NEVER, *sums))
+        stood = old.get((crate, name), (NEVER,))
+        made = (day if (crate, name) in refused else NEVER, *sums_of(crate, name, kind))
+        new[crate, name] = made if made[0] == day or stood[0] == NEVER else stood
     TABLE.write_text(TOP + "".join(f"{crate}/{name} {' '.join(new[crate, name])}\n" for crate, name in sorted(new)))
     return len(new.keys() & set(refused))
 
