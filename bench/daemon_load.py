@@ -49,7 +49,7 @@ import adsd  # noqa: E402
 import ams  # noqa: E402
 import serve  # noqa: E402
 import store  # noqa: E402
-from adsd import expect, reply  # noqa: E402
+from adsd import reply  # noqa: E402
 from ams import area, u32  # noqa: E402
 from random_runs import toml_of  # noqa: E402
 from tries.fake_broker import Broker  # noqa: E402
@@ -57,7 +57,7 @@ from tries.history_checks import of_sqlite, sound  # noqa: E402
 from tries.of_mqtt import interpreter  # noqa: E402
 from tries.paged import Page  # noqa: E402
 from tries.running import Wrong  # noqa: E402
-from under_test import free_port  # noqa: E402
+from under_test import Differs, expect, free_port  # noqa: E402
 
 TOOLS = os.path.join(HERE, "..", "tools")
 WATCHING, NOTES, BLOCK, SIZE, MOST_GROWN = 8, 512, serve.RAMP + 64, 64, 16384
@@ -115,8 +115,8 @@ class Load(serve.Bench):
     """A daemon in a folder of its own, and loads of it, until the stack ends them."""
 
     def __init__(self, stack, program, profile, asking):
-        self.stack, self.client, self.asking, self.program, self.profile, self.version = (stack, "./serve_client",
-                                                                                          asking, program, profile, 0)
+        self.stack, self.client, self.asking, self.program, self.profile, self.version = (
+            stack, "./serve_client", asking, program, profile, 0)
         os.chdir(stack.enter_context(tempfile.TemporaryDirectory(prefix="daemon-load-")))
         for name in ("serve_client", "stolen"):
             serve.compile_c(name)
@@ -163,14 +163,14 @@ class Writer(threading.Thread):
                 link.settimeout(60)
                 while not self.stops.wait(0.04):
                     self.turn(link)
-        except (OSError, adsd.Failed) as fault:
+        except (OSError, Differs) as fault:
             self.fault = f"the writer: {fault}"
 
     def turn(self, link):
         given, began = block_of(self.number + 1), time.monotonic()
         self.number += 1
-        link.sendall(ams.request(3, 1, area(0x4040, BLOCK, SIZE) + given) + ams.request(2, 2,
-                                                                                        area(0x4040, BLOCK, SIZE)))
+        link.sendall(ams.request(3, 1, area(0x4040, BLOCK,
+                                            SIZE) + given) + ams.request(2, 2, area(0x4040, BLOCK, SIZE)))
         wrote, read = reply(link), reply(link)
         expect(wrote == (1, bytes(4)), f"the write of {self.number} was answered by {wrote!r}")
         expect(read == (2, u32(0, SIZE) + given), f"behind the write of {self.number} the block is {read!r}")
@@ -297,8 +297,8 @@ def store_has(load, area, block):
     standing = store.standing_of(pathlib.Path("kept").read_bytes())
     expect(standing is not None, "nothing stands in the store")
     held = {name.decode(): data for _, name, _, data in store.entries_of(standing[2])}
-    wanted = {f"v{k}": area[4 * k:4 * k + 4] for k in range(serve.OWN * load.asking)} | {"Own.count": block[:4],
-                                                                                         "Own.data": block[4:]}
+    wanted = {f"v{k}": area[4 * k:4 * k + 4] for k in range(serve.OWN * load.asking)} | {
+        "Own.count": block[:4], "Own.data": block[4:]}
     wrong = [name for name in wanted.keys() | held.keys() if wanted.get(name) != held.get(name)]
     expect(not wrong, f"of {len(wrong)} symbols the store has other bytes than were there last, as of "
            f"{sorted(wrong)[:3]}")
@@ -425,7 +425,7 @@ def main():
     with contextlib.ExitStack() as stack:
         try:
             tried(stack, given)
-        except (adsd.Failed, Wrong, OSError, subprocess.SubprocessError) as why:
+        except (Differs, Wrong, OSError, subprocess.SubprocessError) as why:
             print(f"WRONG: {why}")
             return 1
     return 0

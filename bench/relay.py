@@ -85,9 +85,8 @@ def scripted(program, quick):
     requests, times, first = (500, 1, None) if quick else (50000, 5, None)
     print("| connections | processor ns a frame | of that with 2 |\n|---|---|---|")
     for connections in (2, 10, 100, 1000):
-        took = seconds(program, script(connections, requests), 2 * requests, times) - seconds(program,
-                                                                                              script(connections, 0), 0,
-                                                                                              times)
+        took = seconds(program, script(connections, requests), 2 * requests,
+                       times) - seconds(program, script(connections, 0), 0, times)
         cost = 1e9 * took / (2 * requests)
         first = first or cost
         print(f"| {connections:,} | {cost:,.0f} | {cost / first:.2f} |", flush=True)

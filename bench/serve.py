@@ -97,8 +97,8 @@ def plan(k, once, again, ticks=0, wide=False):
 def plan_of_load(k, kinds):
     r, first = random.Random(k), OWN * k
     names = [f"v{first + i}".encode() for i in range(OWN)]
-    once = [(3, u32(0x4040, 4 * first, 4 * OWN) + r.randbytes(4 * OWN))] + [(9, u32(0xF003, 0, 4, len(name)) + name)
-                                                                            for name in names]
+    once = [(3, u32(0x4040, 4 * first, 4 * OWN) + r.randbytes(4 * OWN))] + [(9, u32(0xF003, 0, 4, len(
+        name)) + name) for name in names]
     return plan(k, once, [request(kind, first, r) for kind in kinds])
 
 
@@ -177,8 +177,8 @@ def requests(bench, plot):
         plan_all(lambda k: plan_of_load(k, kinds))
         lines = {(server, depth): [] for server in ("ads", "C") for depth in (32, 1)}
         for depth, count in itertools.product((32, 1), (64, 8, 1)):
-            ((rate, cost, _), (c_rate, c_cost, _)), (ratio, _) = bench.medians(count, depth,
-                                                                               0.3 if bench.quick else 0.6)
+            ((rate, cost, _), (c_rate, c_cost, _)), (ratio, _) = bench.medians(
+                count, depth, 0.3 if bench.quick else 0.6)
             print(f"| {name} | {count} | {depth} | {rate:,.0f} | {c_rate:,.0f} | {ratio:.2f} | {cost:,.0f} | "
                   f"{c_cost:,.0f} |", flush=True)
             lines["ads", depth].append((count, rate))

@@ -139,9 +139,8 @@ class Page:
             self.lines.pop()
         # what is defined here; the cases of choices; what each imported name is, and what else where it is imported
         # twice, as a definition and as code
-        self.items, self.cases, self.imports, self.others, self.modules, self.exports = ({}, set(), {},
-                                                                                         collections.defaultdict(list),
-                                                                                         {}, {})
+        self.items, self.cases, self.imports, self.others, self.modules, self.exports = (
+            {}, set(), {}, collections.defaultdict(list), {}, {})
         for public, path_of, names, alias in uses_of(self.lines):
             above, _, last = path_of.rpartition(".")
             if names is None:
@@ -343,9 +342,8 @@ def meant(here, word, own):
         if name in here.imports:
             where = here.imports[name]
             found = find(*within(here.crate, *where))
-            if not found and name not in here.modules and where[0].split(".")[0] in ("Rattle",
-                                                                                     "crate") and not is_of_kit(where[
-                0]):
+            if not found and name not in here.modules and where[0].split(".")[0] in (
+                "Rattle", "crate") and not is_of_kit(where[0]):
                 LOST.add(f"{here.path.relative_to(ROOT)}: {'.'.join(where)} is not found")
             return found
     return None
@@ -369,9 +367,8 @@ def behind_cases(item):
     if item.behind is None:
         item.behind = []
         starts = [at for at in item.lines if re.match(r"[^\s-]", item.file.lines[at])]
-        if item.file.path.suffix == ".antt" and len(starts) > 1 and not re.search(r"\b(record|data|mutual)\b",
-                                                                                  item.file.lines[starts[0]].split(":")[
-            0]):
+        if item.file.path.suffix == ".antt" and len(starts) > 1 and not re.search(
+            r"\b(record|data|mutual)\b", item.file.lines[starts[0]].split(":")[0]):
             for start, end in zip(starts[1:], [*starts[2:], item.lines[-1] + 1]):
                 lines = [at for at in item.lines if start <= at < end]
                 left = re.split(r" =(?: |$)", "\n".join(map(item.file.code, lines)), maxsplit=1, flags=re.M)[0]

@@ -20,7 +20,6 @@ import pathlib
 import queue
 import re
 import shutil
-import socket
 import subprocess
 import sys
 import tempfile
@@ -31,6 +30,7 @@ sys.dont_write_bytecode = True
 sys.path[1:1] = [f"{sys.path[0]}/../{room}" for room in ("model", "tools", "tries")]
 import connecting  # noqa: E402
 import start  # noqa: E402
+from under_test import free_port  # noqa: E402
 
 ROOT = pathlib.Path(__file__).resolve().parent.parent
 ROOMS = ("house", "model", "bench", "tries")
@@ -46,12 +46,6 @@ RT = 'rt() { if [ "$1" = try ] || [ "$1" = run ]; then shift; [ "$1" = -- ] && s
 SECONDS = 30
 # Words that all pages together may have, and lines of a crate's README.
 MOST_WORDS, MOST_LINES = 25000, 40
-
-
-def free_port():
-    with socket.socket() as s:
-        s.bind(("127.0.0.1", 0))
-        return str(s.getsockname()[1])
 
 
 def blocks(page):
@@ -151,9 +145,9 @@ def with_ports_of_page(line, ports):
 
 def with_free_ports(command, ports):
     """A command with free ports in place of those that it names; ./start names none, and runs beside what follows."""
-    for port in re.findall(r"\b(?:127\.0\.0\.1|0\.0\.0\.0):(\d+)", command) if command != "./start" else ("48898",
-                                                                                                          "8080"):
-        ports.setdefault(port, free_port())
+    for port in re.findall(r"\b(?:127\.0\.0\.1|0\.0\.0\.0):(\d+)",
+                           command) if command != "./start" else ("48898", "8080"):
+        ports.setdefault(port, str(free_port()))
     if command == "./start":
         return f"./start --port {ports['48898']} --http {ports['8080']} &"
     return re.sub(r"(\b(?:127\.0\.0\.1|0\.0\.0\.0):)(\d+)", lambda m: m.group(1) + ports[m.group(2)], command)

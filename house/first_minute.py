@@ -29,6 +29,7 @@ import docs  # noqa: E402
 import unproved  # noqa: E402
 from browser import Driver, Failed  # noqa: E402
 from page_parts import MAIN, SHOWS  # noqa: E402
+from under_test import free_port  # noqa: E402
 
 LONGEST, LATER = 600, 60
 LIVE = "return document.getElementById('pill-text').textContent === 'live'"
@@ -48,14 +49,6 @@ def copy_to(folder):
     shutil.copytree(ROOT, folder, symlinks=True, ignore=shutil.ignore_patterns("out", ".git", "__pycache__"))
 
 
-def ports():
-    """Two free ports."""
-    with socket.socket() as one, socket.socket() as other:
-        for it in (one, other):
-            it.bind(("127.0.0.1", 0))
-        return [it.getsockname()[1] for it in (one, other)]
-
-
 class Started:
     """./start in a folder, and the lines that it printed until it said how to stop it, or ended."""
 
@@ -63,7 +56,7 @@ class Started:
 
     def __init__(self, folder, *words, seconds=LATER):
         self.all.append(self)
-        self.folder, (self.port, self.http) = folder, ports()
+        self.folder, (self.port, self.http) = folder, (free_port(), free_port())
         words = ["./start", *words, "--port", str(self.port), "--http", str(self.http)]
         self.process = subprocess.Popen(words, cwd=folder, stdin=subprocess.DEVNULL, stdout=subprocess.PIPE, text=True,
                                         stderr=subprocess.STDOUT, start_new_session=True)
@@ -208,7 +201,8 @@ def refusals(it, folder):
 
 
 def refused(it, folder, status, part, words, own="", **variables):
-    given = [word for name, port in zip(("--port", "--http"), ports()) if name != own for word in (name, str(port))]
+    given = [word for name, port in zip(("--port", "--http"), (free_port(), free_port())) if name != own
+             for word in (name, str(port))]
     said = subprocess.run(["./start", *words, *given], cwd=folder, stdin=subprocess.DEVNULL, capture_output=True,
                           text=True, timeout=60, check=False, env={**os.environ, **variables})
     right = said.returncode == status and part in said.stderr and "Traceback" not in said.stderr

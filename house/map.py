@@ -50,8 +50,8 @@ class Crate:
     def has_bodies(self):
         """Whether the program runs something of it: a function whose body is not empty, or a type."""
         code = re.sub(r"//[^\n]*", "", "\n".join(texts_of(self.name)))
-        return re.search(r"\n\s*(pub )?(struct|enum|trait|impl)\b", code) is not None or re.search(r"\n\{\n\s*\S",
-                                                                                                   code) is not None
+        return re.search(r"\n\s*(pub )?(struct|enum|trait|impl)\b",
+                         code) is not None or re.search(r"\n\{\n\s*\S", code) is not None
 
 
 def texts_of(name):

@@ -78,15 +78,15 @@ def ended(process, machine, way):
 
 def lived(words, folder, machine, events, way):
     """A life of the daemon against the model; what differs, or None."""
-    how = {"cwd": folder, "stdout": subprocess.PIPE, "preexec_fn": lambda: signal.pthread_sigmask(signal.SIG_SETMASK,
-                                                                                                  BLOCKED)}
+    how = {"cwd": folder, "stdout": subprocess.PIPE, "preexec_fn": lambda: signal.pthread_sigmask(
+        signal.SIG_SETMASK, BLOCKED)}
     with open(os.path.join(folder, "log"), "wb") as log, subprocess.Popen(words, stderr=log, **how) as it:
         try:
             if it.stdout.readline() != b"listening\n":
                 return "it does not listen"
             port = int(words[words.index("--listen") + 1].split(":")[1])
-            return random_runs.talked(events, machine, port, functools.partial(described, folder)) or ended(it, machine,
-                                                                                                            way)
+            return random_runs.talked(events, machine, port,
+                                      functools.partial(described, folder)) or ended(it, machine, way)
         finally:
             it.kill()
 
@@ -96,8 +96,7 @@ def one_daemon(program, seed, folder, has):
     r, kept, body = random.Random(seed), pathlib.Path(folder, "kept"), None
     for path in pathlib.Path(folder).glob("kept*"):
         path.unlink()
-    d, profile, others = wide_runs.without_signals(random_runs.description(r)), r.choice(("wide",
-                                                                                          "strict")), r.choice(
+    d, profile, others = wide_runs.without_signals(random_runs.description(r)), r.choice(("wide", "strict")), r.choice(
         has.others)
     random_runs.write(folder, "words", f"{profile} {others}\n")
     for life in range(1, r.choice((2, 3, 4))):

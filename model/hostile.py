@@ -211,8 +211,8 @@ def lying_sums(kinds=LYING):
             yield asked(f"A sum {group:#06x} of two parts with room for {lie:+} of what they may give.",
                         sum_of(7, group, 2, most + lie, head(*heads[0], *heads[1]), data))
             yield asked(f"A sum {group:#06x} of two parts with {'a byte too many' if lie > 0 else 'a byte too few'}.",
-                        sum_of(7, group, 2, most, (head(*heads[0], *heads[1]) + data + b"\0")[:None if lie > 0
-                                                                                              else -2]))
+                        sum_of(7, group, 2, most, (head(*heads[0], *heads[1]) + data
+                                                   + b"\0")[:None if lie > 0 else -2]))
             for part in (0, 1):
                 for field in range(1, len(heads[0])):
                     lying = [list(it) for it in heads]
@@ -385,9 +385,8 @@ def reloads():
     for cut in range(len(whole) + 1):
         yield replay(f"A reload behind {cut} of the {len(whole)} bytes of a request for a handle; then a read by it.",
                      [("open", 1)] + ([("bytes", 1, whole[:cut])] if cut
-                                      else []) + [("reload", PLANT2)] + ([("bytes", 1, whole[cut:])] if cut < len(whole)
-                                                                         else [])
-                     + [("bytes", 1, read(2, 0xF005, 1, 4))])
+                                      else []) + [("reload", PLANT2)] + ([("bytes", 1, whole[cut:])] if cut < len(
+            whole) else []) + [("bytes", 1, read(2, 0xF005, 1, 4))])
     for at, some in ((0, 4), (0, 8), (4, 4), (8, 48), (8, 16), (60, 2), (72, 8), (72, 4), (64, 2), (100, 4)):
         yield replay(f"A notification of {some} bytes of data from {at} on, and a handle of Main.title, over a reload "
                      f"that moves Main.count and gives Main.title another type.",
@@ -400,12 +399,9 @@ def reloads():
     both = write(1, 0x4040, 0, b"\7\7\7\7") + read(2, 0x4040, 100, 4) + add(3, 0x4040, 72, 8)
     for cut in range(0, len(both) + 1, 3):
         yield replay(f"A refused and then an accepted reload behind {cut} of the {len(both)} bytes of a write, a read "
-                     f"and an addition; then a tick.",
-                     [("open", 1)] + ([("bytes", 1, both[:cut])] if cut else []) + [("reload", 2),
-                                                                                    ("reload", PLANT2)] + ([("bytes", 1,
-                                                                                                             both[
-                         cut:])] if cut < len(both) else [])
-                     + [("tick", 5), ("bytes", 1, read(4, 0x4040, 100, 4))])
+                     f"and an addition; then a tick.", [("open", 1)] + ([("bytes", 1, both[:cut])] if cut else []) + [(
+            "reload", 2), ("reload", PLANT2)] + ([("bytes", 1, both[cut:])] if cut < len(both)
+                                                 else []) + [("tick", 5), ("bytes", 1, read(4, 0x4040, 100, 4))])
 
 
 def offers():
@@ -544,12 +540,9 @@ def calls():
     it = ["file it.script", *(line for event in script for line in lines_of(event, ""))]
     plant = ["file plant.toml", "from plant.toml"]
     summary = "connections 0 requests 0 replies 0 samples 0 reloads 0 0\n"
-    commands = {
-        "check plant.toml": (plant, 1, count), "replay plant.toml it.script": (plant + it, 2,
-                                                                               protocol.play(PLANT, SIGNALS, script)),
-        "selftest it.script": (it[:1], 1, summary), "migrate plant.toml": (plant, 1, None), "load 3": ([], 0, None),
-        "serve plant.toml --listen 127.0.0.1:48898 --events 9": (plant, 1, None),
-    }
+    commands = {"check plant.toml": (plant, 1, count), "replay plant.toml it.script": (plant + it, 2, protocol.play(
+        PLANT, SIGNALS, script)), "selftest it.script": (it[:1], 1, summary), "migrate plant.toml": (plant, 1, None),
+                "load 3": ([], 0, None), "serve plant.toml --listen 127.0.0.1:48898 --events 9": (plant, 1, None),}
     for words, (files, readings, text) in commands.items():
         for number in range(1, readings + 1):
             yield run(f"Reading {number} fails.", words, [*files, f"fail-read {number}"], 4, "ads: read fault\n")

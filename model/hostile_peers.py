@@ -164,9 +164,8 @@ def changed(step, **how):
 
 def note(stamps, *, length=None, count=None, target=None, source=None):
     """A notification of stamps: (moment, [(handle, bytes)..])."""
-    body = b"".join(moment.to_bytes(8, "little") + u32(len(samples)) + b"".join(u32(h) + u32(len(given)) + given for h,
-                                                                                given in samples) for moment,
-                    samples in stamps)
+    body = b"".join(moment.to_bytes(8, "little") + u32(len(samples)) + b"".join(u32(h) + u32(len(
+        given)) + given for h, given in samples) for moment, samples in stamps)
     payload = u32(len(body) + 4 if length is None else length) + u32(len(stamps) if count is None else count) + body
     own = fields(STEPS["state"][0])
     return frame({**own, "target": target or own["target"], "source": source or own["source"], "command": 8, "flags": 4,
@@ -494,10 +493,8 @@ def lists():
                        b"".join(entry(nul=(0, 65 * (k == at), 0)) for k in range(2)), 2)
     yield uploaded("The last entry is cut in the middle.", (one + two)[:-20], 2)
     yield uploaded("Names and types of control characters, of NULs, of no byte, and that look like lines of this "
-                   "program.",
-                   entry(b"\x1b[2J\x07", b"\r\n\t") + entry(b"a\0b", b"\0") + entry(b"", b"") + entry(b"x\nads: budget",
-                                                                                                      b"\\x41") + entry(
-                       ALL_BYTES[1:], ALL_BYTES[128:]), 5)
+                   "program.", entry(b"\x1b[2J\x07", b"\r\n\t") + entry(b"a\0b", b"\0") + entry(b"", b"") + entry(
+        b"x\nads: budget", b"\\x41") + entry(ALL_BYTES[1:], ALL_BYTES[128:]), 5)
     yield uploaded("The greatest numbers.", entry(group=2 ** 32 - 1, offset=2 ** 32 - 1, size=1048576,
                                                   number=2 ** 32 - 1, flags=2 ** 32 - 1), 1)
     yield uploaded("A name of 65,535 control characters.", entry(b"\x01" * 65535, b"INT"), 1)

@@ -136,24 +136,23 @@ def files():
     yield keep("The second entry fits and the first does not.", read,
                slot(store.body_text([(port, name, b"x", bytes(size)), (*ENTRY[:3], value)])))
     good = slot(held(value), 7)
-    for said, file in {
-            "An empty slot 0 before a slot 1 that counts": both(bytes(13), good),
-            "Two slots that count: the second has the greater number": both(slot(BODY, 6), good),
-            "Two slots that count: the first has the greater number": both(good, slot(BODY, 6)),
-            "Two slots of one number: the first counts": both(slot(held(bytes(size)), 7), good),
-            "A gate that is 2": b"\2" + good[1:], "A gate that is 0": b"\0" + good[1:],
-            "A slot without its last byte": good[:-1], "A slot with a byte behind it": good + b"\xff",
-            "A body of no entries that says one": slot(store.u32(1)),
-            "A body of one entry that says two": slot(b"\2" + held(value)[1:]),
-            "A body with a byte behind its entries": slot(held(value) + b"\0"),
-            "A body without its first byte": slot(held(value)[1:]),
-            "A slot that says that its body has 1,048,577 bytes": b"\1"
-            + store.u64(1) + store.u32(store.LONGEST + 1) + BODY,
-            "A slot that says that its body has 4,294,967,295 bytes": b"\1" + store.u64(1) + b"\xff\xff\xff\xff" + BODY,
-            "Rubbish": bytes(range(256)) * 3, "A file of one byte 1": b"\1",
-            "A file of 12 bytes": good[:12], "A damaged slot 0 before a slot 1 that counts": both(slot(BODY,
-                                                                                                       9)[
-                :-1] + b"\xff", good)}.items():
+    for said, file in {"An empty slot 0 before a slot 1 that counts": both(bytes(13), good),
+                       "Two slots that count: the second has the greater number": both(slot(BODY, 6), good),
+                       "Two slots that count: the first has the greater number": both(good, slot(BODY, 6)),
+                       "Two slots of one number: the first counts": both(slot(held(bytes(size)), 7), good),
+                       "A gate that is 2": b"\2" + good[1:], "A gate that is 0": b"\0" + good[1:],
+                       "A slot without its last byte": good[:-1], "A slot with a byte behind it": good + b"\xff",
+                       "A body of no entries that says one": slot(store.u32(1)),
+                       "A body of one entry that says two": slot(b"\2" + held(value)[1:]),
+                       "A body with a byte behind its entries": slot(held(value) + b"\0"),
+                       "A body without its first byte": slot(held(value)[1:]),
+                       "A slot that says that its body has 1,048,577 bytes": b"\1"
+                       + store.u64(1) + store.u32(store.LONGEST + 1) + BODY,
+                       "A slot that says that its body has 4,294,967,295 bytes": b"\1"
+                       + store.u64(1) + b"\xff\xff\xff\xff" + BODY, "Rubbish": bytes(range(256)) * 3,
+                       "A file of one byte 1": b"\1", "A file of 12 bytes": good[:12],
+                       "A damaged slot 0 before a slot 1 that counts": both(slot(BODY, 9)[
+        :-1] + b"\xff", good)}.items():
         yield keep(f"{said}.", read, file)
     for number, said in ((store.LAST, "the last there is"), (store.LAST - 1, "the last but one")):
         yield keep(f"The standing number is {said}, and the body does not change.", [("open", 1), ("tick", 1)],

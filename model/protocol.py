@@ -702,8 +702,8 @@ class Server:
         for number, watch, given in samples:
             groups.setdefault((watch["port"], watch["to"]), []).append((number, given))
         for (port, to), found in groups.items():
-            stamp = struct.pack("<Q", self.moment) + u32(len(found)) + b"".join(u32(number) + u32(len(given)) + given
-                                                                                for number, given in found)
+            stamp = struct.pack("<Q", self.moment) + u32(len(found)) + b"".join(u32(number) + u32(len(
+                given)) + given for number, given in found)
             payload = u32(4 + len(stamp)) + u32(1) + stamp
             self.produce(conn, framed(to, net + u16(port), 8, 4, 0, 0, payload), samples=len(found))
 
@@ -853,8 +853,8 @@ class Relay:
         target, source = ams[:8], ams[8:16]
         command, flags, length, _, number = struct.unpack("<HHIII", ams[16:32])
         whole, own = in_frame(ams), self.owned.get(conn)
-        if length != len(ams) - 32 or source[:6] not in self.routes or (own != source[:6] if own
-                                                                        else self.owner(source[:6])):
+        if length != len(ams) - 32 or source[:6] not in self.routes or (own != source[:6] if own else self.owner(source[
+            :6])):
             conn.closing = True
             return
         self.owned[conn] = source[:6]

@@ -100,10 +100,8 @@ def types_of(r, schema):
         if schema == 2 and r.random() < 0.4:
             base = r.choice(("SINT", "USINT", "INT", "UINT", "DINT", "UDINT", "LINT", "ULINT"))
             size = protocol.PLAIN[base][0]
-            low, high = (0, min(2 ** (8 * size), 2 ** 63) - 1) if base[0] == "U" and base != "U" else (-2 ** (8 * size
-                                                                                                              - 1),
-                                                                                                       2 ** (8 * size
-                                                                                                             - 1) - 1)
+            low, high = (0, min(2 ** (8 * size), 2 ** 63) - 1) if base[0] == "U" and base != "U" else (-2 ** (
+                8 * size - 1), 2 ** (8 * size - 1) - 1)
             numbers = list(dict.fromkeys(r.choice((low, high, r.randint(low, high), r.randrange(0, 9)))
                                          for _ in range(r.randint(1, 4))))
             found.append({"name": name, "base": any_case(r, base),
@@ -308,9 +306,8 @@ def request(r, d, handles, in_sum=False, notes=True):
         payload = asked(r, d, handles, in_sum)
     elif command == 6:
         group, at, some = place(r, d, handles)
-        payload = u32(group) + u32(at) + u32(2049 if r.random() < 0.05 else some) + u32(1 if r.random() < 0.05
-                                                                                        else r.choice((3, 4, 4,
-                                                                                                       4))) + u32(
+        payload = u32(group) + u32(at) + u32(2049 if r.random() < 0.05
+                                             else some) + u32(1 if r.random() < 0.05 else r.choice((3, 4, 4, 4))) + u32(
             r.randrange(9)) + u32(r.choice((0, 0, 5, 100, 2 ** 32 - 1))) + bytes(16)
     elif command == 5:
         payload = u16(r.choice((5, 6, 6, 3))) + u16(r.randrange(9)) + u32(0)
@@ -335,8 +332,8 @@ def asked(r, d, handles, in_sum):
     for _ in range(some):
         if group == 0xF080:
             head = place(r, d, handles)
-            heads, most = heads + b"".join(map(u32, (head[0], head[1], min(head[2], 5000)))), most + 4 + min(head[2],
-                                                                                                             5000)
+            heads, most = heads + b"".join(map(u32, (head[0], head[1],
+                                                     min(head[2], 5000)))), most + 4 + min(head[2], 5000)
         elif group == 0xF081:
             payload = request(r, d, handles, True)
             while payload[0] != 3 or len(payload[1]) < 12:
@@ -345,8 +342,8 @@ def asked(r, d, handles, in_sum):
             heads, data, most = heads + payload[1][:8] + u32(len(given)), data + given, most + 4
         else:
             payload = asked(r, d, handles, True)
-            heads, data, most = heads + payload[:16], data + payload[16:], most + 8 + int.from_bytes(payload[8:12],
-                                                                                                     "little")
+            heads, data, most = heads + payload[:16], data + payload[16:], most + 8 + int.from_bytes(payload[
+                8:12], "little")
     if r.random() < 0.05:
         some = r.choice((some + 1, 501, 2 ** 32 - 1))
     if r.random() < 0.05:
@@ -414,12 +411,10 @@ def relay_frame(r, machine, number, nets):
     conn = machine.conns[number]
     free = [net for net in nets if not machine.owner(net_of(net))]
     own = machine.owned.get(conn) or net_of(r.choice(free if free and r.random() < 0.95 else nets))
-    source, target = own + u16(r.choice((851, 851, 32905))), net_of(r.choice((*nets,
-                                                                              "5.1.2.3.1.1"))) + u16(r.choice((851, 851,
-                                                                                                               32905)))
-    command, flags, invoke, payload = r.choice((2, 2, 2, 4, 8, 9, 0, 65535)), r.choice((4, 4, 4, 4, 5, 0,
-                                                                                        0xFFFF)), r.randrange(
-        3), r.randbytes(r.choice((0, 4, 12, 70)))
+    source, target = own + u16(r.choice((851, 851, 32905))), net_of(r.choice((*nets, "5.1.2.3.1.1"))) + u16(r.choice((
+        851, 851, 32905)))
+    command, flags, invoke, payload = r.choice((2, 2, 2, 4, 8, 9, 0, 65535)), r.choice(
+        (4, 4, 4, 4, 5, 0, 0xFFFF)), r.randrange(3), r.randbytes(r.choice((0, 4, 12, 70)))
     asked = [wanted for _, to, wanted in machine.asked if to is conn]
     if asked and r.random() < 0.6:
         target, source, command, invoke = r.choice(asked)
@@ -703,9 +698,8 @@ def call(r, d):
     if kind == "record":
         names = {it.lower(): it for it in (name, *(any_case(r, it["name"])
                                                    for it in r.sample(symbols, min(len(symbols), r.randrange(3)))))}
-        return [kind, list(names.values()), mode, cycle, some, "it.samples"], ["--mode", mode, "--cycle", str(cycle),
-                                                                               "--count", str(some), "--store",
-                                                                               "it.samples", "--", *names.values()]
+        return [kind, list(names.values()), mode, cycle, some, "it.samples"], [
+            "--mode", mode, "--cycle", str(cycle), "--count", str(some), "--store", "it.samples", "--", *names.values()]
     if kind == "watch":
         return [kind, name, mode, cycle, some], ["--mode", mode, "--cycle", str(cycle), "--count", str(some), "--",
                                                  name]
@@ -924,8 +918,8 @@ def keep(to, name, seed, said, folder):
 
 def kinds_of_ads(program, folder):
     """The kinds of runs of `ads`: a name, what plays one, and how many go to a seed."""
-    relays, keeps = has(program, folder, "relay", "no.toml", "no.script"), has(program, folder, "keep", "no.toml",
-                                                                               "no.script", "no.store")
+    relays, keeps = has(program, folder, "relay", "no.toml",
+                        "no.script"), has(program, folder, "keep", "no.toml", "no.script", "no.store")
     left_out = {*(() if relays else ("relays", "relayed")), *(() if keeps else ("kept",))}
     kinds = [("replays", one_replay, 1), ("relays", one_relay, 1), ("kept", one_kept, 1), ("served", one_served, 1),
              ("relayed", one_relayed, 1), ("peers", one_peer, 8), ("damaged", one_damaged, 1)]

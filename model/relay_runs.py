@@ -72,9 +72,8 @@ def run(said, events, plant="relay.toml"):
     head = [f"# {line}" for line in said.splitlines()] + [f"words relay {plant} it.script", f"file {plant}",
                                                           f"from {plant}", "file it.script"]
     script = [line for event in events for line in lines_of(event)]
-    return "\n".join(head + script + ["status 0", "out"] + [f"| {line}"
-                                                            for line in protocol.relayed(d,
-                                                                                         events).splitlines()]) + "\n"
+    return "\n".join(head + script + ["status 0", "out"] + [
+        f"| {line}" for line in protocol.relayed(d, events).splitlines()]) + "\n"
 
 
 def wire(said, events, fails=0, cuts=(), puts=None, limit=1000):

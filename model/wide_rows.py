@@ -35,8 +35,8 @@ def added(number, handle):
 
 
 def stamp(moment, *samples):
-    stamps = u32(1) + moment.to_bytes(8, "little") + u32(len(samples)) + b"".join(u32(handle) + u32(len(data)) + data
-                                                                                  for handle, data in samples)
+    stamps = u32(1) + moment.to_bytes(8, "little") + u32(len(samples)) + b"".join(u32(handle) + u32(len(
+        data)) + data for handle, data in samples)
     return framed(net_of(ME) + u16(OWN_PORT), net_of(NET) + u16(PORT), 8, 4, 0, 0, u32(len(stamps)) + stamps)
 
 
@@ -297,26 +297,19 @@ def types():
               (typed(3, b"STRING(65534)"), given(3, entry(65535, 30, b"STRING(65534)"), 9)))
     yield row("An array has its element's text and id, and its bounds.",
               (typed(1, b"ARRAY [1..3] OF Axis\0"), given(1, entry(48, 65, b"ARRAY [1..3] OF Axis", b"Axis", (1, 3)),
-                                                          9)),
-              (typed(2, b"array [-1..0,0..2,5..5] of int"), given(2,
-                                                                  entry(12, 2, b"ARRAY [-1..0,0..2,5..5] OF INT",
-                                                                        b"INT", (-1, 2), (0, 3), (5, 1)), 9)),
+                                                          9)), (typed(2, b"array [-1..0,0..2,5..5] of int"), given(
+        2, entry(12, 2, b"ARRAY [-1..0,0..2,5..5] OF INT", b"INT", (-1, 2), (0, 3), (5, 1)), 9)),
               (typed(3, b"ARRAY [-2147483648..-2147483648] OF STRING(7)"),
                given(3, entry(8, 30, b"ARRAY [-2147483648..-2147483648] OF STRING(7)", b"STRING(7)", (-2147483648, 1)),
                      9)))
-    yield row("An array of 1,048,576 bytes is one, of more it is none.",
-              (typed(1, b"ARRAY [0..1048575] OF BYTE"), given(1,
-                                                              entry(1048576, 17, b"ARRAY [0..1048575] OF BYTE", b"BYTE",
-                                                                    (0, 1048576)), 9)),
-              (typed(2, b"ARRAY [0..1048576] OF BYTE"), refused(2, 0x710, 9)),
+    yield row("An array of 1,048,576 bytes is one, of more it is none.", (
+        typed(1, b"ARRAY [0..1048575] OF BYTE"), given(1, entry(1048576, 17, b"ARRAY [0..1048575] OF BYTE", b"BYTE", (
+        0, 1048576)), 9)), (typed(2, b"ARRAY [0..1048576] OF BYTE"), refused(2, 0x710, 9)),
               (typed(3, b"ARRAY [0..524288] OF INT"), refused(3, 0x710, 9)),
               (typed(4, b"ARRAY [-2147483648..2147483647,-2147483648..2147483647,-2147483648..2147483647] OF Axis"),
-               refused(4, 0x710, 9)),
-              (typed(5, b"ARRAY [0..65535] OF Axis"), given(5,
-                                                            entry(1048576, 65, b"ARRAY [0..65535] OF Axis", b"Axis",
-                                                                  (0, 65536)), 9)), (typed(6,
-                                                                                           b"ARRAY [0..65536] OF Axis"),
-                                                                                     refused(6, 0x710, 9)))
+               refused(4, 0x710, 9)), (typed(5, b"ARRAY [0..65535] OF Axis"),
+                                       given(5, entry(1048576, 65, b"ARRAY [0..65535] OF Axis", b"Axis", (0, 65536)),
+                                             9)), (typed(6, b"ARRAY [0..65536] OF Axis"), refused(6, 0x710, 9)))
     for number, text in enumerate((b"Nothing\0", b"", b"\0Axis", b"Axis ", b".Axis", b"ARRAY", b"STRING(65535)",
                                    b"STRING(07)", b"STRING()", b"ARRAY [3..1] OF INT", b"ARRAY [0..1]OF INT",
                                    b"ARRAY [0..1,0..1,0..1,0..1] OF INT", b"ARRAY [] OF INT",

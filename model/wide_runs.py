@@ -230,8 +230,8 @@ def with_router(r, event):
 def one_daemon(program, seed, folder, has):
     """Random clients of the daemon, in one of its profiles, one event behind another; what differs, or None."""
     r = random.Random(seed)
-    d, profile, others = without_signals(random_runs.description(r)), r.choice(("wide", "wide",
-                                                                                "strict")), r.choice(has.others)
+    d, profile, others = without_signals(random_runs.description(r)), r.choice(("wide", "wide", "strict")), r.choice(
+        has.others)
     # (samples, ticks and reloads come by the clock)
     events = [event for event in random_runs.script(r, d, notes=False) if event[0] in ("open", "bytes", "close")]
     events = [more for event in events for more in with_router(r,

@@ -11,7 +11,7 @@ import time
 import typing
 
 from ams import ME, area, request
-from under_test import PLANT, connected, free_port, next_frame
+from under_test import PLANT, connected, expect, free_port, next_frame
 
 BLOCKED = {signal.SIGTERM, signal.SIGINT, signal.SIGHUP}
 SUMMARY = re.compile(r"connections \d+ requests (\d+) replies (\d+) samples \d+ reloads \d+ \d+\n")
@@ -19,18 +19,9 @@ TRIES = {}
 COUNTS = {"kills": 12}
 
 
-class Failed(Exception):
-    """A try saw something else than it is to see."""
-
-
 def tried(function):
     TRIES[function.__name__] = function
     return function
-
-
-def expect(holds, what):
-    if not holds:
-        raise Failed(what)
 
 
 def reading(number, me=ME):

@@ -21,14 +21,11 @@ sys.dont_write_bytecode = True
 sys.path[1:1] = [f"{sys.path[0]}/../{room}" for room in ("model", "tools")]
 import hostile  # noqa: E402
 import store  # noqa: E402
+from under_test import Differs, wanted  # noqa: E402
 
 FAULT = (14, "ads: store fault\n")
 EVENTS = [("open", 1), ("bytes", 1, hostile.read(1, 0x4040, 72, 8)), ("tick", 1),
           ("bytes", 1, hostile.write(2, 0x4040, 72, b"\x55")), ("tick", 2)]
-
-
-class Differs(Exception):
-    pass
 
 
 def written(folder):
@@ -88,11 +85,6 @@ def cut(program, folder):
         like_the_model(program, folder, f"{len(more)} bytes more", good + more)
         tried += 1
     return f"ok, {tried} files"
-
-
-def wanted(what, came, should):
-    if came != should:
-        raise Differs(f"{what}: {came}, wanted {should}")
 
 
 def no_files(program, folder):

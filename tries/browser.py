@@ -3,12 +3,13 @@ import base64
 import json
 import os
 import shutil
-import socket
 import subprocess
 import tempfile
 import time
 import urllib.error
 import urllib.request
+
+from under_test import free_port
 
 DRIVERS, BROWSERS = ("chromedriver",), ("chromium", "chromium-browser", "google-chrome")
 KEYS = {"Enter": "\ue007", "Space": " ", "Escape": "\ue00c", "Tab": "\ue004", "Down": "\ue015", "Up": "\ue013",
@@ -33,9 +34,7 @@ class Driver:
 
     def __init__(self):
         program = found(DRIVERS)
-        with socket.socket() as it:
-            it.bind(("127.0.0.1", 0))
-            self.port = it.getsockname()[1]
+        self.port = free_port()
         self.folder, self.sessions = tempfile.mkdtemp(prefix="page-browser-"), []
         self.process = subprocess.Popen([program, f"--port={self.port}", "--log-level=OFF"], stdin=subprocess.DEVNULL,
                                         stdout=subprocess.DEVNULL,

@@ -23,6 +23,7 @@ sys.path.insert(1, f"{sys.path[0]}/../tools")
 from tries.closed import CLOSED, PLANT, SCENES, WATCH, Heard, Runs, over_the_daemon, run, short  # noqa: E402
 from tries.of_program import daemon_of  # noqa: E402
 from tries.running import Wrong, free_port  # noqa: E402
+from under_test import ADS  # noqa: E402
 
 
 def ports(program, folder):
@@ -73,7 +74,7 @@ def named(it, command, place, why):
 
 def main():
     words = argparse.ArgumentParser(description=__doc__.splitlines()[0])
-    words.add_argument("program", nargs="?", default=str(ROOT / "crates/ads/out/ads"))
+    words.add_argument("program", nargs="?", default=ADS)
     words.add_argument("--scene", default="", help="only scenes whose names have this word")
     told = words.parse_args()
     program, wrong = os.path.abspath(told.program), 0

@@ -32,11 +32,9 @@ import daemon_ends  # noqa: E402, F401
 import daemon_files  # noqa: E402, F401
 import daemon_store  # noqa: E402, F401
 import store_file  # noqa: E402, F401
-from adsd import (  # noqa: E402
-    COUNTS, SUMMARY, TRIES, Daemon, Failed, expect, in_order, reading, reply, tried, waits_for,
-)
+from adsd import COUNTS, SUMMARY, TRIES, Daemon, in_order, reading, reply, tried, waits_for  # noqa: E402
 from ams import request, u32  # noqa: E402
-from under_test import PLANT  # noqa: E402
+from under_test import PLANT, Differs, expect  # noqa: E402
 
 @tried
 def stop_at_start(program):
@@ -433,7 +431,7 @@ def main():
     for name in names:
         try:
             print(f"{name}: {TRIES[name](program)}", flush=True)
-        except (Failed, OSError, subprocess.TimeoutExpired) as fault:
+        except (Differs, OSError, subprocess.TimeoutExpired) as fault:
             failed += 1
             print(f"{name}: FAILED, {fault}", flush=True)
     print(f"{len(names) - failed} passed, {failed} failed")

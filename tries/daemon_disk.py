@@ -12,10 +12,10 @@ import subprocess
 import tempfile
 import time
 
-from adsd import Daemon, expect, reply, tried
+from adsd import Daemon, reply, tried
 from ams import request, watched
 from daemon_store import kept_in_order, read_title, title_of, write_title
-from under_test import free_port, preload
+from under_test import expect, free_port, preload
 
 SAVED = re.compile(r"saved (\d+), \d+ bytes, (\d+) ms")
 BEAT = 0.01

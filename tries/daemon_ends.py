@@ -2,7 +2,8 @@
 import functools
 import os
 
-from adsd import Failed, tried
+from adsd import tried
+from under_test import Differs
 
 from tries import daemons
 from tries.running import Wrong
@@ -15,7 +16,7 @@ def registered(which):
         try:
             return daemons.scene(program, ads, which)
         except Wrong as wrong:
-            raise Failed(str(wrong)) from None
+            raise Differs(str(wrong)) from None
     tried(call)
 
 

@@ -12,9 +12,9 @@ import subprocess
 import tempfile
 import time
 
-from adsd import Daemon, expect, in_order, reading, reply, tried, until
+from adsd import Daemon, in_order, reading, reply, tried, until
 from daemon_store import title_of, write_title
-from under_test import PLANT, free_port
+from under_test import PLANT, expect, free_port
 
 TEXT = pathlib.Path(PLANT).read_text()
 NOBODY = 65534

@@ -16,9 +16,9 @@ import time
 
 import killed
 import store
-from adsd import COUNTS, Daemon, expect, reading, reply, tried, until
+from adsd import COUNTS, Daemon, reading, reply, tried, until
 from ams import area, request, u32
-from under_test import free_port
+from under_test import expect, free_port
 
 TITLE = 72                        # the place of Main.title in examples/plant.toml, a STRING(7) that is persistent
 KEPT = re.compile(r"connections \d+ requests \d+ replies \d+ samples \d+ reloads \d+ \d+\nsaved (\d+)\n")

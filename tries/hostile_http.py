@@ -27,6 +27,7 @@ import held  # noqa: E402
 from tries import page_http  # noqa: E402
 from tries.paged import PLANT, Page, Rig, Stream  # noqa: E402
 from tries.running import Served, Wrong, see  # noqa: E402
+from under_test import ADS  # noqa: E402
 
 MOST_GROWN, TOGETHER = 32768, 50
 
@@ -183,7 +184,7 @@ def tried(program, times):
 
 def main():
     it = argparse.ArgumentParser(description=__doc__, formatter_class=argparse.RawDescriptionHelpFormatter)
-    it.add_argument("program", nargs="?", default=str(ROOT / "crates/ads/out/ads"), type=os.path.abspath)
+    it.add_argument("program", nargs="?", default=ADS, type=os.path.abspath)
     it.add_argument("--times", type=int, default=20)
     it.add_argument("--short", action="store_true")
     given = it.parse_args()

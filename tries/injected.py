@@ -60,7 +60,7 @@ import store  # noqa: E402
 from tries.fake_plant import FakePlant  # noqa: E402
 from tries.history_checks import of_sqlite, sound  # noqa: E402
 from tries.running import ME, NET, Wrong  # noqa: E402
-from under_test import free_port  # noqa: E402
+from under_test import Differs, expect, free_port  # noqa: E402
 
 CALLS = ("openat", "write", "pwrite64", "fsync", "fdatasync", "link", "linkat", "rename", "renameat", "renameat2",
          "ftruncate", "truncate", "unlink", "unlinkat")
@@ -68,15 +68,6 @@ FAULTS = {"EIO": "error=EIO:when={}", "KILL": "signal=KILL:when={}", "ENOSPC": "
           "EIO from there on": "error=EIO:when={}+"}
 SHORT = ("EIO", "KILL")
 HISTORY = os.path.join(HERE, "..", "tools", "history.py")
-
-
-class Differs(Exception):
-    pass
-
-
-def see(holds, what):
-    if not holds:
-        raise Differs(what)
 
 
 class Spot:
@@ -132,9 +123,8 @@ class Kinds(store.Disk):
         super().call(write)
         before = self.kinds[-1][0] if self.kinds else ""
         opening = {1: ["openat", "openat", "fsync"], 2: ["fsync"]}
-        self.kinds.append(("write", ["write"]) if write else ("",
-                                                              opening.get(self.calls, ["fsync"] if before == "write"
-                                                                          else [])))
+        self.kinds.append(("write", ["write"]) if write else ("", opening.get(self.calls, [
+            "fsync"] if before == "write" else [])))
 
     def system(self):
         """The calls of the system, each with the number of the disk's call that makes it."""
@@ -166,18 +156,19 @@ class Keep:
         kinds = Kinds(self.before)
         store.kept(hostile.PLANT, hostile.SIGNALS, self.events, kinds)
         if not spot.call:
-            see([call for _, call in spot.calls(it)] == [call for call, _ in kinds.system()],
+            expect([call for _, call in spot.calls(it)] == [call for call, _ in kinds.system()],
                 f"its calls are {spot.calls(it)}, and not those of the model")
         at = [number for call, number in kinds.system() if call == spot.call][spot.at - 1] if spot.call else 0
         disk = store.Disk(self.before, () if spot.is_kill or not spot.call else (at,),
                           (at, b"") if spot.is_kill else None)
         status, text, _ = store.kept(hostile.PLANT, hostile.SIGNALS, self.events, disk)
         status, text = (-signal.SIGKILL, "") if spot.is_kill else (status, text)
-        see((it.returncode, out) == (status, text), f"status {it.returncode} and {out[-100:]!r}, and not {status} and "
+        expect((it.returncode, out) == (status, text), f"status {it.returncode} and {out[-100:]!r}, and not {status} "
+               f"and "
             f"{text[-100:]!r}")
         left = killed.read(spot.folder / "store")
         stands, wanted = store.standing_of(left), store.standing_of(disk.file)
-        see(stands == wanted, f"the file stands for {stands}, and not for {wanted}")
+        expect(stands == wanted, f"the file stands for {stands}, and not for {wanted}")
         self.again(spot, left)
         return f"status {status}"
 
@@ -185,9 +176,10 @@ class Keep:
         disk = store.Disk(left)
         status, text, bodies = store.kept(hostile.PLANT, hostile.SIGNALS, self.events, disk)
         it, out = self.ran(spot.folder)
-        see((it.returncode, out) == (status, text), f"the next run ends with {it.returncode} and {out[-100:]!r}, and "
+        expect((it.returncode, out) == (status, text), f"the next run ends with {it.returncode} and {out[-100:]!r}, "
+               f"and "
             f"not with {status} and {text[-100:]!r}")
-        see(store.standing_of(killed.read(spot.folder / "store"))[2] == bodies[-1],
+        expect(store.standing_of(killed.read(spot.folder / "store"))[2] == bodies[-1],
             "the file of the next run stands for another body than its last")
 
 
@@ -241,13 +233,13 @@ class Run:
             if self.link:
                 self.link.sendall(request(command, number, payload))
                 got = adsd.reply(self.link)
-        see(got is None or got[0] == number and got[1][:4] == bytes(4), f"a request was answered by {got!r}")
+        expect(got is None or got[0] == number and got[1][:4] == bytes(4), f"a request was answered by {got!r}")
         return got and got[1][4:]
 
     def write(self, number):
         """One request gives all symbols this number."""
-        return self.ask(number, 3, struct.pack("<III", 0x4040, 0, 4 * PARTS) + struct.pack("<I",
-                                                                                           number) * PARTS) is not None
+        return self.ask(number, 3, struct.pack("<III", 0x4040, 0,
+                                               4 * PARTS) + struct.pack("<I", number) * PARTS) is not None
 
     def read(self):
         got = self.ask(1, 2, struct.pack("<III", 0x4040, 0, 4 * PARTS))
@@ -275,7 +267,7 @@ def values_in(folder):
 
 def one_moment(values):
     """The number that all values have; 0 where nothing stands."""
-    see(len(set(values.values())) <= 1 and len(values) in (0, PARTS),
+    expect(len(set(values.values())) <= 1 and len(values) in (0, PARTS),
         f"the store has values of more than one moment: {values}")
     return next(iter(values.values()), 0)
 
@@ -308,7 +300,7 @@ class Adsd:
             if len(run.lines("saved ")) > before:
                 saved = number
             elif not self.stands_anyway(run, spot, number):
-                see(run.it.process.poll() is not None or spot.goes_on,
+                expect(run.it.process.poll() is not None or spot.goes_on,
                     f"{number} was written, and not saved in 30 seconds: {run.lines('')[-3:]}")
         return number, saved
 
@@ -320,26 +312,27 @@ class Adsd:
 
     def judged(self, run, spot, status, number, saved):
         stands, was_hit = one_moment(values_in(spot.folder)), spot.is_hit(run.it.process)
-        see(saved <= stands <= number, f"the store has {stands}, where {saved} was saved and {number} was written last")
+        expect(saved <= stands <= number, f"the store has {stands}, where {saved} was saved and {number} was written "
+               f"last")
         if not was_hit or spot.is_kill:
             is_right = status == (-signal.SIGKILL if was_hit else 0) and (was_hit or stands == number)
-            see(is_right, f"status {status}, and {stands} stands, where {number} was written")
+            expect(is_right, f"status {status}, and {stands} stands, where {number} was written")
             return "killed" if was_hit else "as usual"
-        see(status in (0, 14), f"status {status}: {run.lines('')[-3:]}")
+        expect(status in (0, 14), f"status {status}: {run.lines('')[-3:]}")
         if not run.listens:
-            see(status == 14 and run.lines(""), f"it ends before it listens, with {status} and {run.lines('')}")
+            expect(status == 14 and run.lines(""), f"it ends before it listens, with {status} and {run.lines('')}")
             return "status 14 at the start"
         faults = re.search(r"^adsd_store_faults_total (\d+)$", (spot.folder / "status.prom").read_text(), re.M)
         if status == 14:
-            see(run.lines("store fault"), f"status 14, and the log says {run.lines('')}")
+            expect(run.lines("store fault"), f"status 14, and the log says {run.lines('')}")
             return "store fault, status 14"
-        see(stands == number, f"status 0, and {stands} stands, where {number} was written")
+        expect(stands == number, f"status 0, and {stands} stands, where {number} was written")
         if not run.lines("store fault"):
             return "saved as usual"
-        see(faults and int(faults[1]) > 0, f"{faults and faults[0]}, and the log says {run.lines('store')}")
+        expect(faults and int(faults[1]) > 0, f"{faults and faults[0]}, and the log says {run.lines('store')}")
         if saved < number and not run.lines("the store takes saves"):
             return "store fault, counted, and the failed save stands"
-        see(run.lines("the store takes saves"), f"the log says {run.lines('store')}")
+        expect(run.lines("the store takes saves"), f"the log says {run.lines('store')}")
         return "store fault, counted, saved later"
 
     def again(self, spot, number):
@@ -347,11 +340,11 @@ class Adsd:
         stands = one_moment(values_in(spot.folder))
         with contextlib.ExitStack() as stack:
             run = Run(stack, self.program, spot.folder)
-            see(run.listens and run.read() == [stands] * PARTS,
+            expect(run.listens and run.read() == [stands] * PARTS,
                 f"the next start does not serve what stands, {stands}: {run.lines('')}")
             run.write(number + 1)
             status, _ = run.stopped()
-        see(status == 0 and one_moment(values_in(spot.folder)) == number + 1,
+        expect(status == 0 and one_moment(values_in(spot.folder)) == number + 1,
             f"the next run ends with {status} and leaves {values_in(spot.folder)}")
 
 
@@ -364,7 +357,7 @@ class Gone(Adsd):
         with tempfile.TemporaryDirectory() as folder, contextlib.ExitStack() as stack:
             run = Run(stack, program, pathlib.Path(folder))
             run.write(self.OLD)
-            see(run.stopped()[0] == 0, "the run that makes the store does not end with 0")
+            expect(run.stopped()[0] == 0, "the run that makes the store does not end with 0")
             self.before = killed.read(pathlib.Path(folder, "kept"))
 
     def go(self, spot):
@@ -376,21 +369,21 @@ class Gone(Adsd):
             status, _ = run.stopped()
             was_hit = spot.is_hit(run.it.process)
             ends = (-signal.SIGKILL,) if was_hit and spot.is_kill else (0, 14) if was_hit else (0,)
-            see(status in ends, f"status {status}: {run.lines('')[-3:]}")
+            expect(status in ends, f"status {status}: {run.lines('')[-3:]}")
             return f"status {status}, {self.kept(spot, run)}"
 
     def kept(self, spot, run):
         """Where the old value is."""
         values, copies = values_in(spot.folder), [killed.read(path) for path in spot.folder.glob("kept.before-*")]
         stood = store.standing_of(self.before)
-        see(all(store.standing_of(copy) == stood for copy in copies),
+        expect(all(store.standing_of(copy) == stood for copy in copies),
             f"the copies, of {[len(copy) for copy in copies]} bytes, are not what stood")
-        see(len(copies) <= 1 or spot.fault, f"one change made {len(copies)} copies")
-        see(all(value == self.OLD for name, value in values.items() if name != "Kept.b0")
+        expect(len(copies) <= 1 or spot.fault, f"one change made {len(copies)} copies")
+        expect(all(value == self.OLD for name, value in values.items() if name != "Kept.b0")
             and values.get("Kept.b0", 0) == 0, f"the store has {values}")
         if values.get("Kept.a0") == self.OLD:
             return "in the store"
-        see(copies, f"the old value is lost, and the log says {run.lines('')}")
+        expect(copies, f"the old value is lost, and the log says {run.lines('')}")
         return "in the copy"
 
 
@@ -401,18 +394,18 @@ class StatusFile(Adsd):
     def go(self, spot):
         with contextlib.ExitStack() as stack:
             run = Run(stack, self.program, spot.folder, spot.words("status.prom", "status.prom.new"), more=())
-            see(run.listens or spot.is_kill, f"it does not listen: {run.lines('')}")
+            expect(run.listens or spot.is_kill, f"it does not listen: {run.lines('')}")
             for _ in range(10):
-                see(run.read() is not None or spot.is_kill, "it does not serve")
+                expect(run.read() is not None or spot.is_kill, "it does not serve")
                 time.sleep(0.1)
             status, _ = run.stopped()
             was_hit, file = spot.is_hit(run.it.process), spot.folder / "status.prom"
-            see(status == (-signal.SIGKILL if was_hit and spot.is_kill else 0),
+            expect(status == (-signal.SIGKILL if was_hit and spot.is_kill else 0),
                 f"status {status}: {run.lines('')[-3:]}")
             text = file.read_text() if file.exists() else None
-            see(text is None or re.search(r"^adsd_log_lines_lost_total \d+\n\Z", text, re.M),
+            expect(text is None or re.search(r"^adsd_log_lines_lost_total \d+\n\Z", text, re.M),
                 f"a part of the status file stands there: {text!r}")
-            see(was_hit or text is not None, "no status file was written")
+            expect(was_hit or text is not None, "no status file was written")
         return f"status {status}, {'a whole file' if text else 'no file'}"
 
 
@@ -438,7 +431,7 @@ class Record:
             for _ in range(1 + is_on_top):
                 self.stood, self.before = self.rows_in(pathlib.Path(folder)), killed.read(pathlib.Path(folder, "it.db"))
                 it, self.usual = self.ran(pathlib.Path(folder))
-                see(it.returncode == 0, f"a recording ends with {it.returncode}")
+                expect(it.returncode == 0, f"a recording ends with {it.returncode}")
             self.rows = self.rows_in(pathlib.Path(folder))
 
     def ran(self, folder, words=()):
@@ -457,7 +450,7 @@ class Record:
                 return recorded.whole(copied(folder, self.FILES, os.path.join(to, "copy")))
             except sqlite3.DatabaseError as fault:
                 is_begun = not self.stood and killed.read(folder / "it.db")[:15] == b"\0QLite format 3"
-                see("no such table" in str(fault) or is_begun, f"the file is not whole: {fault}")
+                expect("no such table" in str(fault) or is_begun, f"the file is not whole: {fault}")
                 return []
 
     def go(self, spot):
@@ -468,15 +461,16 @@ class Record:
         # One that is killed has printed nothing, or all where it was killed at its last calls, and then all rows stand.
         ends = {(0, self.usual)} | ({(-signal.SIGKILL, ""), (-signal.SIGKILL, self.usual)} if spot.is_kill
                                     else {(16, "ads: keeper fault\n")} if was_hit else set())
-        see((it.returncode, out) in ends, f"status {it.returncode} and {out[-100:]!r}")
-        see(out != self.usual or rows == self.rows, f"all was printed of {len(rows)} rows of {len(self.rows)}")
-        see(len(self.stood) <= len(rows) and rows == self.rows[:len(rows)],
+        expect((it.returncode, out) in ends, f"status {it.returncode} and {out[-100:]!r}")
+        expect(out != self.usual or rows == self.rows, f"all was printed of {len(rows)} rows of {len(self.rows)}")
+        expect(len(self.stood) <= len(rows) and rows == self.rows[:len(rows)],
             f"{len(rows)} rows, where {len(self.stood)} stood: {rows[-2:]}")
-        see(it.returncode or rows == self.rows, f"status 0 and {len(rows)} rows of {len(self.rows)}")
+        expect(it.returncode or rows == self.rows, f"status 0 and {len(rows)} rows of {len(self.rows)}")
         again, out = self.ran(spot.folder)
-        see(again.returncode == 0, f"the next run ends with {again.returncode} and {out[-100:]!r}")
+        expect(again.returncode == 0, f"the next run ends with {again.returncode} and {out[-100:]!r}")
         fresh = [(len(rows) + k, *row[1:]) for k, row in enumerate(self.rows[len(self.stood):], 1)]
-        see(self.rows_in(spot.folder) == rows + fresh, "the rows of the next run do not stand behind those that stood")
+        expect(self.rows_in(spot.folder) == rows + fresh, "the rows of the next run do not stand behind those that "
+               "stood")
         return f"status {it.returncode}, {'all' if rows == self.rows else 'no' if rows == self.stood else 'some'} rows"
 
 
@@ -490,7 +484,7 @@ class History:
         given = [*words, sys.executable, HISTORY, *given, "--seconds", str(self.SECONDS)]
         it = subprocess.Popen(given, cwd=spot.folder, stdout=subprocess.PIPE, stderr=subprocess.PIPE)
         out, err = it.communicate(timeout=120)
-        see(b"Traceback" not in err, err.decode()[-500:])
+        expect(b"Traceback" not in err, err.decode()[-500:])
         return it, out.decode(), err.decode()
 
     def read(self, spot):
@@ -499,10 +493,10 @@ class History:
             path = copied(spot.folder, self.FILES, os.path.join(to, "copy"))
             try:
                 with contextlib.closing(sqlite3.connect(path)) as base:
-                    see(base.execute("PRAGMA integrity_check").fetchone() == ("ok",), "the file is not whole")
+                    expect(base.execute("PRAGMA integrity_check").fetchone() == ("ok",), "the file is not whole")
                 history = of_sqlite(path)[0]
             except sqlite3.OperationalError as fault:
-                see("no such table" in str(fault) or not path.exists(), f"the file is not whole: {fault}")
+                expect("no such table" in str(fault) or not path.exists(), f"the file is not whole: {fault}")
                 return {}
         sound(history)
         return history
@@ -513,11 +507,11 @@ class History:
             was_hit, history = spot.is_hit(it), self.read(spot)
             seen = self.judged(spot, was_hit, it.returncode, out, err, history)
             again, out, err = self.ran(spot, plant)
-            see(again.returncode == 0, f"the next run ends with {again.returncode}: {err[-300:]}")
+            expect(again.returncode == 0, f"the next run ends with {again.returncode}: {err[-300:]}")
             after = self.read(spot)
         for key, (rows, _) in history.items():
-            see(after[key][0][:len(rows)] == rows, f"{key}: rows that stood are gone")
-        see(all(rows for rows, _ in after.values()) and len(after) == 4,
+            expect(after[key][0][:len(rows)] == rows, f"{key}: rows that stood are gone")
+        expect(all(rows for rows, _ in after.values()) and len(after) == 4,
             f"the next run recorded {[len(rows) for rows, _ in after.values()]}")
         return seen
 
@@ -525,14 +519,14 @@ class History:
     def judged(spot, was_hit, status, out, err, history):
         rows = sum(len(rows) for rows, _ in history.values())
         if was_hit and spot.is_kill:
-            see(status == -signal.SIGKILL, f"status {status}")
+            expect(status == -signal.SIGKILL, f"status {status}")
             return "killed"
         if status == 0:
-            see(out == f"recorded {rows} samples\n" and rows, f"it says {out!r}, and {rows} are there")
+            expect(out == f"recorded {rows} samples\n" and rows, f"it says {out!r}, and {rows} are there")
             gaps = sum(len(gaps) for _, gaps in history.values())
-            see(not gaps, f"{gaps} gaps")
+            expect(not gaps, f"{gaps} gaps")
             return "status 0, held and written later" if "takes samples again" in err else "status 0, all written"
-        see(was_hit and status == 16 and "it.db" in err, f"status {status}: {err[-300:]}")
+        expect(was_hit and status == 16 and "it.db" in err, f"status {status}: {err[-300:]}")
         return "status 16, told"
 
 
@@ -546,7 +540,7 @@ def tried(scene, call, fault, at):
             spot = Spot(folder, call, fault, at)
             seen = scene.go(spot)
             return "not reached" if spot.missed else seen
-        except (Differs, Wrong, adsd.Failed, recorded.Differs, OSError, ValueError, sqlite3.Error,
+        except (Differs, Wrong, OSError, ValueError, sqlite3.Error,
                 subprocess.SubprocessError) as why:
             return f"WRONG: {type(why).__name__}: {why}"
 

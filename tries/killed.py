@@ -24,6 +24,7 @@ sys.dont_write_bytecode = True
 sys.path[1:1] = [f"{sys.path[0]}/../{room}" for room in ("model", "tools")]
 import hostile  # noqa: E402
 import store  # noqa: E402
+from under_test import Differs  # noqa: E402
 
 PLANT = os.path.join(hostile.DATA, "plant.toml")
 
@@ -45,10 +46,6 @@ def read(path):
             return it.read()
     except FileNotFoundError:
         return b""
-
-
-class Differs(Exception):
-    pass
 
 
 def is_stopped(process):

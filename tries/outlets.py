@@ -32,6 +32,7 @@ from lib.history_postgres import driver  # noqa: E402
 from tries.fake_plant import FakePlant  # noqa: E402
 from tries.history_checks import of_cursor, of_sqlite, sound  # noqa: E402
 from tries.running import ME, NET, PLANT, Served, Wrong, see  # noqa: E402
+from under_test import ADS, FOREVER  # noqa: E402
 
 SERVICES, KINDS = str(ROOT / "tries/services.sh"), ("DINT", "LREAL", "UDINT", "REAL")
 HOSTILE = ["a'b", 'a"b', "a;DROP TABLE sample;--", "a\\b", "a\tb", "a b", "a,b=c", "a/b/+/#", "$SYS", "%s%(x)s{}",
@@ -311,13 +312,13 @@ def real(program, store, folder):
         it = recorder(At, store.fresh(), names=("Main.*", "Main.axis[2].pos"))
         begun(it)
         time.sleep(3)
-        text = place.read_text().replace('name = "Main.limit"', 'name = "Main.other"').replace("offset = 0\ninitial",
-                                                                                               "offset = 100\ninitial")
+        text = place.read_text().replace('name = "Main.limit"',
+                                         'name = "Main.other"').replace("offset = 0\ninitial", "offset = 100\ninitial")
         (folder / "new.toml").write_text(text)
         os.replace(folder / "new.toml", place)
         time.sleep(6)
     time.sleep(1)
-    again = subprocess.Popen([program, "serve", str(place), "--listen", server.to, "--events", "18446744073709551615"],
+    again = subprocess.Popen([program, "serve", str(place), "--listen", server.to, "--events", FOREVER],
                              stdout=subprocess.DEVNULL)
     time.sleep(6)
     ended(it, "the recorder")
@@ -380,7 +381,7 @@ def scenes(given, program, folder, at, r):
 
 def main():
     given = argparse.ArgumentParser(description=__doc__, formatter_class=argparse.RawDescriptionHelpFormatter)
-    given.add_argument("program", nargs="?", default=str(ROOT / "crates/ads/out/ads"))
+    given.add_argument("program", nargs="?", default=ADS)
     for name, value in (("--times", 24), ("--seconds", 10), ("--seed", 1)):
         given.add_argument(name, type=int, default=value)
     given.add_argument("--only", default="")

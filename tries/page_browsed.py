@@ -30,6 +30,7 @@ from page_parts import ROW, SAID, Tried, filters, forms, hostile, keyboard, part
 from tries.counting import Counting  # noqa: E402
 from tries.paged import PLANT, READER, Page, Rig, Stream, put  # noqa: E402
 from tries.running import Served, Wrong  # noqa: E402
+from under_test import ADS  # noqa: E402
 
 WRITTEN = ("Main.count", "Main.mode", "Main.limit", "Main.title", "Main.axes[1].pos")
 BAR = "return document.getElementById('bar').innerText.startsWith(arguments[0])"
@@ -67,8 +68,8 @@ def described_anew(it, place):
     """A new description, and the end of the page's own program."""
     it.click("Main.wave")
     with open(PLANT, encoding="utf-8") as file:
-        put(place, file.read().replace('name = "Main.bits"', 'name = "Main.fresh"').replace('name = "Auto"',
-                                                                                            'name = "Running"'))
+        put(place, file.read().replace('name = "Main.bits"',
+                                       'name = "Main.fresh"').replace('name = "Auto"', 'name = "Running"'))
     it.see(it.until(ROW + "return Boolean(row('Main.fresh'))", seconds=40), "a new description builds the table anew",
            it.names())
     it.see("Main.bits" not in it.names(), "without what is gone")
@@ -215,7 +216,7 @@ def measured(page):
 
 def main():
     it = argparse.ArgumentParser(description=__doc__, formatter_class=argparse.RawDescriptionHelpFormatter)
-    it.add_argument("program", nargs="?", default=str(ROOT / "crates/ads/out/ads"), type=os.path.abspath)
+    it.add_argument("program", nargs="?", default=ADS, type=os.path.abspath)
     it.add_argument("--shots", type=os.path.abspath)
     it.add_argument("--cost", action="store_true")
     it.add_argument("--operated", action="store_true")

@@ -32,10 +32,11 @@ sys.dont_write_bytecode = True
 sys.path[1:1] = [f"{sys.path[0]}/../{room}" for room in ("model", "tools")]
 import bad_stores  # noqa: E402
 import recorded  # noqa: E402
-from adsd import Daemon, Failed, expect, waits_for  # noqa: E402
+from adsd import Daemon, waits_for  # noqa: E402
 from daemon_store import read_title, title_of, write_title  # noqa: E402
 from tries.history_checks import of_sqlite, sound  # noqa: E402
 from tries.running import Served, Wrong  # noqa: E402
+from under_test import Differs, expect  # noqa: E402
 
 HISTORY = os.path.join(HERE, "..", "tools", "history.py")
 
@@ -67,8 +68,8 @@ class Disk:
 
 
 def of_adsd(stack, folder, disk, ads, adsd):
-    words, log = ["--store", "disk/kept", "--save-each", "1", "--status", "disk/status.prom"], pathlib.Path(folder,
-                                                                                                            "log")
+    words, log = ["--store", "disk/kept", "--save-each", "1", "--status",
+                  "disk/status.prom"], pathlib.Path(folder, "log")
     it = Daemon(stack, adsd, words, folder=folder, stderr=stack.enter_context(log.open("wb")))
     with it.link() as link:
         write_title(link, 1, title_of(1))
@@ -157,7 +158,7 @@ def main():
             folder = stack.enter_context(tempfile.TemporaryDirectory())
             try:
                 print(f"{name}: ok, {scene(stack, folder, Disk(stack, folder), ads, adsd)}", flush=True)
-            except (Failed, Wrong, recorded.Differs, bad_stores.Differs, OSError, subprocess.SubprocessError,
+            except (Differs, Wrong, OSError, subprocess.SubprocessError,
                     sqlite3.Error) as why:
                 print(f"{name}: WRONG: {why}", flush=True)
                 bad = True

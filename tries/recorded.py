@@ -27,24 +27,15 @@ sys.dont_write_bytecode = True
 sys.path[1:1] = [f"{sys.path[0]}/../{room}" for room in ("model", "tools")]
 from connecting import DATA, Server, read_write  # noqa: E402,F401
 
-ROOT = pathlib.Path(__file__).resolve().parent.parent
 from lib.frames import ADD, DELETE, NOTE, REQUEST, Frame  # noqa: E402
 from tries import of_history  # noqa: E402
 from tries.fake_server import Fake, data, reply, symbol  # noqa: E402
 from tries.running import Wrong  # noqa: E402
+from under_test import ROOT, Differs, wanted  # noqa: E402
 
 PLANT = ROOT / "examples/plant.toml"
 ME = ["--me", "192.168.0.9.1.1"]
 LOCAL = ["--local", str(PLANT), *ME]
-
-
-class Differs(Exception):
-    pass
-
-
-def wanted(what, is_so, should_be):
-    if is_so != should_be:
-        raise Differs(f"{what}: {is_so!r}, wanted {should_be!r}")
 
 
 def rows_of(path):
@@ -130,9 +121,8 @@ def bursts(frames, count, pause=0.0):
     def answer(frame):
         if frame.command == ADD:
             return sent(frame)
-        return reply(frame, bytes(4)) if frame.command == DELETE else data(frame,
-                                                                           symbol(b"Main.count", b"UDINT", 0x4040, 0, 4,
-                                                                                  19))
+        return reply(frame, bytes(4)) if frame.command == DELETE else data(frame, symbol(
+            b"Main.count", b"UDINT", 0x4040, 0, 4, 19))
 
     def sent(frame):
         yield reply(frame, struct.pack("<II", 0, 1))

@@ -69,23 +69,19 @@ def file_of(given):
 
 
 STRICT, KEEPS = ["--profile", "strict"], ["--store", "kept", "--save-each", "1", "--profile", "wide"]
-RUNS = {
-    "adsd: a start, a client's requests and a stop": Run(STRICT, ASKED),
-    "adsd: wide, a router, greater buffers, sums that tell lengths": Run(["--profile", "wide", "--other-routes", "read",
-                                                                          "--status", "status.prom"], WIDE),
-    "adsd: notifications and a second client": Run(STRICT,
-                                                   [("note", add(50, 0x4040, 0, 4)),
-                                                    ("note", add(51, 0x4040, PLACE, 8)), ("another",), state(60)]),
-    "adsd: a store, a start over its values, a write and a stop": Run(KEEPS,
-                                                                      [ask(1, 0xF004, 0, 8, TITLE),
-                                                                       write(2, 0x4040, PLACE, NEW)], 0, file_of(OLD)),
-    "adsd: a store and a save": Run(KEEPS, [write(1, 0x4040, PLACE, NEW), ("save",), state(2)], 1, file_of(OLD)),
-    "adsd: a new description under a handle and a notification": Run(
-        STRICT, [ask(1, 0xF003, 0, 4, NAME), ("note", add(2, 0x4040, PLACE, 8)), ("reload", hostile.PLANT2),
-                 read(3, 0xF005, 1, 4), read(4, 0xF008, 0, 1)], 2),
-    "adsd: a store and a new description": Run(KEEPS, [write(1, 0x4040, PLACE, NEW), ("reload", hostile.PLANT2),
-                                                       state(2)], 1, file_of(OLD)),
-}
+RUNS = {"adsd: a start, a client's requests and a stop": Run(STRICT, ASKED),
+        "adsd: wide, a router, greater buffers, sums that tell "
+        "lengths": Run(["--profile", "wide", "--other-routes", "read", "--status", "status.prom"], WIDE),
+        "adsd: notifications and a second client": Run(STRICT,
+                                                       [("note", add(50, 0x4040, 0, 4)),
+                                                        ("note", add(51, 0x4040, PLACE, 8)), ("another",), state(60)]),
+        "adsd: a store, a start over its values, a write and a "
+        "stop": Run(KEEPS, [ask(1, 0xF004, 0, 8, TITLE), write(2, 0x4040, PLACE, NEW)], 0, file_of(OLD)),
+        "adsd: a store and a save": Run(KEEPS, [write(1, 0x4040, PLACE, NEW), ("save",), state(2)], 1, file_of(OLD)),
+        "adsd: a new description under a handle and a notification": Run(STRICT, [ask(1, 0xF003, 0, 4, NAME), (
+    "note", add(2, 0x4040, PLACE, 8)), ("reload", hostile.PLANT2), read(3, 0xF005, 1, 4), read(4, 0xF008, 0, 1)], 2),
+        "adsd: a store and a new description": Run(KEEPS, [write(1, 0x4040, PLACE, NEW), ("reload", hostile.PLANT2),
+                                                           state(2)], 1, file_of(OLD)),}
 
 
 class Over(Exception):
@@ -101,9 +97,8 @@ class Try:
     `calls` has their number behind each step."""
 
     def __init__(self, program, run, shims, nth=0, on=False):
-        self.program, self.run, self.shims, self.nth, self.on, self.calls, self.clock, self.number = (program, run,
-                                                                                                      shims, nth, on,
-                                                                                                      [], 0, 0)
+        self.program, self.run, self.shims, self.nth, self.on, self.calls, self.clock, self.number = (
+            program, run, shims, nth, on, [], 0, 0)
 
     def tried(self):
         """How it ended; a Wrong where it ended or said otherwise than it may."""

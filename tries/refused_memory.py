@@ -23,7 +23,6 @@ import sys
 import tempfile
 import threading
 
-HERE = os.path.dirname(os.path.abspath(__file__))
 sys.dont_write_bytecode = True
 sys.path[1:1] = [f"{sys.path[0]}/../{room}" for room in ("model", "tools")]
 import hostile  # noqa: E402
@@ -31,8 +30,8 @@ import protocol  # noqa: E402
 import recorded  # noqa: E402
 import store  # noqa: E402
 from hostile import add, ask, head, read, state, sum_of, write  # noqa: E402
+from under_test import ADS, ROOT, Differs, preload  # noqa: E402
 
-PROGRAM = os.path.join(HERE, "..", "crates", "ads", "out", "ads")
 LINE = b"ads: memory\n"
 NAME = b"Main.count"
 RECORD = ["record", "Main.wave", "Main.count", "--mode", "change", "--cycle", "0", "--count", "4", "--store"]
@@ -118,17 +117,10 @@ class Peer(threading.Thread):
             conn.sendall(b"".join(bytes.fromhex(line.split()[2]) for line in lines if line.startswith("out ")))
 
 
-def built(folder, name="fail_nth"):
-    shim = os.path.join(folder, f"{name}.so")
-    subprocess.run(["cc", "-O2", "-shared", "-fPIC", "-o", shim, os.path.join(HERE, f"{name}.c"), "-ldl"], check=True)
-    return shim
-
-
 def written(folder):
     """The files of the runs, and the words of each."""
     for name in ("plant.toml", "plant.script", "state.script", "overlap.toml", "relay.script", "keep.script"):
-        with open(os.path.join(HERE, "..", "examples", name), "rb") as one, open(os.path.join(folder, name),
-                                                                                 "wb") as it:
+        with open(ROOT / "examples" / name, "rb") as one, open(os.path.join(folder, name), "wb") as it:
             it.write(one.read())
     for name in ("plant.toml", "plant2.toml"):
         with open(os.path.join(hostile.DATA, name), "rb") as one, open(os.path.join(folder, "of_data_" + name),
@@ -187,7 +179,7 @@ def records_well(folder, words, before, all_rows):
         return True
     try:
         rows = rows_in(folder, words[words.index("--store") + 1])
-    except (recorded.Differs, sqlite3.Error):
+    except (Differs, sqlite3.Error):
         return False
     return len(rows) >= before and rows == all_rows[:len(rows)]
 
@@ -237,7 +229,7 @@ def fits(status, out, usual):
 
 def main():
     it = argparse.ArgumentParser(description=__doc__, formatter_class=argparse.RawDescriptionHelpFormatter)
-    it.add_argument("--program", default=PROGRAM)
+    it.add_argument("--program", default=ADS)
     it.add_argument("--most", type=int, default=2000)
     it.add_argument("--run", default="", help="only the runs whose name has this word")
     it.add_argument("--adsd")
@@ -248,12 +240,12 @@ def main():
     if given.adsd:
         import refused_daemon  # noqa: PLC0415
         with tempfile.TemporaryDirectory() as folder:
-            shims = [built(folder), built(folder, "set_clocks")]
+            shims = [preload(folder, "tries/fail_nth.c"), preload(folder, "tries/set_clocks.c")]
             return 1 if refused_daemon.main(os.path.abspath(given.adsd), shims, given.most, given.run) else 0
     peer = Peer()
     peer.start()
     with tempfile.TemporaryDirectory() as folder:
-        shim = built(folder)
+        shim = preload(folder, "tries/fail_nth.c")
         subprocess.run([program, *RECORD, "kept_some.db", "--local",
                         os.path.join(hostile.DATA, "..", "..", "..", "examples", "plant.toml"), *LOCAL[2:]], cwd=folder,
                        stdout=subprocess.DEVNULL, check=True)
@@ -271,11 +263,8 @@ def main():
                     one, printed, _ = ran(program, words, folder, shim, nth, on)
                     tried += 1
                     counts[one == 10] += 1
-                    if not fits(one, printed, (status, out)) or not stands_well(folder,
-                                                                                words) or not records_well(folder,
-                                                                                                           words,
-                                                                                                           before,
-                                                                                                           rows):
+                    if not fits(one, printed, (status, out)) or not stands_well(folder, words) or not records_well(
+                        folder, words, before, rows):
                         bad += 1
                         print(f"  {' '.join(words)}, call {nth}{' and all behind it' if on else ''}: status {one}, "
                               f"{len(printed)} bytes", file=sys.stderr)

@@ -13,10 +13,10 @@ import tempfile
 import time
 
 import store
-from adsd import expect, reply, tried, until
+from adsd import reply, tried, until
 from ams import request, u32
 from daemon_store import in_folder, read_title, save, title_of, write_title
-from under_test import PLANT, free_port
+from under_test import PLANT, expect, free_port
 
 WORDS = ["--store", "kept", "--save-each", "1"]
 MOMENT = re.compile(r"kept\.before-\d{8}T\d{6}(?:-[1-9]\d*)?")

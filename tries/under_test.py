@@ -14,6 +14,19 @@ ADS, ADSD = str(ROOT / "crates/ads/out/ads"), str(ROOT / "crates/adsd/out/adsd")
 FOREVER = str(2 ** 64 - 1)
 
 
+class Differs(Exception):
+    """Something is otherwise than it is to be."""
+
+
+def expect(holds, what):
+    if not holds:
+        raise Differs(what)
+
+
+def wanted(what, came, should):
+    expect(came == should, f"{what}: {came!r}, wanted {should!r}")
+
+
 def free_port():
     with socket.socket() as it:
         it.bind(("127.0.0.1", 0))
