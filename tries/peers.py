@@ -421,8 +421,10 @@ SLOW = {reload, silent_longest, vanished}
 def play_scenes(server, scenes, more=""):
     """How many scenes went wrong; a good client asks before and behind each."""
     with server.open() as s:
-        wrong = good(s)
-        return 1 if wrong else play(scenes, lambda scene: scene(server) or good(s), server.process, more)
+        if wrong := good(s):
+            print(f"before the scenes{more}: {wrong}", flush=True)
+            return 1
+        return play(scenes, lambda scene: scene(server) or good(s), server.process, more)
 
 
 def play_all(is_short):
