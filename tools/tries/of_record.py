@@ -276,7 +276,8 @@ def moved(program, folder):
         see((out, status) == FAULT, f"{what}: {out!r}, status {status}")
         see(err == f"ads: {path}: {why}, so nothing more is recorded\n", f"{what}: standard error says {err!r}")
         see(rows is None or numbers_of(at(rows)) == list(range(1, 11)), f"{what}: {rows} has not all rows")
-        see(names is None or sorted(os.listdir(at("here"))) == names, f"{what}: what is left is {sorted(os.listdir(at('here')))}" if names is not None else "")
+        left = None if names is None else sorted(os.listdir(at("here")))
+        see(left == names, f"{what}: what is left is {left}")
         if what == "replaced":
             with open(path, encoding="ascii") as file:
                 see(file.read() == "of another", "the file that replaced the recording does not stay as it is")
