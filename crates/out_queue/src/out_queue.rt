@@ -130,17 +130,6 @@ impl OutQueue {
         Ok(Pushed::Done)
     }
 
-    /// The same for a frame that the caller gives away.
-    pub fn push_owned(&mut self, alloc: Global, frame: Octets) -> Result<Pushed, NoMemory>
-        ensures over { IfOk result (λ pushed. (pushed ≡ Pushed.Over)
-            ↔ (QUEUE_LIMIT < queued self.old + length frame)) }
-        ensures done { result ≡ Ok Pushed.Done → self.new ≡ self.old ++ frame ∷ [] }
-        ensures unchanged { result ≡ Ok Pushed.Over → self.new ≡ self.old }
-        ensures no_memory { OnErr result (self.new ≡ self.old) }
-    {
-        self.push(alloc, frame.as_slice())
-    }
-
     /// What is left of the first frame.
     pub fn front(&self) -> Option<&[u8]>
         ensures empty { IsNone result ↔ (self.now ≡ []) }
