@@ -36,6 +36,8 @@ BAD_RECIPES = [
     ("[1]", {}, "Main.count", 403),
     ("[1]", {"title": 5}, "Main.recipes", 400),
 ]
+# Alarms that are past before the page is killed.
+PAST = 4
 BAD_STATES = (
     b"{",
     b"[]",
@@ -49,6 +51,14 @@ BAD_WORDS = (
     ('[[port]]\nport = 851\nsymbol = [{ name = "Main.count", mim = 1 }]', "is `min` meant?"),
     ('[[port]]\nport = 851\nsymbol = [{ name = "Main.count", min = 2, max = 1 }]', "key `max`: it is below `min`"),
     ('[[type]]\nname = "Pump"\nmember = [{ name = "state", bits = ["a", "a"] }]', "another bit has the name"),
+    ('[[port]]\nport = 851\nsymbol = [{ name = "Main.mode", alarm = "x" }]', "key `alarm`: Mode is an enumeration; add"),
+    (
+        '[[port]]\nport = 851\nsymbol = [{ name = "Main.mode", alarm = "x", alarm_at = ["Fauled"] }]',
+        "key `alarm_at`: 'Fauled' is no value of Mode; is Faulted meant?",
+    ),
+    ('[[port]]\nport = 851\nsymbol = [{ name = "Main.door", alarm_at = false }]', "key `alarm_at`: no `alarm` stands"),
+    ('[[port]]\nport = 851\nsymbol = [{ name = "Main.door", alarm = "x", alarm_at = 0 }]', "true or false stands here"),
+    ('[[port]]\nport = 851\nsymbol = [{ name = "Main.count", alarm = "x", high = 1, alarm_at = 0 }]', "it belongs to"),
     ("\xff", "is no TOML document"),
 )
 
@@ -105,6 +115,30 @@ def alarms_come(page, rig, stream):
         "an alarm that went stays until it is acknowledged",
     )
     return {name: row["id"] for name, row in rows_of(said).items()}
+
+
+def values_alarm(rig, stream):
+    """Alarms of FALSE, of a bit that is 0, and of values of an enumeration; they go again."""
+
+    def there(**wanted):
+        def holds(said):
+            rows = {row["name"].split(".")[1]: row for row in said["rows"] if row["went"] is None}
+            return {name: rows[name]["detail"] for name in rows if name in ("air", "mode", "relays")} == wanted
+
+        return holds
+
+    for name, given, wanted in (
+        ("Main.air", b"\0", {"air": ""}),
+        ("Main.relays", b"\xfe", {"air": "", "relays": ""}),
+        ("Main.mode", struct.pack("<h", 99), {"air": "", "relays": "", "mode": "Faulted"}),
+        ("Main.mode", struct.pack("<h", -2), {"air": "", "relays": "", "mode": "Starved"}),
+        ("Main.mode", struct.pack("<h", 1), {"air": "", "relays": ""}),
+        ("Main.air", b"\1", {"relays": ""}),
+        ("Main.relays", b"\1", {}),
+    ):
+        rig.put(name, given)
+        said = stream.next("alarms", there(**wanted))
+    return [row["id"] for row in said["rows"]]
 
 
 def acknowledged(page, stream, numbers):
@@ -198,13 +232,15 @@ def tells(program):
                 )
                 limits_hold(page)
                 rig.put("Main.pump1.flow", struct.pack("<f", 1.0))
+                acknowledge(page, values_alarm(rig, stream))
+                stream.next("alarms", lambda said: not said["rows"])
                 acknowledged(page, stream, alarms_come(page, rig, stream))
                 page.until(
                     lambda: '"ack": null' in open(state, encoding="utf-8").read()
                     and "Main.door" in open(state, encoding="utf-8").read(),
                     "the state",
                 )
-                page.until(lambda: len(json.load(open(state, encoding="utf-8"))["past"]) == 1, "the last state")
+                page.until(lambda: len(json.load(open(state, encoding="utf-8"))["past"]) == PAST, "the last state")
             page.process.send_signal(signal.SIGKILL)
             page.end()
             kept(plant, server, words, state, rig)
