@@ -8,6 +8,7 @@ import signal
 import struct
 import tempfile
 
+from tries.page_login import logged_in
 from tries.paged import Page, Rig, Stream
 from tries.running import ME, NET, TOOLS, Served, refused, see, tool
 
@@ -36,8 +37,6 @@ BAD_RECIPES = [
     ("[1]", {}, "Main.count", 403),
     ("[1]", {"title": 5}, "Main.recipes", 400),
 ]
-# Alarms that are past before the page is killed.
-PAST = 4
 BAD_STATES = (
     b"{",
     b"[]",
@@ -66,6 +65,11 @@ BAD_WORDS = (
 def acknowledge(page, numbers, **headers):
     given = {"Content_Type": "application/json", "X_Token": page.token(), **headers}
     return page.ask("/acknowledge", "POST", json.dumps({"alarms": numbers}), **given)
+
+
+def state_of(name):
+    with open(name, encoding="utf-8") as file:
+        return json.load(file)
 
 
 def rows_of(said):
@@ -209,6 +213,9 @@ def refusals(folder, plant):
         refused(2, part, "page.py", plant, *to, "--words", words)
     refused(4, "No such file", "page.py", plant, *to, "--words", os.path.join(folder, "none.toml"))
     refused(1, "--user-header is the name of a header", "page.py", plant, *to, "--user-header", "a b")
+    refused(1, "--proxy ADDRESS, that of the web server", "page.py", plant, *to, "--user-header", "X-User")
+    refused(1, "--user-header NAME, the header", "page.py", plant, *to, "--proxy", "127.0.0.1")
+    refused(1, "--proxy is an address", "page.py", plant, *to, "--user-header", "X-User", "--proxy", "proxy")
 
 
 def tells(program):
@@ -240,11 +247,12 @@ def tells(program):
                     and "Main.door" in open(state, encoding="utf-8").read(),
                     "the state",
                 )
-                page.until(lambda: len(json.load(open(state, encoding="utf-8"))["past"]) == PAST, "the last state")
+                page.until(lambda: "Main.door" in [it["name"] for it in state_of(state)["past"]], "the last state")
             page.process.send_signal(signal.SIGKILL)
             page.end()
             kept(plant, server, words, state, rig)
             named(plant, server)
+            logged_in(folder, plant, server)
             history_is_read(folder, plant, server)
             recipes_are_written(plant, server)
         refusals(folder, plant)
@@ -346,9 +354,17 @@ def history_is_read(folder, plant, server):
 
 
 def named(plant, server):
-    """The name that a proxy tells stands in the log."""
-    with Page(plant, server.to, "--write", "Main.count", "--user-header", "X-User") as page, Stream(page) as stream:
+    """The name that a proxy tells stands in the log; nobody but the proxy is answered."""
+    words = ("--write", "Main.count", "--user-header", "X-User", "--proxy")
+    with Page(plant, server.to, *words, "127.0.0.1") as page, Stream(page) as stream:
         page.until(page.is_well, "the server")
         page.write("Main.count", "20", page.token(), X_User="Jörg".encode().decode("latin-1"))
-        page.write("Main.count", "21", page.token())
-        see([stream.next("logged")["by"] for _ in range(2)] == ["Jörg", "127.0.0.1"], "who wrote")
+        see(stream.next("logged")["by"] == "Jörg", "who wrote")
+        status, why = page.write("Main.count", "21", page.token())
+        see(status == 403 and "tells no name by x-user" in why, f"a write without a name: {status} {why}")
+    with Page(plant, server.to, *words, "192.0.2.1", "--proxy", "2001:db8::1") as page:
+        page.until(page.is_well, "the server")
+        for path in ("/", "/values.json", "/metrics", "/events"):
+            status, _, said = page.ask(path, X_User="root")
+            see(status == 403 and b"127.0.0.1 is not named by --proxy" in said, f"{path} past the proxy: {status} {said}")
+        see(page.write("Main.count", "22", "x", X_User="root")[0] == 403, "a write past the proxy")
