@@ -34,6 +34,6 @@ FAULTS = [
     ('"Line.shift", type', '"Line.shift", unit = "s", type', ["key `unit`: it belongs to a number, and this is TIME"]),
     ('"Line.wave", type', '"Line.wave", bits = ["a", "A", { name = "b", bit = 16 }], type',
      ["key `bit`: UINT has the bits 0 to 15, and this is bit 16", 'bit "A" of symbol "Line.wave" of port 851, key `name`: another bit has the name \'A\' already']),
-    ('"Drive{1..6}.mode", type', '"Drive{1..6}.mode", alarm = "x", type', ["key `alarm`: it belongs to a BOOL, a STRING or a number, and this is Mode"]),
+    ('"Drive{1..6}.mode", type', '"Drive{1..6}.mode", alarm = "x", type', ["key `alarm`: Mode is an enumeration; add"]),
     ('unit = "bottles", group', 'unit = "bottles", alarm = "x", group', ["that of a number is there below `low` or above `high`, and neither stands here"]),
 ]
