@@ -52,6 +52,7 @@ from lib.plant import Plant  # noqa: E402
 from lib.program import program_at, run as run_program  # noqa: E402
 from lib.saved import Persistent, Restoring, digest_of, earlier, keep, mark_of, read_kept, saved_in  # noqa: E402
 from lib.signals import MOST, config_in, signals_of  # noqa: E402
+from lib.source_meant import source_said  # noqa: E402
 from lib.standing import Note, forget, noted, put, swap, swapped  # noqa: E402
 from lib.stores import standing as standing_in  # noqa: E402
 from lib.verdict import verdict_on  # noqa: E402
@@ -63,9 +64,9 @@ def checked(name, given, options):
     verdict, program = verdict_on(given, options["counted"]), options["program"]
     if verdict.status:
         from_where = f" ({options['counted'].said})" if verdict.rule == 14 else ""
+        right = source_said(verdict, given, name) or "tools/why.py says why"
         raise Ended(
-            f"{name} is refused, and nothing was moved: {verdict.lines[0]}{from_where}; tools/why.py says why",
-            verdict.status,
+            f"{name} is refused, and nothing was moved: {verdict.lines[0]}{from_where}; {right}", verdict.status
         )
     if program:
         said, status = run_program(program_at(program), "check", os.path.abspath(name))

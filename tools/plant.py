@@ -94,7 +94,7 @@ def build_line(name, options):
     if beyond(built.verdict.document):
         said.append(f"it has signals of adsd: `adsd check {options['config'] or 'CONFIG'}` checks it; `ads` has three, and refuses it by rule 14")
     if options["out"] and os.path.exists(options["out"]) and os.path.samefile(options["out"], name):
-        raise Ended(f"--out {options['out']} is the line itself; name another file", 1)
+        raise Ended(f"--out {options['out']} is the source itself; name another file", 1)
     if not built.verdict.document["route"]:
         said.append(nobody(options["out"]))
     written(built.text, options["out"], said)

@@ -57,7 +57,7 @@ def read_line(root, doubtful):
     """The document that a line is, with names in ranges written out, and all that is wrong with its keys, numbers and ranges."""
     schema = root.data.get("schema")
     reading = LineReading(schema is None or schema.kind == "broken" or (schema.kind == "integer" and schema.data != 1), doubtful)
-    d, faults = reading.table("document", root, "the line"), reading.faults
+    d, faults = reading.table("document", root, "the source"), reading.faults
     for it in d["type"]:
         if it.kind == "enumeration":
             number_values(it)

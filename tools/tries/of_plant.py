@@ -340,7 +340,7 @@ def wrong_words(folder):
     refused(1, "--before is an option of build", "plant.py", "import", LINE, "--before", PLANT)
     refused(1, "--net is a NetId", "plant.py", "import", LINE, "--net", "5")
     refused(1, "--route is NETID=RIGHTS", "plant.py", "import", LINE, "--route", "1.1.1.1.1.1=all")
-    refused(1, "is the line itself", "plant.py", "build", written(folder, "own.toml", text_of(LINE)), "--out", os.path.join(folder, "own.toml"))
+    refused(1, "is the source itself", "plant.py", "build", written(folder, "own.toml", text_of(LINE)), "--out", os.path.join(folder, "own.toml"))
     refused(2, "is refused: ads: description rule 12 item 1", "plant.py", "build", LINE, "--before", os.path.join(EXAMPLES, "overlap.toml"))
     refused(2, "it is no XML", "plant.py", "import", LINE)
     refused(4, "No such file", "plant.py", "build", "/nowhere.toml")
