@@ -3,9 +3,9 @@
 
     python3 tools/service.py page /etc/ads/page.toml
 
-The first word is page, history, mqtt, dial or relay; examples/page.toml and its like are their files. A file is TOML: its
-keys are the options of the tool, without the two dashes (`page.py --help` and its like say what they are), and
-its other words:
+The first word is page, history, mqtt, dial or relay; examples/page.toml and its like are their files. A file is
+TOML: its keys are the options of the tool, without the two dashes (`page.py --help` and its like say what they are),
+and its other words:
 
     page       plant = FILE, the description or the configuration of adsd
     history    names = ["Main.count", "GVL.*"]
@@ -55,7 +55,11 @@ SERVICES = {
     "history": (
         {"names": TEXTS},
         ("names", "to", "me"),
-        {**SERVER, **dict.fromkeys(("sqlite", "postgres", "mode"), TEXT), **dict.fromkeys(("port", "keep-days", "hold"), COUNT)},
+        {
+            **SERVER,
+            **dict.fromkeys(("sqlite", "postgres", "mode"), TEXT),
+            **dict.fromkeys(("port", "keep-days", "hold"), COUNT),
+        },
     ),
     "mqtt": (
         {"names": TEXTS},
@@ -92,7 +96,8 @@ def keys_in(given, name):
 def word_of(value, key, kind, where):
     """The words that a value is."""
     if value.kind not in KINDS[kind]:
-        raise Ended(f"{where(value.at)}: `{key}`: {WANTED[kind]} is wanted, and {TOML_WORDS[value.kind]} stands there", 12)
+        there = TOML_WORDS[value.kind]
+        raise Ended(f"{where(value.at)}: `{key}`: {WANTED[kind]} is wanted, and {there} stands there", 12)
     if value.kind == "array":
         odd = next((it for it in value.data if it.kind not in ("string", "integer")), None)
         if odd is not None or not value.data:

@@ -86,7 +86,8 @@ class Sum:
     def constant(self, word):
         text = self.constants.get(f"{self.owner}.{word}".lower(), self.constants.get(word.lower()))
         if text is None:
-            raise NoNumber(f"the file has no constant {word}: write its number there, or export the list that has it, too")
+            right = "write its number there, or export the list that has it, too"
+            raise NoNumber(f"the file has no constant {word}: {right}")
         if self.depth > 20:
             raise NoNumber(f"{word} is a constant of itself")
         text = re.sub(r"^(?:U?[SDL]?INT)#", "", text.strip(), flags=re.IGNORECASE)

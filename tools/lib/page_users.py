@@ -87,6 +87,13 @@ def address_of(text):
     return str(getattr(it, "ipv4_mapped", None) or it)
 
 
+def neighbours(address):
+    """What is counted as one address: of IPv6 the first 64 bits, since a machine has as many addresses as it likes."""
+    if ":" not in address:
+        return address
+    return ":".join(ipaddress.ip_address(address.partition("%")[0]).exploded.split(":")[:4])
+
+
 class Everyone:
     """Nobody is asked who he is."""
 
@@ -180,7 +187,8 @@ class Users:
 
     async def is_right(self, name, password, peer):
         """Whether a password is that of a name; a Bad with status 429 where an address has tried too often."""
-        until = self.blocked(peer)
+        whose = neighbours(peer)
+        until = self.blocked(whose)
         if until:
             raise Bad(429, f"too many wrong passwords from {peer}: try again in {until} seconds")
         if self.waiting >= MOST_WAITING:
@@ -188,28 +196,28 @@ class Users:
         own = self.users.get(name)
         tried = own or next(iter(self.users.values()))
         self.waiting += 1
-        self.note_wrong(peer)
+        self.note_wrong(whose)
         try:
             fits = await asyncio.get_running_loop().run_in_executor(self.pool, tried.fits, password[:MOST_PASSWORD])
         finally:
             self.waiting -= 1
         if fits and own:
-            self.wrong[peer].pop()
+            if self.wrong.get(whose):
+                self.wrong[whose].pop()
             return True
         return False
 
-    def note_wrong(self, peer):
+    def note_wrong(self, whose):
         """Notes a password as wrong until it is known to be right, so that many at once are not looked at, either."""
+        found = self.wrong.pop(whose, [])
         bounded(self.wrong, MOST_ADDRESSES)
-        self.wrong.setdefault(peer, []).append(time.monotonic())
+        self.wrong[whose] = [*found, time.monotonic()][-MOST_WRONG:]
 
-    def blocked(self, peer):
+    def blocked(self, whose):
         """The seconds until an address may try again; 0 where it may."""
         now = time.monotonic()
-        self.wrong[peer] = [it for it in self.wrong.get(peer, []) if now - it < WITHIN]
-        if len(self.wrong[peer]) < MOST_WRONG:
-            return 0
-        return max(1, round(WITHIN - (now - self.wrong[peer][0])))
+        found = [it for it in self.wrong.get(whose, []) if now - it < WITHIN]
+        return max(1, round(WITHIN - (now - found[0]))) if len(found) >= MOST_WRONG else 0
 
     async def login(self, request, peer):
         """Begins a session."""

@@ -153,4 +153,5 @@ def tried(program, size):
     if tools is None:
         return "the points of a page in SQLite; PostgreSQL is not there, so the statements of Grafana were only read"
     in_postgres(tools)
-    return f"{len(MEANS)} names by their means and {len(STATES)} by their states in PostgreSQL, and a page's points in SQLite"
+    said = f"{len(MEANS)} names by their means and {len(STATES)} by their states in PostgreSQL"
+    return f"{said}, and a page's points in SQLite"

@@ -1,4 +1,6 @@
-"""Mistakes that people make, at `ads`, `adsd` and the tools: the status, and a part of what is said, of data/mistakes.toml."""
+"""Mistakes that people make at `ads`, `adsd` and the tools: the status and a part of what is said, by
+data/mistakes.toml.
+"""
 import importlib
 import os
 import shlex

@@ -44,7 +44,7 @@ def commands():
         if name == "relay":
             see(words[1:2] == ["relay"] and words[-2] == "--events", f"the command of the relay: {words}")
             continue
-        see(words[:2] == [sys.executable, os.path.join(TOOLS, f"{name}.py")] or words[1].endswith(f"/{name}.py"), words)
+        see(words[0] == sys.executable and words[1].endswith(f"/{name}.py"), f"the command of {name}: {words}")
         it = subprocess.run([*words, "--nonesuch"], capture_output=True, text=True, timeout=60)
         see(it.returncode == 1 and "there is no option --nonesuch" in it.stderr, f"{words}: {it.stderr}")
         more = commented(os.path.join(EXAMPLES, f"{name}.toml"))

@@ -98,7 +98,8 @@ def wrong_ones(page):
     answers = [login(page, name, "wrong word")[0] for name in ("anna", "nobody", "anna", "anna")]
     see(answers == [403] * 4, f"wrong passwords: {answers}")
     status, _, said = login(page, "anna", SECRET)
-    see(status == 429 and b"too many wrong passwords from 127.0.0.1: try again in" in said, f"a sixth one: {status} {said}")
+    is_told = b"too many wrong passwords from 127.0.0.1: try again in" in said
+    see(status == 429 and is_told, f"a sixth one: {status} {said}")
     basic = "Basic " + base64.b64encode(f"anna:{SECRET} ".encode()).decode()
     see(page.ask("/values.json", Authorization=basic)[0] == 429, "a sixth one of a program")
 

@@ -50,7 +50,7 @@ BAD_WORDS = (
     ('[[port]]\nport = 851\nsymbol = [{ name = "Main.count", mim = 1 }]', "is `min` meant?"),
     ('[[port]]\nport = 851\nsymbol = [{ name = "Main.count", min = 2, max = 1 }]', "key `max`: it is below `min`"),
     ('[[type]]\nname = "Pump"\nmember = [{ name = "state", bits = ["a", "a"] }]', "another bit has the name"),
-    ('[[port]]\nport = 851\nsymbol = [{ name = "Main.mode", alarm = "x" }]', "key `alarm`: Mode is an enumeration; add"),
+    ('[[port]]\nport = 851\nsymbol = [{ name = "Main.mode", alarm = "x" }]', "key `alarm`: Mode is an enumeration"),
     (
         '[[port]]\nport = 851\nsymbol = [{ name = "Main.mode", alarm = "x", alarm_at = ["Fauled"] }]',
         "key `alarm_at`: 'Fauled' is no value of Mode; is Faulted meant?",
@@ -366,5 +366,6 @@ def named(plant, server):
         page.until(page.is_well, "the server")
         for path in ("/", "/values.json", "/metrics", "/events"):
             status, _, said = page.ask(path, X_User="root")
-            see(status == 403 and b"127.0.0.1 is not named by --proxy" in said, f"{path} past the proxy: {status} {said}")
+            is_told = b"127.0.0.1 is not named by --proxy" in said
+            see(status == 403 and is_told, f"{path} past the proxy: {status} {said}")
         see(page.write("Main.count", "22", "x", X_User="root")[0] == 403, "a write past the proxy")

@@ -43,9 +43,9 @@ class Postgres:
 
     def rows(self, text, user="plant"):
         """The rows that a statement gives, of texts."""
+        where = ["-h", "127.0.0.1", "-p", str(self.port), "-U", user, "-d", "postgres"]
         it = subprocess.run(
-            ["psql", "-X", "-At", "-F", "|", "-v", "ON_ERROR_STOP=1", "-h", "127.0.0.1", "-p", str(self.port), "-U", user]
-            + ["-d", "postgres", "-c", text],
+            ["psql", "-X", "-At", "-F", "|", "-v", "ON_ERROR_STOP=1", *where, "-c", text],
             stdin=subprocess.DEVNULL,
             capture_output=True,
             text=True,
