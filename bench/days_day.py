@@ -18,6 +18,8 @@ from tries.running import ME, NET
 
 # Seconds past which a save is due, for which it is waited for, and by which a log is late.
 DUE, LATE, SLOW = 1.1, 20.0, 4.0
+# How often a look is begun at least, however slow the machine is.
+LEAST_TRIES = 4
 
 
 class Day:
@@ -102,8 +104,9 @@ class Day:
         """Looks for each value; what can't be found at once is looked for again, since a log comes later than what it
         tells.
         """
-        until = time.monotonic() + SLOW
+        until, tries = time.monotonic() + SLOW, 0
         while True:
+            tries += 1
             try:
                 places = self.places()
                 lost = self.written.missing(places, alive)
@@ -111,7 +114,7 @@ class Day:
                     break
             except (Ended, Refused) as fault:
                 lost, places = [(f"no look: {fault}", 0)], []
-            if time.monotonic() > until or self.daemon.process.poll() is not None:
+            if time.monotonic() > until and tries >= LEAST_TRIES or self.daemon.process.poll() is not None:
                 break
             time.sleep(0.1)
         if not places:

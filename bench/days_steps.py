@@ -90,15 +90,18 @@ def deployed(day, script, *words):
 
 
 def writing(day, over, first):
-    """Writes values until it is over. Those are late behind which the version is no more the first one."""
+    """Writes values until it is over. Those are late behind which the version is no more the first one, or can't be told."""
     while not over.is_set():
         with contextlib.suppress(Ended, Refused, NoValueOf):
             with contextlib.closing(day.daemon.connect()) as values:
                 symbols = Persistent(values)
                 while not over.is_set():
-                    done = day.write(2, symbols)
-                    if version_of(values) != first:
-                        day.written.late.update(done)
+                    done, version = day.write(2, symbols), None
+                    try:
+                        version = version_of(values)
+                    finally:
+                        if version != first:
+                            day.written.late.update(done)
                     time.sleep(0.02)
 
 

@@ -16,6 +16,7 @@ from lib.words import Ended
 
 SUM, MOST_LEAVES = 500, 100000
 MOST_ENTRY = 2048
+MOST_TRIES = 5
 
 
 class Known:
@@ -59,13 +60,29 @@ def uploaded(stream, port, group, count, size, read, what):
     return found
 
 
-def described(stream, port):
-    """The symbol entries of a port by their names in lower case, and a book of its types."""
+def counts_of(stream, port):
+    """How many symbols and types a port has, and how many bytes they are: what comes in front of asking for them."""
     try:
-        data = stream.read(port, groups.TYPE_COUNTS, 0, 24, 24)
+        return stream.read(port, groups.TYPE_COUNTS, 0, 24, 24)[:16]
     except Refused:
-        data = stream.read(port, groups.COUNTS, 0, 8, 8) + bytes(8)
-    symbols, symbol_bytes, types, type_bytes = struct.unpack("<IIII", data[:16])
+        return stream.read(port, groups.COUNTS, 0, 8, 8) + bytes(8)
+
+
+def described(stream, port):
+    """The symbol entries of a port by their names in lower case, and a book of its types. Where a new description comes
+    between the counts and what they count, both are asked for again."""
+    for _ in range(MOST_TRIES - 1):
+        counts = counts_of(stream, port)
+        try:
+            return described_by(stream, port, counts)
+        except (Ended, Refused):
+            if counts_of(stream, port) == counts:
+                raise
+    return described_by(stream, port, counts_of(stream, port))
+
+
+def described_by(stream, port, counts):
+    symbols, symbol_bytes, types, type_bytes = struct.unpack("<IIII", counts)
     listed = uploaded(stream, port, groups.SYMBOLS, symbols, symbol_bytes, read_symbols, "symbols")
     book, found = TypeBook(), {}
     book.of_port(uploaded(stream, port, groups.TYPES, types, type_bytes, read_types, "types"))
