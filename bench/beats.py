@@ -3,18 +3,21 @@
 
     python3 bench/beats.py [PROGRAM] [--seconds S]
 
-PROGRAM is crates/ads/out/ads, which `rt run -- selftest ../../examples/state.script` in crates/ads builds. Four connections have a notification in cycle
-mode each, of 10, 20, 50 and 100 ms. Under load 60 more ask for the state without end, one request in flight on each, by two processes. Of each cycle one
-line: how many samples came in S seconds (60 unless told), the mean gap between two, the longest gap, and how many beats of the cycle were missed, by the
-moments of the samples. The program ends with 1 where the mean gap of the 10 ms cycle is above 10.5 ms (5 % above the cycle for the others), or where a moment does not lie a whole
-number of cycles behind the last.
+PROGRAM is crates/ads/out/ads, which `rt run -- selftest ../../examples/state.script` in crates/ads builds. Four
+connections have a notification in cycle mode each, of 10, 20, 50 and 100 ms. Under load 60 more ask for the state
+without end, one request in flight on each, by two processes. Of each cycle one line: how many samples came in S seconds
+(60 unless told), the mean gap between two, the longest gap, and how many beats of the cycle were missed, by the moments
+of the samples. The program ends with 1 where the mean gap of the 10 ms cycle is above 10.5 ms (5 % above the cycle for
+the others), or where a moment does not lie a whole number of cycles behind the last.
 
-With --wall the system's wall clock is set for the program alone (bench/set_clocks.c, which gcc builds). For a server: an hour forward, and then two hours
-back, while samples come; it prints how the moments follow. For a client: an hour forward just before each answer comes, which must time nothing out; and two
-hours back while no answer comes, which must end it after its five seconds all the same.
+With --wall the system's wall clock is set for the program alone (tries/set_clocks.c, which gcc builds). For a server:
+an hour forward, and then two hours back, while samples come; it prints how the moments follow. For a client: an hour
+forward just before each answer comes, which must time nothing out; and two hours back while no answer comes, which must
+end it after its five seconds all the same.
 """
 import argparse
 import os
+import re
 import selectors
 import socket
 import struct
@@ -24,37 +27,21 @@ import tempfile
 import threading
 import time
 
-HERE = os.path.dirname(os.path.abspath(__file__))
-PLANT = os.path.join(HERE, "..", "examples", "plant.toml")
-NET, ME = bytes([5, 1, 2, 3, 1, 1]), bytes([192, 168, 0, 9, 1, 1])
+sys.dont_write_bytecode = True
+sys.path[1:1] = [f"{sys.path[0]}/../{room}" for room in ("model", "tries")]
+from ams import request, size_of_first, watched  # noqa: E402
+from under_test import ADS, PLANT, Clocks, Program, connected, serve_words  # noqa: E402
+
 CYCLES = (10, 20, 50, 100)
 MS = 10_000
 ASKING, PROCESSES = 60, 2
 
 
-def frame(command, number, payload):
-    head = NET + struct.pack("<H", 851) + ME + struct.pack("<HHHIII", 32905, command, 4, len(payload), 0, number)
-    return bytes(2) + struct.pack("<I", len(head) + len(payload)) + head + payload
+STATE = request(4, 1)
 
 
-STATE = frame(4, 1, b"")
-
-
-def start(program, **more):
-    """A server, and its port."""
-    with socket.socket() as s:
-        s.bind(("127.0.0.1", 0))
-        port = s.getsockname()[1]
-    process = subprocess.Popen([program, "serve", PLANT, "--listen", f"127.0.0.1:{port}", "--events", str(2 ** 64 - 1)], stdout=subprocess.PIPE, **more)
-    if process.stdout.readline() != b"listening\n":
-        sys.exit("the server does not listen")
-    return process, port
-
-
-def connect(port):
-    s = socket.create_connection(("127.0.0.1", port), timeout=10)
-    s.setsockopt(socket.IPPROTO_TCP, socket.TCP_NODELAY, 1)
-    return s
+def served(program, **how):
+    return Program(program, serve_words(PLANT), **how)
 
 
 class Cycle:
@@ -62,14 +49,13 @@ class Cycle:
 
     def __init__(self, port, cycle):
         self.cycle, self.rest, self.came, self.moments = cycle, b"", [], []
-        self.socket = connect(port)
-        self.socket.sendall(frame(6, 5, struct.pack("<IIIIII", 0x4040, 64, 2, 3, 0, cycle * MS) + bytes(16)))
+        self.socket = connected(port)
+        self.socket.sendall(request(6, 5, watched(0x4040, 64, 2, 3, cycle * MS)))
 
     def hear(self):
         self.rest += self.socket.recv(65536)
         now = time.monotonic()
-        while len(self.rest) >= 6 and len(self.rest) >= 6 + struct.unpack_from("<I", self.rest, 2)[0]:
-            size = 6 + struct.unpack_from("<I", self.rest, 2)[0]
+        while size := size_of_first(self.rest):
             if self.rest[22:24] == b"\x08\x00":
                 self.came.append(now)
                 self.moments.append(struct.unpack_from("<Q", self.rest, 46)[0])
@@ -85,7 +71,8 @@ class Cycle:
         steps = [b - a for a, b in zip(self.moments, self.moments[1:])]
         missed = sum(step // (self.cycle * MS) - 1 for step in steps)
         even = all(step > 0 and step % (10 * MS) == 0 for step in steps)
-        return (f"{self.cycle:5} ms {count:9} {mean:11.3f} ms {longest:11.1f} ms {missed:8}" + ("" if even else "  moments off the beats"),
+        return (f"{self.cycle:5} ms {count:9} {mean:11.3f} ms {longest:11.1f} ms {missed:8}"
+                + ("" if even else "  moments off the beats"),
                 even and mean <= 1.05 * self.cycle)
 
 
@@ -103,7 +90,7 @@ def ask(port, count):
     """So many connections ask for the state without end."""
     with selectors.DefaultSelector() as poll:
         for _ in range(count):
-            s = connect(port)
+            s = connected(port)
             poll.register(s, selectors.EVENT_READ)
             s.sendall(STATE)
         while True:
@@ -127,21 +114,22 @@ def load(port):
     return children
 
 
-def measure(program, seconds, loaded):
-    server, port = start(program)
+def measure(program, seconds, is_loaded):
     children = []
     try:
-        cycles = [Cycle(port, cycle) for cycle in CYCLES]
-        if loaded:
-            children = load(port)
-            time.sleep(1)
+        with served(program) as server:
+            cycles = [Cycle(server.port, cycle) for cycle in CYCLES]
+            if is_loaded:
+                children = load(server.port)
+                time.sleep(1)
+                for it in cycles:
+                    it.socket.setblocking(False)
+            listen(cycles, 1)
             for it in cycles:
-                it.socket.setblocking(False)
-        listen(cycles, 1)
-        for it in cycles:
-            it.came, it.moments = [], []
-        listen(cycles, seconds)
-        print(f"{'under load of 60 connections' if loaded else 'at rest'}, load average {os.getloadavg()[0]:.1f}")
+                it.came, it.moments = [], []
+            listen(cycles, seconds)
+        how = f"under load of {ASKING} connections" if is_loaded else "at rest"
+        print(f"{how}, load average {os.getloadavg()[0]:.1f}")
         print("   cycle   samples    mean gap    longest gap   missed")
         lines = [it.line() for it in cycles]
         for text, _ in lines:
@@ -151,35 +139,26 @@ def measure(program, seconds, loaded):
         for child in children:
             os.kill(child, 9)
             os.waitpid(child, 0)
-        server.kill()
-        server.wait()
 
 
 def wall(program):
     """The wall clock of a server alone, and then of clients alone, is set forward and back."""
     with tempfile.TemporaryDirectory() as folder:
-        shim, clocks = os.path.join(folder, "set_clocks.so"), os.path.join(folder, "clocks")
-        subprocess.run(["gcc", "-O2", "-shared", "-fPIC", "-o", shim, os.path.join(HERE, "set_clocks.c")], check=True)
-        env = {**os.environ, "LD_PRELOAD": shim, "SET_CLOCKS": clocks}
-        return all([wall_of_server(program, clocks, env), wall_of_clients(program, clocks, env)])
+        clocks = Clocks(folder)
+        return all([wall_of_server(program, clocks), wall_of_clients(program, clocks)])
 
 
-def wall_of_server(program, clocks, env):
+def wall_of_server(program, clocks):
     """The wall clock of the server is set while a cycle of 10 ms goes on."""
     right = True
-    set_clock(clocks, 0)
-    server, port = start(program, env=env)
-    try:
-        it = Cycle(port, 10)
+    with served(program, env=clocks.env) as server:
+        it = Cycle(server.port, 10)
         listen([it], 1)
         for name, seconds in (("an hour forward", 3600), ("two hours back", -3600)):
-            set_clock(clocks, seconds)
+            clocks.set(seconds)
             it.came, it.moments = it.came[-1:], it.moments[-1:]
             listen([it], 10)
             right = told_of(it, name, seconds) and right
-    finally:
-        server.kill()
-        server.wait()
     return right
 
 
@@ -188,26 +167,24 @@ ASKED = ((["state"], "ads 5 device 0\n"), (["get", "Main.count"], "42\n"), (["se
          (["watch", "Main.count", "--mode", "cycle", "--cycle", "200000", "--count", "3"], "42\n42\n42\n"))
 
 
-def wall_of_clients(program, clocks, env):
+def wall_of_clients(program, clocks):
     """The wall clock of clients is set: before each piece that the server sends, and while it sends nothing."""
     right = True
-    server, port = start(program)
-    try:
+    with served(program) as server:
         for words, wanted in ASKED:
-            with between(port, lambda: set_clock(clocks, clock_of(clocks) + 3600)) as near:
-                set_clock(clocks, 0)
-                status, printed, took = ended(program, words, near, env)
-            good = (status, printed) == (0, wanted)
-            print(f"wall clock of {words[0]} an hour forward before each answer: status {status}, {took:.1f} s", flush=True)
+            with between(server.port, lambda: clocks.set(clocks.wall + 3600)) as near:
+                clocks.set(0)
+                status, printed, took = ended(program, words, near, clocks.env)
+            # (before each value that is watched stands its moment)
+            good = (status, re.sub(r"(?m)^\d{17,} ", "", printed)) == (0, wanted)
+            print(f"wall clock of {words[0]} an hour forward before each answer: status {status}, {took:.1f} s",
+                  flush=True)
             right = right and good
-    finally:
-        server.kill()
-        server.wait()
     with socket.create_server(("127.0.0.1", 0)) as silent:
-        set_clock(clocks, 0)
-        later = threading.Timer(1, set_clock, (clocks, -7200))
+        clocks.set(0)
+        later = threading.Timer(1, clocks.set, (-7200,))
         later.start()
-        status, printed, took = ended(program, ["state"], silent.getsockname()[1], env)
+        status, printed, took = ended(program, ["state"], silent.getsockname()[1], clocks.env)
         later.cancel()
     print(f"wall clock of state two hours back without an answer: status {status}, {took:.1f} s", flush=True)
     return right and status == 11 and 4.5 < took < 7
@@ -239,7 +216,7 @@ class between:
 
     def serve(self):
         client, _ = self.door.accept()
-        server = connect(self.port)
+        server = connected(self.port)
         threading.Thread(target=pass_on, args=(client, server, lambda: None), daemon=True).start()
         pass_on(server, client, self.call)
 
@@ -254,16 +231,6 @@ def pass_on(one, other, call):
         pass
 
 
-def clock_of(clocks):
-    with open(clocks, "rb") as it:
-        return struct.unpack("<qq", it.read())[0]
-
-
-def set_clock(clocks, seconds):
-    with open(clocks, "r+b" if os.path.exists(clocks) else "wb") as it:
-        it.write(struct.pack("<qq", seconds, 0))
-
-
 def told_of(it, name, seconds):
     """Prints how the moments follow; whether samples came all the while, at moments that rise by whole beats."""
     if len(it.came) < 3:
@@ -272,20 +239,22 @@ def told_of(it, name, seconds):
     off = it.moments[-1] / 1e7 - 11644473600 - time.time() - seconds
     steps = sorted(b - a for a, b in zip(it.moments, it.moments[1:]))
     longest = 1e3 * max(b - a for a, b in zip(it.came, it.came[1:]))
-    print(f"wall clock {name}: {len(it.came)} samples in 10 s, longest gap {longest:.0f} ms, greatest step of a moment {steps[-1] / 1e7:.2f} s, moments {off:+.2f} s off")
+    print(f"wall clock {name}: {len(it.came)} samples in 10 s, longest gap {longest:.0f} ms, greatest step of a moment "
+          f"{steps[-1] / 1e7:.2f} s, moments {off:+.2f} s off")
     return len(it.came) > 900 and steps[0] > 0 and all(step % (10 * MS) == 0 for step in steps)
 
 
 def main():
     words = argparse.ArgumentParser(description=__doc__.splitlines()[0])
-    words.add_argument("program", nargs="?", default=os.path.join(HERE, "..", "crates", "ads", "out", "ads"))
+    words.add_argument("program", nargs="?", default=ADS)
     words.add_argument("--seconds", type=float, default=60)
     words.add_argument("--wall", action="store_true")
     told = words.parse_args()
     program = os.path.abspath(told.program)
     if told.wall:
         sys.exit(0 if wall(program) else 1)
-    sys.exit(0 if all([measure(program, told.seconds, loaded) for loaded in (False, True)]) else 1)
+    sys.exit(0 if all([measure(program, told.seconds, is_loaded) for is_loaded in (False, True)]) else 1)
 
 
-main()
+if __name__ == "__main__":
+    main()

@@ -1,22 +1,22 @@
 #!/usr/bin/env python3
 """Time of `ads check` per symbol, for descriptions of many symbols, types, members and routes.
 
-Build the program first: in crates/ads, `rt run -- selftest ../../examples/state.script`.
+    python3 bench/check.py [PROGRAM]      crates/ads/out/ads where it is absent
 
-One port of 1,000, 2,000, 5,000 and 10,000 symbols, and 16 ports of 10,000: the ratio of the greatest time per symbol to the least is to be at most 1.6. The
-other descriptions tell what grows with what: their times per element are printed for two sizes or more. Two of them rise: symbols in falling order of offset,
-which are put before those that came, and first values, which are looked for among an enumeration's values one by one.
+One port of 1,000, 2,000, 5,000 and 10,000 symbols, and 16 ports of 10,000: the ratio of the greatest time per symbol to
+the least is to be at most 1.6. The other descriptions tell what grows with what: their times per element are printed
+for two sizes or more. Two of them rise: symbols in falling order of offset, which are put before those that came, and
+first values, which are looked for among an enumeration's values one by one.
 
 Times are processor times of the program, the least of five runs.
 """
-import os
-import resource
-import subprocess
 import sys
-import tempfile
 
-HERE = os.path.dirname(os.path.abspath(__file__))
-PROGRAM = os.path.join(HERE, "..", "crates", "ads", "out", "ads")
+sys.dont_write_bytecode = True
+sys.path.insert(1, f"{sys.path[0]}/../tries")
+from timed import program_of, seconds_of  # noqa: E402
+from under_test import ADS  # noqa: E402
+
 HEAD = 'schema = 1\nnet = "5.1.2.3.1.1"\n'
 
 
@@ -67,7 +67,8 @@ def of_enumerations(values, count):
 
 
 def of_routes(count):
-    rows = [f'[[route]]\nnet = "{i >> 16 & 255}.{i >> 8 & 255}.{i & 255}.1.1.1"\nrights = "read"\n' for i in range(count)]
+    rows = [f'[[route]]\nnet = "{i >> 16 & 255}.{i >> 8 & 255}.{i & 255}.1.1.1"\nrights = "read"\n'
+            for i in range(count)]
     return HEAD + "".join(rows) + plain_port(851, 1)
 
 
@@ -75,37 +76,20 @@ def nested_at_zero(count):
     """Symbols that all stand at offset 0, of a type that nests 16 structures of two members each."""
     rows = ['[[type]]\nname = "T0"\nmember = [{ name = "a", type = "BOOL" }, { name = "b", type = "BOOL" }]\n']
     for t in range(1, 16):
-        rows.append(f'[[type]]\nname = "T{t}"\nmember = [{{ name = "a", type = "T{t - 1}" }}, {{ name = "b", type = "T{t - 1}" }}]\n')
+        rows.append(f'[[type]]\nname = "T{t}"\nmember = [{{ name = "a", type = "T{t - 1}" }}, {{ name = "b", type = '
+                    f'"T{t - 1}" }}]\n')
     return HEAD + "".join(rows) + port(851, [symbol(f"v{i}", "T15", 0) for i in range(count)], 1 << 16)
 
 
-def processor_time():
-    """Of the programs that have ended."""
-    used = resource.getrusage(resource.RUSAGE_CHILDREN)
-    return used.ru_utime + used.ru_stime
+def main(words):
+    program = program_of(words, ADS)
 
+    def row(name, count, text):
+        # (some are refused: what is too much is told too)
+        taken, last = seconds_of([program, "check", "it.toml"], {"it.toml": text}, is_right=lambda *_: True)
+        print(f"{name}  {len(text) / (1 << 20):.2f} MiB  {taken:.3f} s  {1e6 * taken / count:.2f} us each  {last}")
+        return taken / count
 
-def seconds(text):
-    with tempfile.NamedTemporaryFile("w", suffix=".toml") as file:
-        file.write(text)
-        file.flush()
-        times = []
-        for _ in range(5):
-            start = processor_time()
-            done = subprocess.run([PROGRAM, "check", file.name], capture_output=True, check=False)
-            times.append(processor_time() - start)
-        return min(times), done.stdout.decode().splitlines()[-1]
-
-
-def row(name, count, text):
-    taken, last = seconds(text)
-    print(f"{name}  {len(text) / (1 << 20):.2f} MiB  {taken:.3f} s  {1e6 * taken / count:.2f} us each  {last}")
-    return taken / count
-
-
-def main():
-    if not os.path.exists(PROGRAM):
-        sys.exit("build the program first: cd crates/ads && rt run -- selftest ../../examples/state.script")
     each = [row(f"{count} symbols", count, of_symbols(1, count)) for count in (1000, 2000, 5000, 10000)]
     each.append(row("16 ports of 10000 symbols", 160000, of_symbols(16, 10000)))
     print(f"ratio of the greatest to the least: {max(each) / min(each):.2f} (at most 1.6)")
@@ -124,4 +108,5 @@ def main():
     row("10000 symbols of nested structures, all at offset 0", 10000, nested_at_zero(10000))
 
 
-main()
+if __name__ == "__main__":
+    main(sys.argv[1:])

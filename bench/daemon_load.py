@@ -1,25 +1,30 @@
 #!/usr/bin/env python3
-"""An hour of load on `adsd` over loopback: a store that is saved and a new description each second, with tools/page.py, tools/history.py and tools/mqtt.py
-beside it.
+"""An hour of load on `adsd` over loopback: a store that is saved and a new description each second, with tools/page.py,
+tools/history.py and tools/mqtt.py beside it.
 
     python3 bench/daemon_load.py PROGRAM [--minutes 61] [--profile strict|wide] [--asking 24] [--short]
 
-PROGRAM is the built adsd; gcc builds the load (bench/serve_client.c). `--short` is 20 seconds, and less than a minute in all. The plant has 100 symbols of
-four bytes for each of the connections that ask (`--asking`), all of them persistent, and a block of 64 bytes. There are:
+PROGRAM is the built adsd; gcc builds the load (bench/serve_client.c). `--short` is 20 seconds, and less than a minute
+in all. The plant has 100 symbols of four bytes for each of the connections that ask (`--asking`), all of them
+persistent, and a block of 64 bytes. There are:
 
-- connections with 32 requests in flight each, reads, writes, states and sums of own symbols, in the profile `wide` also reads of greater buffers by handle
-  and sums that tell lengths. Each byte is compared with the model of the protocol (bench/model.py), so a read must give what was written;
-- eight connections with 512 notifications each of a symbol that changes at each tick: each tick must bring the next value, with a moment that rises;
+- connections with 32 requests in flight each, reads, writes, states and sums of own symbols, in the profile `wide` also
+  reads of greater buffers by handle and sums that tell lengths. Each byte is compared with the model of the protocol
+  (model/protocol.py), so a read must give what was written;
+- eight connections with 512 notifications each of a symbol that changes at each tick: each tick must bring the next
+  value, with a moment that rises;
 - one that writes the block, all 64 bytes in one request, and reads it back, some twenty times a second;
-- page.py, whose /values.json and /healthz are read each second; history.py, which records the block and the symbol of the ticks into SQLite; mqtt.py, which
-  publishes the block's number to a broker in this process (tools/tries/fake_broker.py). Without Debian's python3-paho-mqtt there is no mqtt.py, as the last
-  lines say.
+- page.py, whose /values.json and /healthz are read each second; history.py, which records the block and the symbol of
+  the ticks into SQLite; mqtt.py, which publishes the block's number to a broker in this process
+  (tools/tries/fake_broker.py). Without Debian's python3-paho-mqtt there is no mqtt.py, as the last lines say.
 
-Behind the load all is stopped, adsd last. Then each sample of the history must be one that was written, at one moment number and bytes of one write, the ticks
-one behind the other; page and broker must have the last number; adsd must end with 0, have told no fault in its log and its status file, and have answered
-each request; its store must have the last values of all symbols; and a new start must serve the last block. The memory (VmRSS) of adsd, page, history and mqtt
-is told each minute; where one grows by more than 16 MiB in the second half of an hour, the history by more than the 64 MiB of its file that SQLite keeps in
-memory, it is a fault. The longest gaps and the ticks that were passed over are told. Status 1 where anything differs.
+Behind the load all is stopped, adsd last. Then each sample of the history must be one that was written, at one moment
+number and bytes of one write, the ticks one behind the other; page and broker must have the last number; adsd must end
+with 0, have told no fault in its log and its status file, and have answered each request; its store must have the last
+values of all symbols; and a new start must serve the last block. The memory (VmRSS) of adsd, page, history and mqtt is
+told each minute; where one grows by more than 16 MiB in the second half of an hour, the history by more than the 64 MiB
+of its file that SQLite keeps in memory, it is a fault. The longest gaps and the ticks that were passed over are told.
+Status 1 where anything differs.
 """
 import argparse
 import contextlib
@@ -37,37 +42,43 @@ import tempfile
 import threading
 import time
 
-sys.dont_write_bytecode = True
 HERE = os.path.dirname(os.path.abspath(__file__))
-sys.path[:0] = [HERE, os.path.join(HERE, "..", "tools")]
-import daemon  # noqa: E402
-import model  # noqa: E402
+sys.dont_write_bytecode = True
+sys.path[1:1] = [f"{sys.path[0]}/../{room}" for room in ("model", "tools", "tries")]
+import adsd  # noqa: E402
+import ams  # noqa: E402
 import serve  # noqa: E402
 import store  # noqa: E402
-from daemon import expect  # noqa: E402
+from adsd import reply  # noqa: E402
+from ams import area, u32  # noqa: E402
 from random_runs import toml_of  # noqa: E402
 from tries.fake_broker import Broker  # noqa: E402
 from tries.history_checks import of_sqlite, sound  # noqa: E402
 from tries.of_mqtt import interpreter  # noqa: E402
 from tries.paged import Page  # noqa: E402
 from tries.running import Wrong  # noqa: E402
+from under_test import Differs, expect, free_port  # noqa: E402
 
 TOOLS = os.path.join(HERE, "..", "tools")
 WATCHING, NOTES, BLOCK, SIZE, MOST_GROWN = 8, 512, serve.RAMP + 64, 64, 16384
 MOST_OF_HISTORY = 65536    # SQLite keeps so many KiB of the file in memory
 STRICT, WIDE = "rswhrhsWrhrwshrSWhrs", "rswhrhsWrhrwshrSWhrsHHT"
-FAULTS = re.compile(r"store fault|not saved|lines lost|cannot be read|refused|shut \d|lost \d|no route|not allowed|no ADS|fits")
+FAULTS = re.compile(r"store fault|not saved|lines lost|cannot be read|refused|shut \d|lost \d|no route|not allowed|no "
+                    r"ADS|fits")
 
 
 def description(asking, version):
-    """The plant of bench/serve.py with persistent symbols and a block; the bytes that a symbol that nobody asks begins with are the version."""
+    """The plant of bench/serve.py with persistent symbols and a block; the bytes that a symbol that nobody asks begins
+    with are the version."""
     d = serve.plant(0, serve.OWN * asking)
     symbols = d["port"][0]["symbol"]
     for it in symbols[:-1]:
         it["persistent"] = True
     symbols.append({"name": "Own.count", "type": "UDINT", "area": "data", "offset": BLOCK, "persistent": True})
-    symbols.append({"name": "Own.data", "type": f"ARRAY [1..{SIZE - 4}] OF BYTE", "area": "data", "offset": BLOCK + 4, "persistent": True})
-    symbols.append({"name": "Spare.version", "type": "UDINT", "area": "data", "offset": BLOCK + SIZE, "initial": version.to_bytes(4, "little").hex()})
+    symbols.append({"name": "Own.data", "type": f"ARRAY [1..{SIZE - 4}] OF BYTE", "area": "data", "offset": BLOCK + 4,
+                    "persistent": True})
+    symbols.append({"name": "Spare.version", "type": "UDINT", "area": "data", "offset": BLOCK + SIZE,
+                    "initial": version.to_bytes(4, "little").hex()})
     return d
 
 
@@ -77,25 +88,26 @@ def block_of(number):
 
 
 def request(kind, first, r):
-    """A request as bench/serve.py makes it, or one of the wide profile: a greater buffer by handle, or a sum of reads that tells lengths."""
+    """A request as bench/serve.py makes it, or one of the wide profile: a greater buffer by handle, or a sum of reads
+    that tells lengths."""
     if kind == "H":
-        return 2, serve.words(0xF005, 1 + r.randrange(serve.OWN), 1024)
+        return 2, u32(0xF005, 1 + r.randrange(serve.OWN), 1024)
     if kind == "T":
         places = [4 * (first + r.randrange(serve.OWN)) for _ in range(100)]
-        return 9, serve.words(0xF084, 100, 1200, 1200) + b"".join(serve.words(0x4040, place, 4) for place in places)
+        return 9, u32(0xF084, 100, 1200, 1200) + b"".join(u32(0x4040, place, 4) for place in places)
     return serve.request(kind, first, r)
 
 
 def plan_of_load(k, wide):
     r, first = random.Random(k), serve.OWN * k
     names = [f"v{first + i}".encode() for i in range(serve.OWN)]
-    once = [(3, serve.words(0x4040, 4 * first, 4 * serve.OWN) + r.randbytes(4 * serve.OWN))]
-    once += [(9, serve.words(0xF003, 0, 4, len(name)) + name) for name in names]
+    once = [(3, u32(0x4040, 4 * first, 4 * serve.OWN) + r.randbytes(4 * serve.OWN))]
+    once += [(9, u32(0xF003, 0, 4, len(name)) + name) for name in names]
     return serve.plan(k, once, [request(kind, first, r) for kind in (WIDE if wide else STRICT) * 25], wide=wide)
 
 
 def plan_of_notes(k, wide):
-    add = serve.words(0x4040, serve.RAMP, 2, 6 if wide else 4, 0, 0) + bytes(16)
+    add = ams.watched(0x4040, serve.RAMP, 2, 6 if wide else 4)
     return serve.plan(k, [(6, add)] * NOTES, [], 1, wide)
 
 
@@ -103,7 +115,8 @@ class Load(serve.Bench):
     """A daemon in a folder of its own, and loads of it, until the stack ends them."""
 
     def __init__(self, stack, program, profile, asking):
-        self.stack, self.client, self.asking, self.program, self.profile, self.version = stack, "./serve_client", asking, program, profile, 0
+        self.stack, self.client, self.asking, self.program, self.profile, self.version = (
+            stack, "./serve_client", asking, program, profile, 0)
         os.chdir(stack.enter_context(tempfile.TemporaryDirectory(prefix="daemon-load-")))
         for name in ("serve_client", "stolen"):
             serve.compile_c(name)
@@ -112,9 +125,11 @@ class Load(serve.Bench):
         self.server = (str(self.daemon.port), self.daemon.process)
 
     def started(self):
-        port = daemon.free_port()
-        given = ["load.toml", "--listen", f"127.0.0.1:{port}", "--store", "kept", "--save-each", "1", "--status", "status.prom", "--profile", self.profile]
-        return daemon.Daemon(self.stack, self.program, given, bare=True, folder=os.getcwd(), port=port, stderr=self.stack.enter_context(open("log", "ab")))
+        port = free_port()
+        given = ["load.toml", "--listen", f"127.0.0.1:{port}", "--store", "kept", "--save-each", "1", "--status",
+                 "status.prom", "--profile", self.profile]
+        return adsd.Daemon(self.stack, self.program, given, bare=True, folder=os.getcwd(), port=port,
+                           stderr=self.stack.enter_context(open("log", "ab")))
 
     def describe(self):
         """The next description takes the place of the one that is served."""
@@ -123,18 +138,20 @@ class Load(serve.Bench):
         os.replace("load.new", "load.toml")
 
     def asked(self, link, number, command, payload):
-        link.sendall(daemon.frame(number, command, payload))
-        got = daemon.reply(link)
-        expect(got is not None and got[0] == number and got[1][:4] == bytes(4), f"request {number} was answered by {got!r}")
+        link.sendall(ams.request(command, number, payload))
+        got = reply(link)
+        expect(got is not None and got[0] == number and got[1][:4] == bytes(4),
+               f"request {number} was answered by {got!r}")
         return got[1][4:]
 
     def read(self, place, size):
         with self.daemon.link() as link:
-            return self.asked(link, 1, 2, struct.pack("<III", 0x4040, place, size))[4:]
+            return self.asked(link, 1, 2, area(0x4040, place, size))[4:]
 
 
 class Writer(threading.Thread):
-    """Writes the block and reads it back. `number` is the last that was written, `longest` the longest round trip in seconds."""
+    """Writes the block and reads it back. `number` is the last that was written, `longest` the longest round trip in
+    seconds."""
 
     def __init__(self, load):
         super().__init__(daemon=True)
@@ -146,16 +163,17 @@ class Writer(threading.Thread):
                 link.settimeout(60)
                 while not self.stops.wait(0.04):
                     self.turn(link)
-        except (OSError, daemon.Failed) as fault:
+        except (OSError, Differs) as fault:
             self.fault = f"the writer: {fault}"
 
     def turn(self, link):
         given, began = block_of(self.number + 1), time.monotonic()
         self.number += 1
-        link.sendall(daemon.frame(1, 3, struct.pack("<III", 0x4040, BLOCK, SIZE) + given) + daemon.frame(2, 2, struct.pack("<III", 0x4040, BLOCK, SIZE)))
-        wrote, read = daemon.reply(link), daemon.reply(link)
+        link.sendall(ams.request(3, 1, area(0x4040, BLOCK,
+                                            SIZE) + given) + ams.request(2, 2, area(0x4040, BLOCK, SIZE)))
+        wrote, read = reply(link), reply(link)
         expect(wrote == (1, bytes(4)), f"the write of {self.number} was answered by {wrote!r}")
-        expect(read == (2, struct.pack("<II", 0, SIZE) + given), f"behind the write of {self.number} the block is {read!r}")
+        expect(read == (2, u32(0, SIZE) + given), f"behind the write of {self.number} the block is {read!r}")
         self.longest = max(self.longest, time.monotonic() - began)
 
 
@@ -176,7 +194,8 @@ class Reader:
         if (851, "Own.count") in values:
             number = values[851, "Own.count"]["value"]
             last = self.writer.number
-            expect(self.shown <= number <= last, f"the page shows {number}, where it showed {self.shown} and {last} was written last")
+            expect(self.shown <= number <= last, f"the page shows {number}, where it showed {self.shown} and {last} "
+                   f"was written last")
             self.shown = number
 
 
@@ -193,7 +212,8 @@ class Heard:
             if topic == "load/851/Own.count" and given:
                 number = json.loads(given)["value"]
                 last = self.writer.number
-                expect(self.last <= number <= last, f"the broker has {number}, where {self.last} was there and {last} was written last")
+                expect(self.last <= number <= last, f"the broker has {number}, where {self.last} was there and {last} "
+                       f"was written last")
                 self.last, self.count = number, self.count + 1
 
 
@@ -206,11 +226,13 @@ class Tools:
         self.page = load.stack.enter_context(Page("load.toml", to))
         self.processes["page"] = self.page.process
         words = ["--to", to, "--netid", serve.NET, "--me", serve.ME]
-        self.tool("history", sys.executable, "history.py", "record", "Own.*", "ramp", *words, "--cycle", "0", "--sqlite", "it.db")
+        self.tool("history", sys.executable, "history.py", "record", "Own.*", "ramp", *words, "--cycle", "0",
+                  "--sqlite", "it.db")
         self.reader, self.heard, python = Reader(self.page, writer), None, interpreter()
         if python:
             self.heard = Heard(load.stack.enter_context(Broker()), writer)
-            self.tool("mqtt", python, "mqtt.py", "Own.count", *words, "--cycle", "0", "--broker", f"127.0.0.1:{self.heard.broker.port}", "--plant", "load")
+            self.tool("mqtt", python, "mqtt.py", "Own.count", *words, "--cycle", "0", "--broker",
+                      f"127.0.0.1:{self.heard.broker.port}", "--plant", "load")
 
     def tool(self, name, python, *words):
         err = self.load.stack.enter_context(open(f"{name}.err", "wb"))
@@ -230,7 +252,8 @@ class Tools:
         """Waits until page and broker have this number, and the recorder has written it."""
         until = time.monotonic() + 60
         while (self.reader.shown, self.heard.last if self.heard else number) != (number, number):
-            expect(time.monotonic() < until, f"{number} was written last; the page shows {self.reader.shown}, the broker has {self.heard and self.heard.last}")
+            expect(time.monotonic() < until, f"{number} was written last; the page shows {self.reader.shown}, the "
+                   f"broker has {self.heard and self.heard.last}")
             time.sleep(0.2)
             self.look()
         time.sleep(2)
@@ -240,7 +263,8 @@ class Tools:
         process = self.processes[name]
         process.send_signal(signal.SIGTERM)
         out, err = process.communicate(timeout=120)[0], pathlib.Path(f"{name}.err").read_text()
-        expect(process.returncode == 0 and "Traceback" not in err, f"{name} ended with {process.returncode}: {err[-500:]}")
+        expect(process.returncode == 0 and "Traceback" not in err,
+               f"{name} ended with {process.returncode}: {err[-500:]}")
         return out.decode()
 
 
@@ -260,10 +284,12 @@ def history_is_sound(writer, printed):
     expect(values == sorted(values), "the numbers fall")
     expect(values[-1] == writer.number, f"{values[-1]} was recorded last, and {writer.number} was written last")
     for ns, number, _ in numbers:
-        expect(ns not in datas or datas[ns] == block_of(number)[4:], f"at {ns} stand the number {number} and the bytes of another write")
+        expect(ns not in datas or datas[ns] == block_of(number)[4:],
+               f"at {ns} stand the number {number} and the bytes of another write")
     whys = sorted({why for _, own in history.values() for *_, why in own})
     expect(not gaps, f"{gaps} gaps in the history, though the server was never gone: {'; '.join(whys)}")
-    return f"history: {rows:,} samples, {len(ticks):,} ticks one behind another, {len(numbers):,} numbers of {writer.number:,} writes"
+    return (f"history: {rows:,} samples, {len(ticks):,} ticks one behind another, {len(numbers):,} numbers of "
+            f"{writer.number:,} writes")
 
 
 def store_has(load, area, block):
@@ -271,9 +297,11 @@ def store_has(load, area, block):
     standing = store.standing_of(pathlib.Path("kept").read_bytes())
     expect(standing is not None, "nothing stands in the store")
     held = {name.decode(): data for _, name, _, data in store.entries_of(standing[2])}
-    wanted = {f"v{k}": area[4 * k:4 * k + 4] for k in range(serve.OWN * load.asking)} | {"Own.count": block[:4], "Own.data": block[4:]}
+    wanted = {f"v{k}": area[4 * k:4 * k + 4] for k in range(serve.OWN * load.asking)} | {
+        "Own.count": block[:4], "Own.data": block[4:]}
     wrong = [name for name in wanted.keys() | held.keys() if wanted.get(name) != held.get(name)]
-    expect(not wrong, f"of {len(wrong)} symbols the store has other bytes than were there last, as of {sorted(wrong)[:3]}")
+    expect(not wrong, f"of {len(wrong)} symbols the store has other bytes than were there last, as of "
+           f"{sorted(wrong)[:3]}")
     return f"store: {len(held):,} symbols as they were last, save number {standing[1]:,}"
 
 
@@ -285,21 +313,28 @@ def daemon_ends(load):
     """Stops the daemon, and looks at its summary, its log and its status file."""
     version = serve.version_of(load.server)
     out, _, status, took = load.daemon.stopped(signal.SIGTERM)
-    summary = re.fullmatch(r"connections (\d+) requests (\d+) replies (\d+) samples (\d+) reloads (\d+) (\d+)\nsaved (\d+)\n", out)
+    summary = re.fullmatch(r"connections (\d+) requests (\d+) replies (\d+) samples (\d+) reloads (\d+) (\d+)\nsaved "
+                           r"(\d+)\n", out)
     expect(status == 0 and summary is not None, f"adsd ended with {status} and printed {out!r}")
     _, requests, replies, samples, accepted, refused, saved = map(int, summary.groups())
-    expect(requests == replies and refused == 0 and (1 + accepted) % 256 == version and accepted < load.version, f"adsd says {out!r}, its version is {version}")
+    expect(requests == replies and refused == 0 and (1 + accepted) % 256 == version and accepted < load.version,
+           f"adsd says {out!r}, its version is {version}")
     wrong = [line for line in pathlib.Path("log").read_text(errors="replace").splitlines() if FAULTS.search(line)]
     expect(not wrong, f"{len(wrong)} lines of the log tell a fault, the first {wrong[:1]}")
     text = pathlib.Path("status.prom").read_text()
-    wanted = {"adsd_store_faults_total": 0, "adsd_description_read_faults_total": 0, "adsd_log_lines_lost_total": 0, "adsd_saves_total": saved,
-              'adsd_reloads_total{outcome="accepted"}': accepted, "adsd_requests_total": requests, "adsd_samples_total": samples}
+    wanted = {"adsd_store_faults_total": 0, "adsd_description_read_faults_total": 0, "adsd_log_lines_lost_total": 0,
+              "adsd_saves_total": saved,
+              'adsd_reloads_total{outcome="accepted"}': accepted, "adsd_requests_total": requests,
+              "adsd_samples_total": samples}
     for name, number in wanted.items():
         expect(told_in(text, name) == number, f"{name} is {told_in(text, name)}, and not {number}")
-    missed, ticks, late = (told_in(text, f"adsd_{name}") for name in ("ticks_missed_total", "ticks_total", "tick_late_seconds_max"))
-    return (f"adsd: {requests:,} requests and replies, {samples:,} samples, {accepted:,} descriptions taken of {load.version - 1:,}, {saved:,} saves (the last "
+    missed, ticks, late = (told_in(text, f"adsd_{name}")
+                           for name in ("ticks_missed_total", "ticks_total", "tick_late_seconds_max"))
+    return (f"adsd: {requests:,} requests and replies, {samples:,} samples, {accepted:,} descriptions taken of "
+            f"{load.version - 1:,}, {saved:,} saves (the last "
             f"took {1000 * told_in(text, 'adsd_last_save_seconds'):.0f} ms), stopped in {1000 * took:.0f} ms\n"
-            f"ticks: {ticks:,.0f} took place, {missed:,.0f} were passed over ({100 * missed / (ticks + missed):.1f} %), the latest {1000 * late:.0f} ms late; "
+            f"ticks: {ticks:,.0f} took place, {missed:,.0f} were passed over ({100 * missed / (ticks + missed):.1f} "
+            f"%), the latest {1000 * late:.0f} ms late; "
             f"{told_in(text, 'adsd_short_offers_total'):,.0f} short offers")
 
 
@@ -325,7 +360,8 @@ def loaded(load, seconds, tools, writer):
         tools.look()
         if time.monotonic() - began >= min(60, seconds / 4) * len(held):
             held.append(tools.memory())
-            print(f"{time.monotonic() - began:5.0f} s: {', '.join(f'{name} {kib:,}' for name, kib in held[-1].items())} KiB", flush=True)
+            print(f"{time.monotonic() - began:5.0f} s: "
+                  f"{', '.join(f'{name} {kib:,}' for name, kib in held[-1].items())} KiB", flush=True)
     stolen = serve.stretches(pathlib.Path("stolen.txt")) if watch.poll() is None else []
     serve.tell_stolen(stolen, watch.poll() is None)
     for client, what in zip(clients, ("requests", "samples")):
@@ -340,7 +376,8 @@ def tell_memory(held, seconds):
     """How much each process grew; a fault where it is much in the second half of a long run."""
     for name in held[0]:
         first, middle, last = (held[at][name] for at in (0, len(held) // 2, -1))
-        print(f"{name}: {first:,} KiB at first, {last:,} in the end, grown by {last - first:,}, of these {last - middle:,} in the second half")
+        print(f"{name}: {first:,} KiB at first, {last:,} in the end, grown by {last - first:,}, of these "
+              f"{last - middle:,} in the second half")
         most = MOST_OF_HISTORY if name == "history" else MOST_GROWN
         expect(seconds < 1800 or last - middle <= most, f"{name} grows")
 
@@ -355,11 +392,14 @@ def tried(stack, given):
     writer.stops.set()
     writer.join(60)
     expect(not writer.fault, writer.fault)
-    print(f"{writer.number:,} writes of the block, each read back; the longest of these took {1000 * writer.longest:.0f} ms")
+    print(f"{writer.number:,} writes of the block, each read back; the longest of these took "
+          f"{1000 * writer.longest:.0f} ms")
     tools.until(writer.number)
     tell_memory(held, seconds)
-    print(f"page: {tools.reader.reads:,} looks, {tools.reader.well:,} of them well; {tools.reader.whys or 'no other answer'}")
-    print(f"mqtt: {tools.heard.count:,} messages of the number" if tools.heard else "no mqtt.py was tried: python3-paho-mqtt is not here")
+    print(f"page: {tools.reader.reads:,} looks, {tools.reader.well:,} of them well; "
+          f"{tools.reader.whys or 'no other answer'}")
+    print(f"mqtt: {tools.heard.count:,} messages of the number" if tools.heard
+          else "no mqtt.py was tried: python3-paho-mqtt is not here")
     expect(tools.reader.well, "the page was never well")
     if tools.heard:
         tools.ended("mqtt")
@@ -385,7 +425,7 @@ def main():
     with contextlib.ExitStack() as stack:
         try:
             tried(stack, given)
-        except (daemon.Failed, Wrong, OSError, subprocess.SubprocessError) as why:
+        except (Differs, Wrong, OSError, subprocess.SubprocessError) as why:
             print(f"WRONG: {why}")
             return 1
     return 0

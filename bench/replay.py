@@ -1,68 +1,36 @@
 #!/usr/bin/env python3
 """Time of `ads replay` per request, for many requests, many connections, and many frames that wait.
 
-Build the program first: in crates/ads, `rt run -- selftest ../../examples/state.script`.
+    python3 bench/replay.py [PROGRAM]      crates/ads/out/ads where it is absent
 
-1,000, 10,000 and 100,000 reads of four bytes on one connection: the ratio of the time per request of the last to the first is to be at most 1.3. With 100 and
-1,000 further connections open beside the one that asks, and with 10,000 replies that wait for another connection, a request is to cost at most a tenth more.
+1,000, 10,000 and 100,000 reads of four bytes on one connection: the ratio of the time per request of the last to the
+first is to be at most 1.3. With 100 and 1,000 further connections open beside the one that asks, and with 10,000
+replies that wait for another connection, a request is to cost at most a tenth more.
 
 Times are processor times of the program, the least of five runs, less that of the same run without the requests.
 """
-import os
-import resource
-import subprocess
 import sys
-import tempfile
 
-HERE = os.path.dirname(os.path.abspath(__file__))
-PROGRAM = os.path.join(HERE, "..", "crates", "ads", "out", "ads")
-PLANT = os.path.join(HERE, "..", "examples", "plant.toml")
-NET = bytes([5, 1, 2, 3, 1, 1])
-ME = bytes([192, 168, 0, 9, 1, 1])
-
-
-def frame(command, number, payload, port=32905):
-    """A request to port 851 in its frame."""
-    head = NET + (851).to_bytes(2, "little") + ME + port.to_bytes(2, "little")
-    head += command.to_bytes(2, "little") + (4).to_bytes(2, "little") + len(payload).to_bytes(4, "little")
-    head += bytes(4) + number.to_bytes(4, "little")
-    return bytes(2) + (len(head) + len(payload)).to_bytes(4, "little") + head + payload
-
-
-def read(number):
-    """A read of four bytes of the data area, from its first on."""
-    return frame(2, number, (0x4040).to_bytes(4, "little") + bytes(4) + (4).to_bytes(4, "little"))
+sys.dont_write_bytecode = True
+sys.path[1:1] = [f"{sys.path[0]}/../{room}" for room in ("model", "tries")]
+from ams import area, request  # noqa: E402
+from timed import program_of, seconds_of  # noqa: E402
+from under_test import ADS, PLANT  # noqa: E402
 
 
 def line_of(conn, number):
-    return f"bytes {conn} {read(number).hex()}\n"
+    return f"bytes {conn} {request(2, number, area(0x4040, 0, 4)).hex()}\n"
 
 
-def seconds(script):
-    """The processor time of a replay of a script, the least of five."""
-    with tempfile.NamedTemporaryFile("w", suffix=".script") as it:
-        it.write(script)
-        it.flush()
-        least = None
-        for _ in range(5):
-            before = resource.getrusage(resource.RUSAGE_CHILDREN)
-            ran = subprocess.run([PROGRAM, "replay", PLANT, it.name], stdout=subprocess.DEVNULL)
-            if ran.returncode != 0:
-                sys.exit(f"the program ended with {ran.returncode}")
-            after = resource.getrusage(resource.RUSAGE_CHILDREN)
-            took = after.ru_utime + after.ru_stime - before.ru_utime - before.ru_stime
-            least = took if least is None else min(least, took)
-        return least
+def main(words):
+    program, failed = program_of(words, ADS), False
 
+    def seconds(script):
+        return seconds_of([program, "replay", PLANT, "it.script"], {"it.script": script})[0]
 
-def each(before, count):
-    """Seconds of one request, where so many stand behind these lines."""
-    asked = "".join(line_of(1, n + 1) for n in range(count))
-    return (seconds(before + asked) - seconds(before)) / count
-
-
-def main():
-    failed = False
+    def each(before, count):
+        """Seconds of one request, where so many stand behind these lines."""
+        return (seconds(before + "".join(line_of(1, n + 1) for n in range(count))) - seconds(before)) / count
 
     def told(what, value, base, most):
         nonlocal failed
@@ -84,4 +52,4 @@ def main():
 
 
 if __name__ == "__main__":
-    sys.exit(main())
+    sys.exit(main(sys.argv[1:]))

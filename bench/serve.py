@@ -1,18 +1,26 @@
 #!/usr/bin/env python3
-"""What `ads serve` does in a second, and what that costs, beside a server of the same plant that is written by hand in C (bench/serve_limit.c).
+"""What `ads serve` does in a second, and what that costs, beside a server of the same plant that is written by hand in
+C (bench/serve_limit.c).
 
-    python3 bench/serve.py PROGRAM [--quick] [--plot FILE.svg]     requests: a table (Markdown), and a drawing of the mixture
-    python3 bench/serve.py PROGRAM --notes [--quick]               notifications: 512 on each of 64 connections, of a symbol that changes at each tick of 10 ms
-    python3 bench/serve.py PROGRAM --minutes M                     the program's memory in M minutes of the mixture on 64 connections
-    python3 bench/serve.py PROGRAM --minutes M --reloads           the same with a reload each second, and of the 64 connections 16 with 512 notifications each; in the
-                                                                   times between their frames, what the host kept of the processors (bench/stolen.c, by root)
+    python3 bench/serve.py PROGRAM [--quick] [--plot FILE.svg]
+        requests: a table (Markdown), and a drawing of the mixture
+    python3 bench/serve.py PROGRAM --notes [--quick]
+        notifications: 512 on each of 64 connections, of a symbol that changes at each tick of 10 ms
+    python3 bench/serve.py PROGRAM --minutes M
+        the program's memory in M minutes of the mixture on 64 connections
+    python3 bench/serve.py PROGRAM --minutes M --reloads
+        the same with a reload each second, and of the 64 connections 16 with 512 notifications each; in the times
+        between their frames, what the host kept of the processors (bench/stolen.c, by root)
 
-PROGRAM is crates/ads/out/ads, which `rt run -- selftest ../../examples/state.script` in crates/ads builds; gcc builds the C server and the load (bench/serve_client.c).
+PROGRAM is crates/ads/out/ads, which `rt run -- selftest ../../examples/state.script` in crates/ads builds; gcc builds
+the C server and the load (bench/serve_client.c).
 
-The plant has 6,400 symbols of four bytes. Each connection asks over loopback for 100 of its own. What it must be told comes from bench/model.py: a wrong byte, or five
-seconds of nothing (a minute with --minutes), ends the run with the connection and the byte. Of 20 requests of the mixture 6 are reads by group, 5 reads by handle, 2 writes by group, 2 writes
-by handle, 4 states, and one a sum of 100 reads. Each figure is the median of five turns, in which both servers come one after the other, and each ratio the median of the turns'
-ratios; with --quick of one short turn. Processor time is that of all threads of the server. Other work on the machine spoils all figures, so its load average is told first.
+The plant has 6,400 symbols of four bytes. Each connection asks over loopback for 100 of its own. What it must be told
+comes from model/protocol.py: a wrong byte, or five seconds of nothing (a minute with --minutes), ends the run with the
+connection and the byte. Of 20 requests of the mixture 6 are reads by group, 5 reads by handle, 2 writes by group, 2
+writes by handle, 4 states, and one a sum of 100 reads. Each figure is the median of five turns, in which both servers
+come one after the other, and each ratio the median of the turns' ratios; with --quick of one short turn. Processor time
+is that of all threads of the server. Other work on the machine spoils all figures, so its load average is told first.
 """
 import argparse
 import bisect
@@ -23,7 +31,6 @@ import os
 import pathlib
 import random
 import signal
-import socket
 import statistics
 import subprocess
 import sys
@@ -31,8 +38,12 @@ import tempfile
 import time
 
 sys.dont_write_bytecode = True
-import model  # noqa: E402
+sys.path[1:1] = [f"{sys.path[0]}/../{room}" for room in ("model", "tools", "tries")]
+import ams  # noqa: E402
+import protocol  # noqa: E402
+from ams import u32  # noqa: E402
 from random_runs import toml_of  # noqa: E402
+from under_test import FOREVER, connected, free_port  # noqa: E402
 
 HERE = os.path.dirname(os.path.abspath(__file__))
 NET, ME = "5.1.2.3.1.1", "192.168.0.9.1.1"
@@ -49,42 +60,45 @@ def plant(first, count):
     return {"schema": 1, "net": NET, "route": [{"net": ME, "rights": "write"}], "port": [port]}
 
 
-def words(*numbers):
-    return b"".join(map(model.u32, numbers))
+def request_of(k, command, number, payload):
+    """A request of connection k in its frame."""
+    return ams.request(command, number, payload, source_port=ams.OWN_PORT + k)
 
 
 def request(kind, first, r):
     """The command and the payload of a request to the symbols from the first on."""
     places = [4 * (first + r.randrange(OWN)) for _ in range(100 if kind == "S" else 1)]
-    by_group, by_handle, given = words(0x4040, places[0], 4), words(0xF005, 1 + r.randrange(OWN), 4), r.randbytes(4)
+    by_group, by_handle, given = u32(0x4040, places[0], 4), u32(0xF005, 1 + r.randrange(OWN), 4), r.randbytes(4)
     if kind == "S":
-        return 9, words(0xF080, 100, 800, 1200) + b"".join(words(0x4040, place, 4) for place in places)
-    return {"s": (4, b""), "r": (2, by_group), "h": (2, by_handle), "w": (3, by_group + given), "W": (3, by_handle + given)}[kind]
+        return 9, u32(0xF080, 100, 800, 1200) + b"".join(u32(0x4040, place, 4) for place in places)
+    return {"s": (4, b""), "r": (2, by_group), "h": (2, by_handle), "w": (3, by_group + given),
+            "W": (3, by_handle + given)}[kind]
 
 
 def plan(k, once, again, ticks=0, wide=False):
-    """The plan of connection k (see serve_client.c). What is asked again and again is asked once before, so that each time finds what the last one left."""
-    server, asks = model.Server(plant(OWN * k, OWN), [range(1000)], wide), []
-    model.turn(server, ("open", 1), [])
-    client, head = server.conns[1], model.net_of(NET) + model.u16(851) + model.net_of(ME) + model.u16(32905 + k)
+    """The plan of connection k (see serve_client.c). What is asked again and again is asked once before, so that each
+    time finds what the last one left."""
+    server, asks = protocol.Server(plant(OWN * k, OWN), [range(1000)], wide), []
+    protocol.turn(server, ("open", 1), [])
+    client = server.conns[1]
     for number, (command, payload) in enumerate(once + again + again):
-        ams = head + model.u16(command) + model.u16(4) + words(len(payload), 0, number) + payload
-        asks.append(bytes(2) + words(len(ams)) + ams)
+        asks.append(request_of(k, command, number, payload))
         client.stream += asks[-1]
         server.take(client)
     for moment in range(ticks):
         asks.append(b"")
         server.tick(moment)
     begins = zip(*(itertools.accumulate(map(len, it), initial=0) for it in (asks, client.queue)))
-    body = b"".join([words(*it) for it in begins] + asks + client.queue)
+    body = b"".join([u32(*it) for it in begins] + asks + client.queue)
     body += bytes(-len(body) % 4)
-    return words(12 + len(body), len(once + again), len(asks)) + body
+    return u32(12 + len(body), len(once + again), len(asks)) + body
 
 
 def plan_of_load(k, kinds):
     r, first = random.Random(k), OWN * k
     names = [f"v{first + i}".encode() for i in range(OWN)]
-    once = [(3, words(0x4040, 4 * first, 4 * OWN) + r.randbytes(4 * OWN))] + [(9, words(0xF003, 0, 4, len(name)) + name) for name in names]
+    once = [(3, u32(0x4040, 4 * first, 4 * OWN) + r.randbytes(4 * OWN))] + [(9, u32(0xF003, 0, 4, len(
+        name)) + name) for name in names]
     return plan(k, once, [request(kind, first, r) for kind in kinds])
 
 
@@ -106,7 +120,8 @@ class Bench:
         for name in (f"{command}_limit", f"{command}_client"):
             compile_c(name)
         pathlib.Path("plant.toml").write_text(toml_of(description or plant(0, SYMBOLS)))
-        self.servers = [self.serve([program, command, "plant.toml", "--events", str(2 ** 64 - 1), "--listen"], "127.0.0.1:"), self.serve([f"./{command}_limit"], "")]
+        self.servers = [self.serve([program, command, "plant.toml", "--events", FOREVER, "--listen"], "127.0.0.1:"),
+                        self.serve([f"./{command}_limit"], "")]
 
     def start(self, command, stdout=subprocess.PIPE, **more):
         process = subprocess.Popen(command, stdout=stdout, **more)
@@ -116,9 +131,7 @@ class Bench:
 
     def serve(self, command, address):
         """The port and the process of a server whose last word is the address and a port."""
-        with socket.socket() as free:
-            free.bind(("127.0.0.1", 0))
-            port = str(free.getsockname()[1])
+        port = str(free_port())
         process = self.start(command + [address + port])
         said = process.stdout.readline()
         if said != b"listening\n":
@@ -131,7 +144,8 @@ class Bench:
             return self.start([self.client, port, str(process.pid), *map(str, numbers)], stdin=it)
 
     def medians(self, *numbers):
-        """Of both servers: replies a second, processor ns of each, the longest gap in ms. And the ratios of the first two to the C server's, each the median of what the turns gave."""
+        """Of both servers: replies a second, processor ns of each, the longest gap in ms. And the ratios of the first
+        two to the C server's, each the median of what the turns gave."""
         turns = [self.turn(number, numbers) for number in range(1 if self.quick else 5)]
         ratios = [statistics.median(ads[it] / c[it] for ads, c in turns) for it in (0, 1)]
         return [[statistics.median(it) for it in zip(*rows)] for rows in zip(*turns)], ratios
@@ -157,13 +171,16 @@ def figures(server, client):
 
 
 def requests(bench, plot):
-    print("| requests | connections | in flight on each | requests a second | C server | ratio | processor ns a request | C server |\n|---|---|---|---|---|---|---|---|")
+    print("| requests | connections | in flight on each | requests a second | C server | ratio | processor ns a "
+          "request | C server |\n|---|---|---|---|---|---|---|---|")
     for name, kinds in LOADS.items():
         plan_all(lambda k: plan_of_load(k, kinds))
         lines = {(server, depth): [] for server in ("ads", "C") for depth in (32, 1)}
         for depth, count in itertools.product((32, 1), (64, 8, 1)):
-            ((rate, cost, _), (c_rate, c_cost, _)), (ratio, _) = bench.medians(count, depth, 0.3 if bench.quick else 0.6)
-            print(f"| {name} | {count} | {depth} | {rate:,.0f} | {c_rate:,.0f} | {ratio:.2f} | {cost:,.0f} | {c_cost:,.0f} |", flush=True)
+            ((rate, cost, _), (c_rate, c_cost, _)), (ratio, _) = bench.medians(
+                count, depth, 0.3 if bench.quick else 0.6)
+            print(f"| {name} | {count} | {depth} | {rate:,.0f} | {c_rate:,.0f} | {ratio:.2f} | {cost:,.0f} | "
+                  f"{c_cost:,.0f} |", flush=True)
             lines["ads", depth].append((count, rate))
             lines["C", depth].append((count, c_rate))
     if plot:
@@ -171,12 +188,14 @@ def requests(bench, plot):
 
 
 def notes(bench):
-    plan_all(lambda k: plan(k, [(6, words(0x4040, RAMP, 2, 4, 0, 0) + bytes(16))] * NOTES, [], 1))
+    plan_all(lambda k: plan(k, [(6, ams.watched(0x4040, RAMP, 2, 4))] * NOTES, [], 1))
     rows, (_, ratio) = bench.medians(CONNECTIONS, 0, 1 if bench.quick else 4)
-    print("| server | samples a second | longest gap between two frames, ms | processor ns a sample |\n|---|---|---|---|")
+    print("| server | samples a second | longest gap between two frames, ms | processor ns a sample "
+          "|\n|---|---|---|---|")
     for name, (rate, cost, gap) in zip(("ads", "C"), rows):
         print(f"| {name} | {rate:,.0f} | {gap:.1f} | {cost:.0f} |")
-    print(f"\nAll there are: {100 * CONNECTIONS * NOTES:,} samples a second. Processor time: {ratio:.2f} times that of the C server.")
+    print(f"\nAll there are: {100 * CONNECTIONS * NOTES:,} samples a second. Processor time: {ratio:.2f} times that of "
+          f"the C server.")
 
 
 def resident(process):
@@ -185,12 +204,13 @@ def resident(process):
 
 
 def memory(bench, minutes, reloads):
-    """The mixture without end; with reloads on 48 connections, beside 16 that are told of the symbol that changes at each tick."""
+    """The mixture without end; with reloads on 48 connections, beside 16 that are told of the symbol that changes at
+    each tick."""
     asking, server, held, version = CONNECTIONS - WATCHING if reloads else CONNECTIONS, bench.servers[0], [], 0
     plan_all(lambda k: plan_of_load(k, LOADS["mixture"]))
     clients = [bench.load(server, asking, 32, 60 * minutes + 2)]
     if reloads:
-        plan_all(lambda k: plan(k, [(6, words(0x4040, RAMP, 2, 4, 0, 0) + bytes(16))] * NOTES, [], 1))
+        plan_all(lambda k: plan(k, [(6, ams.watched(0x4040, RAMP, 2, 4))] * NOTES, [], 1))
         clients.append(bench.load(server, WATCHING, 0, 60 * minutes + 2))
         compile_c("stolen")
         watch = bench.start("./stolen", stdout=open("stolen.txt", "w"))
@@ -232,16 +252,19 @@ def longest(times):
 
 
 def tell_stolen(stolen, watched):
-    """What the host kept of the processors; in the last minute too, since a load that heard nothing may have ended there."""
+    """What the host kept of the processors; in the last minute too, since a load that heard nothing may have ended
+    there."""
     if not watched:
         print("whether the host kept processors is not known: only root may watch that")
         return
     last = [it for it in stolen if it[1] > time.monotonic() - 70]
-    print(f"the host kept a processor {len(stolen):,} times, {sum(end - begin for begin, end in stolen):.1f} s in all, at most {longest(stolen):.1f} ms (in the last minute {longest(last):.1f})")
+    print(f"the host kept a processor {len(stolen):,} times, {sum(end - begin for begin, end in stolen):.1f} s in all, "
+          f"at most {longest(stolen):.1f} ms (in the last minute {longest(last):.1f})")
 
 
 def tell_gaps(gaps, stolen):
-    """Of the times of more than 50 ms between two frames of a connection the longest, with and without what the host kept of each."""
+    """Of the times of more than 50 ms between two frames of a connection the longest, with and without what the host
+    kept of each."""
     print(f"{len(gaps):,} times more than 50 ms between two frames of a connection, at most {longest(gaps):.1f} ms")
     ends = [end for _, end in stolen]
     left = []
@@ -254,7 +277,8 @@ def tell_gaps(gaps, stolen):
 
 
 def change_description(version):
-    """Another description takes the place of the one that is served: a symbol that nobody asks begins with other bytes."""
+    """Another description takes the place of the one that is served: a symbol that nobody asks begins with other
+    bytes."""
     description = plant(0, SYMBOLS)
     description["port"][0]["symbol"][SYMBOLS - 1]["initial"] = version.to_bytes(4, "little").hex()
     pathlib.Path("plant.new").write_text(toml_of(description))
@@ -263,9 +287,8 @@ def change_description(version):
 
 def version_of(server):
     """How often the description of a server was replaced, modulo 256, as its symbol version tells."""
-    ams = model.net_of(NET) + model.u16(851) + model.net_of(ME) + model.u16(40000) + model.u16(2) + model.u16(4) + words(12, 0, 1) + words(0xF008, 0, 1)
-    with socket.create_connection(("127.0.0.1", int(server[0])), timeout=10) as s:
-        s.sendall(bytes(2) + words(len(ams)) + ams)
+    with connected(int(server[0])) as s:
+        s.sendall(request_of(1, 2, 1, u32(0xF008, 0, 1)))
         return s.recv(100)[-1]
 
 
@@ -279,15 +302,19 @@ def drawing(title, lines):
     def y(rate):
         return round(310 - 270 * math.log(rate / low, high / low), 1)
 
-    parts = ['<svg xmlns="http://www.w3.org/2000/svg" width="640" height="360" font-family="sans-serif" font-size="12">',
-             f'<rect width="100%" height="100%" fill="white"/><text x="80" y="20">{title}</text><text x="280" y="350" text-anchor="middle">connections</text>']
+    parts = ['<svg xmlns="http://www.w3.org/2000/svg" width="640" height="360" font-family="sans-serif" '
+             'font-size="12">',
+             f'<rect width="100%" height="100%" fill="white"/><text x="80" y="20">{title}</text><text x="280" y="350" '
+             f'text-anchor="middle">connections</text>']
     parts += [f'<text x="{at}" y="330" text-anchor="middle">{count}</text>' for count, at in x.items()]
     for mark in marks[marks.index(low):marks.index(high) + 1]:
-        parts.append(f'<line x1="80" x2="480" y1="{y(mark)}" y2="{y(mark)}" stroke="#ddd"/><text x="72" y="{y(mark) + 4}" text-anchor="end">{mark:,}</text>')
+        parts.append(f'<line x1="80" x2="480" y1="{y(mark)}" y2="{y(mark)}" stroke="#ddd"/><text x="72" '
+                     f'y="{y(mark) + 4}" text-anchor="end">{mark:,}</text>')
     label = 0
     for (server, depth), points in sorted(lines.items(), key=lambda it: -it[1][0][1]):
         label = max(label + 16, y(points[0][1]) + 4)
-        style = f'fill="none" stroke-width="2" stroke="{"#1f6f43" if server == "ads" else "#777"}" stroke-dasharray="{"5 4" if depth == 1 else "none"}"'
+        style = (f'fill="none" stroke-width="2" stroke="{"#1f6f43" if server == "ads" else "#777"}" '
+                 f'stroke-dasharray="{"5 4" if depth == 1 else "none"}"')
         parts.append(f'<polyline points="{" ".join(f"{x[count]},{y(rate)}" for count, rate in points)}" {style}/>')
         parts.append(f'<text x="490" y="{label:.1f}">{server}, {depth} in flight on each</text>')
     return "\n".join(parts + ["</svg>\n"])

@@ -20,6 +20,9 @@ client wrote since stays. If it is cut off, the same command finishes it; so doe
 The description that stood there is kept as PLACE.before, and `--rollback` brings it back, with its values: those of
 before the deploy, but what was written since keeps its newest value.
 
+What a page shows beside the values, DESCRIPTION.page.toml as tools/plant.py writes it, goes with the description to
+PLACE.page.toml, and back with `--rollback`. Where DESCRIPTION has no such file, that of PLACE stays.
+
 PLACE is the file that the server was started with: a description, or the configuration of adsd that names it.
 `--netid` is the NetId that the server has now, `--me` the own one, a route of the server now and in the new
 description; `--port` is the AMS port (851). `--wait` is how many seconds the version may take to rise (10),
@@ -44,10 +47,13 @@ from lib.changed_server import Latest, Server  # noqa: E402
 from lib.changes import MOST_NAMED, Changes  # noqa: E402
 from lib.fates import Fates  # noqa: E402
 from lib.files import read_bytes  # noqa: E402
+from lib.page_words import beside, read_page_words  # noqa: E402
+from lib.plant import Plant  # noqa: E402
 from lib.program import program_at, run as run_program  # noqa: E402
 from lib.saved import Persistent, Restoring, digest_of, earlier, keep, mark_of, read_kept, saved_in  # noqa: E402
 from lib.signals import MOST, config_in, signals_of  # noqa: E402
-from lib.standing import Note, forget, noted, swap, swapped  # noqa: E402
+from lib.source_meant import source_said  # noqa: E402
+from lib.standing import Note, forget, noted, put, swap, swapped  # noqa: E402
 from lib.stores import standing as standing_in  # noqa: E402
 from lib.verdict import verdict_on  # noqa: E402
 from lib.words import Ended, number, read_words, run  # noqa: E402
@@ -58,9 +64,9 @@ def checked(name, given, options):
     verdict, program = verdict_on(given, options["counted"]), options["program"]
     if verdict.status:
         from_where = f" ({options['counted'].said})" if verdict.rule == 14 else ""
+        right = source_said(verdict, given, name) or "tools/why.py says why"
         raise Ended(
-            f"{name} is refused, and nothing was moved: {verdict.lines[0]}{from_where}; tools/why.py says why",
-            verdict.status,
+            f"{name} is refused, and nothing was moved: {verdict.lines[0]}{from_where}; {right}", verdict.status
         )
     if program:
         said, status = run_program(program_at(program), "check", os.path.abspath(name))
@@ -149,6 +155,26 @@ def tell(changes, fates, place, options):
         print(line)
 
 
+class Page:
+    """What a page shows, as it goes with a description; nothing where that of PLACE stays."""
+
+    def __init__(self, name, place, verdict, is_back):
+        self.own, self.place = beside(place) + ".before" if is_back else beside(name), beside(place)
+        self.bytes = read_bytes(self.own) if os.path.exists(self.own) else None
+        self.old = read_bytes(self.place) if os.path.exists(self.place) else None
+        if self.bytes is not None and not is_back:
+            read_page_words(self.own, Plant(verdict))
+
+    def is_new(self):
+        return self.bytes is not None and self.bytes != self.old
+
+    def tell(self, is_done):
+        if self.is_new():
+            print(f"{self.own} {'stands' if is_done else 'goes with it, and will stand'} at {self.place}")
+        elif self.bytes is None and self.old is not None:
+            print(f"{self.place} stays as it is: there is no {self.own}")
+
+
 def plan(name, place, given, options):
     """Says what a change comes to, and makes none."""
     verdict = checked(name, given, options)
@@ -161,6 +187,7 @@ def plan(name, place, given, options):
     else:
         changes, fates = planned(place, verdict, options)
     tell(changes, fates, place, options)
+    Page(name, place, verdict, options["rollback"]).tell(False)
     if fates.restored():
         print(
             f"before the change all persistent values go to {place}.values-MOMENT-PORT.json; "
@@ -272,8 +299,12 @@ def deploy(name, place, given, server, options):
     can_be_asked(verdict.document, server.me, server.port)
     old = server.version()
     now = read_bytes(place) if os.path.exists(place) else None
+    page = Page(name, place, verdict, options["rollback"])
     if now == given:
         print(f"{place} has these very bytes already; the server has version {old}")
+        if page.is_new() and not options["rollback"]:
+            put(page.bytes, page.place)
+            page.tell(True)
         return 0
     changes, fates, persistent = asked(server, place, verdict)
     tell(changes, fates, place, options)
@@ -287,7 +318,7 @@ def deploy(name, place, given, server, options):
     Note("rollback" if options["rollback"] else "deploy", digest_of(now or b""), digest_of(given), old, files).write(
         place
     )
-    swap(given, place, now if now is not None and changes.before else None)
+    swap(given, place, now if now is not None and changes.before else None, page.bytes)
     kepts = [kept for kept in map(read_kept, files) if kept.restored]
     version = server.risen(verdict.document["net"], old, latest, lambda: server.serves(kepts, verdict))
     if version is None:
@@ -297,6 +328,7 @@ def deploy(name, place, given, server, options):
             7,
         )
     print(f"{name} stands at {place}, and the server has taken it: version {old} became {version}")
+    page.tell(True)
     finished(server, place, verdict, newest(kepts, latest, fates))
     return 0
 

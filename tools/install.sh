@@ -59,8 +59,10 @@ put() { # MODE FILE PLACE
 work=$(mktemp -d)
 trap 'rm -rf "$work"' EXIT
 trap 'exit 1' HUP INT TERM
-units="ads.service ads@.service adsd.service adsd@.service ads-discover.service"
-for unit in $units; do
+units="ads.service ads@.service adsd.service adsd@.service ads-discover.service ads-page.service ads-relay.service"
+# These connect, and nobody connects to them.
+others="ads-history.service ads-mqtt.service ads-dial.service"
+for unit in $units $others; do
     sed "s#/usr/local/#$prefix/#g" "$top/examples/$unit" >"$work/$unit"
 done
 echo 'u ads - "ADS server"' >"$work/ads.conf"
@@ -94,6 +96,9 @@ put 755 "$daemon" "$prefix/libexec/ads/adsd"
 put 755 "$work/ads-tool" "$prefix/bin/ads-tool"
 put 644 "$top/docs/ads.1" "$prefix/share/man/man1/ads.1"
 put 644 "$top/docs/adsd.1" "$prefix/share/man/man1/adsd.1"
+for unit in $others; do
+    put 644 "$work/$unit" "$prefix/lib/systemd/system/$unit"
+done
 for unit in $units; do
     put 644 "$work/$unit" "$prefix/lib/systemd/system/$unit"
     if [ $# -gt 0 ]; then
@@ -111,7 +116,7 @@ for file in "$top"/examples/*; do
 done
 # What /etc/ads begins with. A machine may have no /usr/share/doc, as images of Docker.
 first="plant.toml adsd.toml"
-for file in $first; do
+for file in $first page.toml history.toml mqtt.toml dial.toml relay.toml; do
     put 644 "$top/examples/$file" "$prefix/share/ads/$file"
 done
 

@@ -37,7 +37,7 @@ def check_words(words):
     found, count = findings(file, options["plant"], number(options["port"], "--port", 1, 65535))
     for line in found:
         print(line)
-    print(f"{file}: " + (f"{len(found)} faults" if found else f"ok, {count} names"))
+    print(f"{file}: " + (f"{len(found)} fault{'s' if len(found) > 1 else ''}" if found else f"ok, {count} names"))
     return 1 if found else 0
 
 

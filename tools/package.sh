@@ -113,7 +113,8 @@ cat >"$work/control/prerm" <<'END_OF_PRERM'
 #!/bin/sh
 set -e
 if [ "$1" = remove ] && [ -d /run/systemd/system ]; then
-    systemctl stop ads-discover.service ads.service adsd.service 'ads@*.service' 'adsd@*.service' || true
+    systemctl stop ads-page.service ads-history.service ads-mqtt.service ads-dial.service ads-relay.service ads-discover.service \
+        ads.service adsd.service 'ads@*.service' 'adsd@*.service' || true
 fi
 # What Python has put beside the tools.
 find /usr/share/ads/tools -depth -name __pycache__ -exec rm -r {} + 2>/dev/null || true
@@ -124,7 +125,8 @@ cat >"$work/control/postrm" <<'END_OF_POSTRM'
 set -e
 if [ "$1" = purge ]; then
     # The links that `systemctl enable` has made; they lead to units that are gone.
-    for unit in ads-discover.service ads.service adsd.service 'ads@*.service' 'adsd@*.service'; do
+    for unit in ads-discover.service ads-page.service ads-history.service ads-mqtt.service ads-dial.service ads-relay.service \
+        ads.service adsd.service 'ads@*.service' 'adsd@*.service'; do
         find /etc/systemd/system/multi-user.target.wants -name "$unit" -xtype l -delete 2>/dev/null || true
     done
 fi

@@ -12,9 +12,12 @@ without one nothing can be written. NAME may be an array of structures: it is th
 may stand more than once), `--cycle MS` how often changes come (100), `--seconds` how long an answer may take (5).
 
 Units, limits, names of bits, alarms and groups are those of PLANT.page.toml beside the description, which tools/plant.py writes; `--words FILE` names
-another file. `--state FILE` keeps the list of alarms and the log of writes over a restart. `--user-header NAME` is the header by which a web server before this
-page says who asks; without it the log has addresses. `--history FILE`, or a URL as postgresql://.., is a history that tools/history.py records: plots then go back
+another file. `--state FILE` keeps the list of alarms and the log of writes over a restart. `--history FILE`, or a URL as postgresql://.., is a history that tools/history.py records: plots then go back
 up to seven days. It is only read.
+
+The log of writes and the alarms have addresses, or names: `--users FILE` asks who they are, by the names and passwords that tools/page_user.py writes into
+FILE. Or `--user-header NAME` is the header by which a web server before this page says who asks, and `--proxy ADDRESS` the address of that web server (it may
+stand more than once): nobody else is answered then.
 
 /values.json has all values, /history.json?name=NAME the last minutes of one, /metrics what Prometheus reads, and /healthz the status 200 while the server
 answers, else 503.
@@ -31,6 +34,7 @@ from lib.link import host_of, net_of  # noqa: E402
 from lib.near import meant_in  # noqa: E402
 from lib.page_history import History  # noqa: E402
 from lib.page_recipes import is_recipes  # noqa: E402
+from lib.page_users import Everyone, Proxy, Users, address_of  # noqa: E402
 from lib.plant import steps_of  # noqa: E402
 from lib.routes import Routes, say  # noqa: E402
 from lib.type_texts import lower  # noqa: E402
@@ -57,10 +61,22 @@ def names_of(given):
     return found
 
 
-def header_of(name):
-    if name and not re.fullmatch("[A-Za-z0-9-]{1,64}", name):
-        raise Ended(f"--user-header is the name of a header, such as X-Remote-User, and {name!r} is none")
-    return name
+def guests_of(options, port):
+    """Who may ask, and how it is known who that is."""
+    header, proxies, users = options["user-header"], options["proxy"], options["users"]
+    if header and not re.fullmatch("[A-Za-z0-9-]{1,64}", header):
+        raise Ended(f"--user-header is the name of a header, such as X-Remote-User, and {header!r} is none")
+    if users and (header or proxies):
+        raise Ended("--users and --user-header both say who asks: give one of them")
+    if bool(header) != bool(proxies):
+        missing, why = ("--proxy", "ADDRESS, that of the web server which sends the header: 127.0.0.1 if it runs here")
+        if proxies:
+            missing, why = ("--user-header", "NAME, the header by which the web server says who asks")
+        raise Ended(f"{missing} {why}, is wanted, too")
+    wrong = [it for it in proxies if not address_of(it)]
+    if wrong:
+        raise Ended(f"--proxy is an address, such as 127.0.0.1, and {wrong[0]!r} is none")
+    return Users(users, port) if users else Proxy(header, proxies) if header else Everyone()
 
 
 def parts_port(ports, path):
@@ -101,16 +117,17 @@ async def serve(routes, host, port):
 def main(words):
     (file,), options = read_words(words, __doc__, ["PLANT"], {
         "to": None, "me": None, "netid": "", "http": "127.0.0.1:8080", "host": [], "write": [], "port": [], "cycle": "100", "seconds": "5", "words": "", "state": "",
-        "user-header": "", "history": ""})
+        "user-header": "", "proxy": [], "users": "", "history": ""})
     host_of(options["to"])
     me, net = net_of(options["me"], "--me"), net_of(options["netid"], "--netid") if options["netid"] else None
     ports = [number(port, "--port", 1, 65535) for port in options["port"]]
     cycle, seconds = number(options["cycle"], "--cycle", 10, 60000), number(options["seconds"], "--seconds", 1, 60)
     (host, port), names = http_of(options["http"]), names_of(options["write"])
+    guests = guests_of(options, port)
     watcher = Watcher(file, options["to"], me, net, ports, 10000 * cycle, seconds, None, options["words"])
     writable(watcher, names)
     history = History(options["history"]) if options["history"] else None
-    asyncio.run(serve(Routes(watcher, names, options["host"], options["state"], header_of(options["user-header"]), history), host, port))
+    asyncio.run(serve(Routes(watcher, names, options["host"], options["state"], guests, history), host, port))
     return 0
 
 

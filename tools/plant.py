@@ -2,7 +2,7 @@
 """Writes a description as people write one, imports one from TwinCAT, and changes one under a running server: for whoever puts a plant into operation.
 
     python3 tools/plant.py build LINE [--before PLANT] [--config FILE | --signals N] [--out FILE]
-    python3 tools/plant.py import FILE [--net NETID] [--route NETID=RIGHTS] [--port N] [--offsets] [--out FILE]
+    python3 tools/plant.py import FILE [--net NETID] [--route NETID=RIGHTS] [--port N] [--offsets] [--x64] [--out FILE]
 
     python3 tools/plant.py build examples/line.toml --out plant.toml
 
@@ -19,7 +19,8 @@ these stand beside the description, in PLANT.page.toml, where tools/page.py find
 `import` writes a line from a TMC file of TwinCAT 3, a TPY file of TwinCAT 2, or a PLCopen XML export: its symbols, structures, enumerations, arrays, initial
 values and persistent marks. What can't be carried over is noted in a comment at its place. The readers are written from the published forms of these files and
 from knowledge of them, and tried on files that were written after these; no TwinCAT was at hand. `--net` is the NetId where the file has none; `--route`,
-which may stand more than once, says who may connect; `--port` is the AMS port where the file has none (851); `--offsets` keeps the places of the controller.
+which may stand more than once, says who may connect; `--port` is the AMS port where the file has none (851); `--offsets` keeps the places of the controller. `--x64` takes
+the layout of a controller of 64 bits, where the file has one beside that of 32.
 
 `--out FILE` writes a file beside and renames it, so that no half of it is ever read; without it the text is printed. Each fault is a line on standard error:
 the file and its line, the symbol, the key, what is wrong and what would be right. Then nothing is written. docs/PLANT.md has the whole way.
@@ -41,6 +42,9 @@ from lib.signals import MOST, THREE, signals_of  # noqa: E402
 from lib.verdict import verdict_on  # noqa: E402
 from lib.words import Ended, number, read_words, run  # noqa: E402
 from lib.xml_tree import MOST_BYTES, XmlFault  # noqa: E402
+
+
+ADD_ROUTE = 'add for each client [[route]] with net = "192.168.0.9.1.1" (its own NetId) and rights = "control", or "read"'
 
 
 def told(name, built):
@@ -90,7 +94,9 @@ def build_line(name, options):
     if beyond(built.verdict.document):
         said.append(f"it has signals of adsd: `adsd check {options['config'] or 'CONFIG'}` checks it; `ads` has three, and refuses it by rule 14")
     if options["out"] and os.path.exists(options["out"]) and os.path.samefile(options["out"], name):
-        raise Ended(f"--out {options['out']} is the line itself; name another file", 1)
+        raise Ended(f"--out {options['out']} is the source itself; name another file", 1)
+    if not built.verdict.document["route"]:
+        said.append(nobody(options["out"]))
     written(built.text, options["out"], said)
     if options["out"]:
         write_page(built.page, beside(options["out"]), os.path.basename(name))
@@ -111,17 +117,22 @@ def import_file(name, options):
             raise Ended(f"--route is NETID=RIGHTS with the rights read, write or control, and {rights!r} is none of them")
     port = number(options["port"], "--port", 1, 65535) if options["port"] else None
     try:
-        text, said = imported(read_bytes(name, MOST_BYTES + 1), os.path.basename(name), net, routes, port, options["offsets"])
+        text, said = imported(read_bytes(name, MOST_BYTES + 1), os.path.basename(name), net, routes, port, options["offsets"],
+                              options["x64"])
     except (XmlFault, NoImport) as fault:
         raise Ended(f"{name}:{fault.line}: {fault.why}", 2) from None
-    return written(text, options["out"], [f"{options['out']}: {said}"])
+    return written(text, options["out"], [f"{options['out']}: {said}", *([] if routes else [nobody(options["out"])])])
+
+
+def nobody(name):
+    return f"{name}: nobody can connect, as it has no route; {ADD_ROUTE}"
 
 
 def main(words):
     (what, name), options = read_words(words, __doc__, ["build or import", "FILE"], {
-        "before": "", "out": "", "net": "", "route": [], "port": "", "offsets": False, "config": "", "signals": ""})
+        "before": "", "out": "", "net": "", "route": [], "port": "", "offsets": False, "x64": False, "config": "", "signals": ""})
     if what == "build":
-        wrong = [f"--{key}" for key in ("net", "route", "port", "offsets") if options[key]]
+        wrong = [f"--{key}" for key in ("net", "route", "port", "offsets", "x64") if options[key]]
         if wrong:
             raise Ended(f"{wrong[0]} is an option of import; --help says more")
         return build_line(name, options)

@@ -20,6 +20,7 @@ sys.path.insert(0, os.path.dirname(os.path.abspath(__file__)))
 from lib.files import read_bytes  # noqa: E402
 from lib.rule_words import WORDS  # noqa: E402
 from lib.signals import config_in, signals_of  # noqa: E402
+from lib.source_meant import source_said  # noqa: E402
 from lib.verdict import LONGEST, verdict_on  # noqa: E402
 from lib.words import Ended, read_words, run  # noqa: E402
 
@@ -56,7 +57,8 @@ def main(words):
     if config:
         name, given = config.description, taken(config.description)
     it = verdict_on(given, config.signals if config and not (options["config"] or options["signals"]) else signals)
-    for line in it.lines + explained(it, name):
+    source = source_said(it, given, name)
+    for line in it.lines + ([f"{name}: {source}"] if source else explained(it, name)):
         print(line)
     return it.status
 

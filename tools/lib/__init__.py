@@ -1,1 +1,1 @@
-"""What the tools share. Nothing here is taken from bench/, whose model of the protocol stays independent."""
+"""What the tools share. Nothing here is taken from model/, whose model of the protocol stays independent."""

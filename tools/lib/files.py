@@ -5,6 +5,7 @@ import tempfile
 from lib.plant import Plant
 from lib.signals import MOST as MOST_SIGNALS
 from lib.signals import config_in
+from lib.source_meant import source_said
 from lib.verdict import verdict_on
 from lib.words import Ended
 
@@ -42,7 +43,8 @@ def read_plant(name):
         name, given = config.description, read_bytes(config.description)
     verdict = verdict_on(given, MOST_SIGNALS)
     if verdict.status:
-        raise Ended(f"{name} is refused: {verdict.lines[0]}; tools/why.py says why", 2)
+        right = source_said(verdict, given, name) or "tools/why.py says why"
+        raise Ended(f"{name} is refused: {verdict.lines[0]}; {right}", 2)
     return Plant(verdict)
 
 

@@ -9,6 +9,8 @@ class Part:
         self.name, self.text, self.line, self.ends = name, text, line, []
         self.bits, self.at, self.comment, self.initial, self.why = None, None, "", None, None
         self.persistent, self.read_only, self.area, self.note = False, False, "data", None
+        # (the names of its bits, by their numbers)
+        self.named = {}
 
 
 class Kind:

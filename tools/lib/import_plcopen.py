@@ -1,4 +1,5 @@
 """PLCopen XML (TC6, versions 1 and 2), as TwinCAT exports it: written from its published form."""
+from lib.import_constants import put_numbers
 from lib.import_model import Given, Kind, NoImport, Part, number_of
 
 PASSED = ("body", "actions", "transitions", "methods", "coordinateInfo", "fileHeader", "projectStructure", "ObjectId")
@@ -9,6 +10,7 @@ LEFT_OUT = {"inOutVars": "it is VAR_IN_OUT, a reference", "tempVars": "it is VAR
 
 def read_plcopen(root):
     given, header = Given("PLCopen XML export"), root.first("contentHeader")
+    put_numbers(root)
     given.name = header.attributes.get("name", "") if header is not None else ""
     for node in root.every("dataType"):
         given.add(kind_of(node))
@@ -72,9 +74,10 @@ def type_of(node):
         return it.attributes.get("name", ""), [], None
     if it.tag in ("string", "wstring"):
         length = it.attributes.get("length")
-        return it.tag.upper() + (f"({length})" if length else ""), [], None
+        return it.tag.upper() + (f"({length})" if length else ""), [], it.attributes.get("why")
     if it.tag == "array":
         text, inner, why = type_of(it.first("baseType"))
+        why = next((one.attributes["why"] for one in it.all("dimension") if "why" in one.attributes), why)
         return text, [ends_of(one) for one in it.all("dimension")] + inner, why
     if it.tag in ("subrangeSigned", "subrangeUnsigned"):
         (text, ends, why), bounds = type_of(it.first("baseType")), it.first("range")

@@ -2,6 +2,7 @@
 import bisect
 
 from lib.describing import remark
+from lib.import_bits import is_bit
 from lib.import_types import ImportTypes, Remark
 from lib.import_values import initial_bytes
 from lib.layout import aligned
@@ -14,6 +15,15 @@ from lib.value_words import spare_words
 
 IMAGE = max(IMAGE_LIMITS.values())
 MOST_VALUE = 4000
+
+
+def bits_words(named):
+    """The names of bits as a source has them; a number stands where it is not the next one."""
+    words, last = [], -1
+    for number, name in sorted(named.items()):
+        words.append(quoted(name) if number == last + 1 else f"{{ name = {quoted(name)}, bit = {number} }}")
+        last = number
+    return "[" + ", ".join(words) + "]"
 
 
 class ImportText:
@@ -96,7 +106,9 @@ class ImportText:
             words, faults = self.value(part, member.shape, self.begun(member.shape))
             lines += [remark(f"{part.name}: {fault}") for fault in faults]
             comment = spelled(part.comment, LONGEST)
-            lines.append(f"{{ {said}" + (f", initial = {words}" if words else "") + (f", comment = {quoted(comment)}" if comment else "") + " },")
+            said += f", initial = {words}" if words else ""
+            said += f", bits = {bits_words(part.named)}" if part.named else ""
+            lines.append(f"{{ {said}" + (f", comment = {quoted(comment)}" if comment else "") + " },")
         return lines
 
     def take_type(self, named):
@@ -135,6 +147,9 @@ class ImportText:
     def symbol(self, part):
         if len(part.name) > LONGEST or not all(is_identifier(word) for word in part.name.split(".")):
             raise NoType("its name is not identifiers joined by full stops")
+        if is_bit(part):
+            part.text, part.bits, part.at = "BOOL", 8, None
+            part.note = part.note or "it is one bit; a byte of its own stands in its place"
         shape = self.book.shape(part)
         fresh, place = self.fresh(shape), self.place(part, shape)
         self.take(part, shape, place)

@@ -7,6 +7,7 @@ from lib.import_model import Given, Kind, NoImport, Part, number_of
 BIT_AREAS = {group: area for area, group in BITS.items()}
 AREAS = (("input", "inputs"), ("output", "outputs"), ("marea", "memory"), ("memory", "memory"), ("internal", "data"), ("retain", "data"), ("standard", "data"))
 PASSED = ("Method", "Action", "Function", "Relations", "Licenses", "Contexts", "Interfaces", "EventClasses", "ImageDatas", "Hides", "Deployment", "PouNode")
+CONSTANT = ("constant", "isconstant", "const", "readonly", "tcreadonly")
 LITERALS = ("Value", "String", "EnumText", "Bool", "DateTime")
 
 
@@ -83,8 +84,16 @@ def part_of(node, tag):
     part.why = odd(kind) if kind is not None else "the file names no type of it"
     marks = [it.said("Name").lower() for it in node.every("Property")] + [it.tag.lower() for it in node.inner]
     part.persistent = any("persistent" in mark or "retain" in mark for mark in marks)
-    part.read_only = "tcreadonly" in marks
+    part.read_only = is_constant(node)
     return part
+
+
+def is_constant(node):
+    """Whether a symbol or a member is a constant, or may only be read: by an attribute, an element or a property."""
+    marks = {name.lower(): value for name, value in node.attributes.items()}
+    marks.update({it.tag.lower(): it.text for it in node.inner})
+    marks.update({it.said("Name").lower(): it.said("Value") for it in node.every("Property")})
+    return any(marks[name].strip().lower() not in ("0", "false") for name in CONSTANT if name in marks)
 
 
 def type_text(node):

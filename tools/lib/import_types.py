@@ -1,6 +1,7 @@
 """The types of a file as a description can hold them: structures with every member at its place, enumerations, and what stands in the place of the others."""
 import re
 
+from lib.import_bits import with_bytes
 from lib.layout import Named, Shape, aligned
 from lib.rules_types import DEEPEST, LIMIT, MOST_PARTS, name_fault
 from lib.type_book import TypeBook
@@ -126,7 +127,7 @@ class ImportTypes:
     def structure(self, kind, parts):
         """Each member at the place that the file says: bytes stand where one is left out, or where the file leaves some."""
         members, lines, seen, end = [], [], set(), 0
-        for part in parts:
+        for part in with_bytes(parts):
             try:
                 shape = self.member(part, seen)
                 at = aligned(end, min(shape.align(), 8))

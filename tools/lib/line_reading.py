@@ -18,9 +18,9 @@ ABSENT = {
     "port": {"major": ("number", 1), "minor": ("number", 0), "build": ("number", 0), **{area: ("number", None) for area in AREAS}},
     "symbol": {"area": ("text", "data"), "offset": ("number", None), "initial": ("any", None)},
 }
-BIT = {"name": ("text", MUST), "bit": ("number", None), "alarm": ("flag", False)}
+BIT = {"name": ("text", MUST), "bit": ("number", None), "alarm": ("flag", False), "alarm_at": ("flag", None)}
 # What a source says of values for a page.
-SHOWN = {**{key: ("text", None) for key in PAGE_KEYS}, **{key: ("any", None) for key in LIMITS}, "bits": ("bit", None)}
+SHOWN = {**{key: ("text", None) for key in PAGE_KEYS}, **{key: ("any", None) for key in (*LIMITS, "alarm_at")}, "bits": ("bit", None)}
 OF_MEMBER = {key: it for key, it in SHOWN.items() if key != "group"}
 LINE = {**{kind: {**keys, **ABSENT.get(kind, {})} for kind, keys in TABLES.items()}, "bit": BIT}
 LINE.update(member={**LINE["member"], **OF_MEMBER}, symbol={**LINE["symbol"], **SHOWN})
@@ -57,7 +57,7 @@ def read_line(root, doubtful):
     """The document that a line is, with names in ranges written out, and all that is wrong with its keys, numbers and ranges."""
     schema = root.data.get("schema")
     reading = LineReading(schema is None or schema.kind == "broken" or (schema.kind == "integer" and schema.data != 1), doubtful)
-    d, faults = reading.table("document", root, "the line"), reading.faults
+    d, faults = reading.table("document", root, "the source"), reading.faults
     for it in d["type"]:
         if it.kind == "enumeration":
             number_values(it)

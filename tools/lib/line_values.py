@@ -65,7 +65,8 @@ class LineValues:
             right = f"write {comma[1]}" + (f".{comma[2]}" if shape_text in FLOATS else "")
             self.fault(value.at, path, f"{shape_text} wants {wanted}, and {shown(value.data)} has a comma", right)
         else:
-            self.fault(value.at, path, f"{shape_text} wants {wanted}, and {TOML_WORDS[value.kind]} stands there", self.or_bytes(size))
+            what = f"the text {shown(value.data)}" if value.kind == "string" else TOML_WORDS[value.kind]
+            self.fault(value.at, path, f"{shape_text} wants {wanted}, and {what} stands there", self.or_bytes(size))
         return bytes(size)
 
     @staticmethod

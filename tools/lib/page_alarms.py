@@ -28,7 +28,10 @@ FIELDS = {
 def alarms_in(words, value):
     """What may be an alarm of a value: its mark, its text, whether it is there, and what is said behind it."""
     if words.alarm and isinstance(value, bool):
-        yield "", words.alarm, value, ""
+        yield "", words.alarm, value == (words.at[0][0] if words.at else True), ""
+    elif words.alarm and words.at:
+        said = dict(words.at)
+        yield "", words.alarm, value in said, said.get(value, "")
     elif words.alarm and words.type.startswith("STRING"):
         yield "", words.alarm, bool(value), value or ""
     elif words.alarm:
@@ -39,7 +42,7 @@ def alarms_in(words, value):
             yield "high", words.alarm, number > words.high, f"above {number_text(words.high, words)}"
     for bit in words.bits:
         if bit.is_alarm:
-            yield f"bit {bit.number}", bit.name, bool(value >> bit.number & 1), ""
+            yield f"bit {bit.number}", bit.name, bool(value >> bit.number & 1) == bit.at, ""
 
 
 class Alarms:

@@ -36,7 +36,8 @@ def for_page(words):
         "low": words.low,
         "high": words.high,
         "alarm": words.alarm,
-        "bits": [[bit.number, bit.name, bit.is_alarm] for bit in words.bits],
+        "at": [str(value) if type(value) is int else value for value, _ in words.at],
+        "bits": [[bit.number, bit.name, bit.is_alarm, bit.at] for bit in words.bits],
     }
     it = {key: value for key, value in it.items() if value not in ("", None, [])}
     return {key: str(value) if type(value) is int and abs(value) >= 2**53 else value for key, value in it.items()}

@@ -7,7 +7,7 @@ from typing import NamedTuple
 
 from lib.document import Broken
 from lib.files import read_bytes
-from lib.leaves import kind_of
+from lib.leaves import enum_name, kind_of
 from lib.letters import quoted
 from lib.line_values import LineValues
 from lib.shown import shown
@@ -22,21 +22,24 @@ from lib.words import Ended
 # The texts of a page have at most so many letters; a file at most so many bytes.
 MOST_UNIT, MOST_TEXT, LONGEST = 16, 120, 4000000
 LIMITS = ("min", "max", "low", "high")
-PAGE_KEYS = ("unit", *LIMITS, "bits", "alarm", "group")
+PAGE_KEYS = ("unit", *LIMITS, "bits", "alarm", "alarm_at", "group")
 WRITTEN = "# Written by tools/plant.py "
 # The kinds of plain values that have a unit, limits, and names of bits.
 WITH_UNIT, WITH_LIMITS, WITH_BITS = ("number", "real", "bits"), ("number", "real", "bits", "time"), ("number", "bits")
 
 
 class Bit(NamedTuple):
+    """A bit with a name; one that is an alarm is so while it is 1, or 0 where `at` says so."""
+
     number: int
     name: str
     is_alarm: bool
+    at: bool
 
 
 class Words(NamedTuple):
     """What is shown beside a plain value of a type: `least` and `most` limit what is written, `low` and
-    `high` mark what is usual.
+    `high` mark what is usual, and `at` has the values at which an alarm is there, each with its name.
     """
 
     type: str
@@ -47,6 +50,7 @@ class Words(NamedTuple):
     high: object
     bits: tuple
     alarm: str
+    at: tuple
 
 
 def words_of(entry, shape, faults):
@@ -74,9 +78,10 @@ def words_of(entry, shape, faults):
     bits = bits_of(entry, element, faults)
     wrong_text(entry, "unit", MOST_UNIT, faults)
     wrong_text(entry, "alarm", MOST_TEXT, faults)
+    at = alarm_at(entry, kind, element, faults)
     if len(faults) > before:
         return None
-    return Words(element.text(), entry["unit"] or "", *limits, bits, entry["alarm"] or "")
+    return Words(element.text(), entry["unit"] or "", *limits, bits, entry["alarm"] or "", at)
 
 
 def wrong_kinds(entry, kind, type_text, faults):
@@ -94,8 +99,13 @@ def wrong_kinds(entry, kind, type_text, faults):
             ]
     if entry["alarm"] is None or kind in ("bool", "text"):
         return
-    if kind not in WITH_LIMITS:
-        faults.append(entry.broken("alarm", f"it belongs to a BOOL, a STRING or a number, and this is {type_text}"))
+    if kind == "enum":
+        if "alarm_at" not in entry.places:
+            right = 'add `alarm_at = ["NAME", ..]`, the values at which it is there'
+            faults.append(entry.broken("alarm", f"{type_text} is an enumeration", None, right))
+    elif kind not in WITH_LIMITS:
+        what = "a BOOL, a STRING, a number or an enumeration"
+        faults.append(entry.broken("alarm", f"it belongs to {what}, and this is {type_text}"))
     elif "low" not in entry.places and "high" not in entry.places:
         right = "add `high = ..` or `low = ..`; a bit's alarm is said in `bits`"
         faults.append(
@@ -103,6 +113,27 @@ def wrong_kinds(entry, kind, type_text, faults):
                 "alarm", "that of a number is there below `low` or above `high`, and neither stands here", None, right
             )
         )
+
+
+def alarm_at(entry, kind, shape, faults):
+    """The values at which an alarm is there, each with its name; none where nothing is said of them."""
+    value = entry["alarm_at"]
+    if value is None:
+        return ()
+    if entry["alarm"] is None and "alarm" not in entry.lost:
+        faults.append(entry.broken("alarm_at", "no `alarm` stands here", None, "add `alarm = ..`, its text"))
+    if kind == "bool" and value.kind == "boolean":
+        return ((value.data, ""),)
+    if kind != "enum":
+        what = "true or false stands here" if kind == "bool" else "it belongs to a BOOL or an enumeration"
+        faults.append(entry.broken("alarm_at", what + ("" if kind == "bool" else f", and this is {shape.text()}")))
+        return ()
+    reading, found = LineValues(entry.who, "alarm_at"), []
+    for it in value.data if value.kind == "array" else [value]:
+        number = number_of(shape.element[1].base.upper(), reading.bytes(shape, it))
+        found.append((number, enum_name(shape, number) or str(number)))
+    faults += reading.faults
+    return tuple(found)
 
 
 def wrong_text(entry, key, most, faults):
@@ -154,7 +185,10 @@ def bits_of(entry, shape, faults):
         elif lower(it["name"]) in [lower(own.name) for own in found]:
             faults.append(it.broken("name", f"another bit has the name {shown(it['name'])} already"))
         else:
-            found.append(Bit(number, it["name"], bool(it["alarm"])))
+            at = it["alarm_at"] is None or it["alarm_at"]
+            found.append(Bit(number, it["name"], bool(it["alarm"]), bool(at)))
+            if it["alarm_at"] is not None and not it["alarm"]:
+                faults.append(it.broken("alarm_at", "this bit is no alarm", None, "add `alarm = true`"))
     return tuple(found)
 
 
@@ -217,9 +251,14 @@ def told(entry):
 def told_value(entry, key):
     if key == "bits":
         return "[" + ", ".join(told_bit(it) for it in entry["bits"]) + "]"
-    if key not in LIMITS:
-        return quoted(entry[key])
-    value = entry[key]
+    return told_plain(entry[key]) if key in LIMITS or key == "alarm_at" else quoted(entry[key])
+
+
+def told_plain(value):
+    if value.kind == "array":
+        return "[" + ", ".join(told_plain(it) for it in value.data) + "]"
+    if value.kind == "boolean":
+        return "true" if value.data else "false"
     return quoted(value.data) if value.kind == "string" else repr(value.data)
 
 
@@ -229,6 +268,7 @@ def told_bit(it):
         + quoted(it["name"])
         + (f", bit = {it['bit']}" if it["bit"] is not None else "")
         + (", alarm = true" if it["alarm"] else "")
+        + (f", alarm_at = {'true' if it['alarm_at'] else 'false'}" if it["alarm_at"] is not None else "")
         + " }"
     )
 

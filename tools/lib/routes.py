@@ -15,6 +15,7 @@ from lib.page_history import joined
 from lib.page_limits import for_page, see_within
 from lib.page_recipes import BadParts, element_bytes, is_recipes
 from lib.page_record import Record, short
+from lib.page_users import address_of
 from lib.streams import Streams, event
 from lib.type_texts import lower
 from lib.typed_in import typed_bytes
@@ -24,7 +25,8 @@ from lib.words import Ended
 
 FOLDER = os.path.join(os.path.dirname(os.path.abspath(__file__)), "page")
 FILES = {"/page.css": "text/css; charset=utf-8", "/icon.svg": "image/svg+xml",
-         **{f"/{name}.js": "text/javascript; charset=utf-8" for name in ("page", "rows", "plot", "form", "words", "alarms", "log", "lang", "german", "draw", "recipe")}}
+         **{f"/{name}.js": "text/javascript; charset=utf-8" for name in ("page", "rows", "plot", "form", "words", "alarms", "log", "lang", "german", "draw", "recipe",
+                                                                       "login")}}
 JSON, METRICS, WRITE_SECONDS = "application/json", "text/plain; version=0.0.4; charset=utf-8", 20
 # Of a history, more than two months.
 MOST_MINUTES = 99999
@@ -69,20 +71,23 @@ def read_file(name):
 
 
 class Routes:
-    """`names` are the values that may be written, pairs of a port, None where it is not said, and a path; `state` is the file of what is kept; `user_header`
-    the header by which a proxy tells who asks; `history` what was recorded before."""
+    """`names` are the values that may be written, pairs of a port, None where it is not said, and a path; `state` is
+    the file of what is kept; `guests` knows who asks; `history` is what was recorded before.
+    """
 
-    def __init__(self, watcher, names, hosts, state="", user_header="", history=None):
-        self.history = history
-        self.record, self.user_header, self.loop = Record(state, self.tell, self.noticed), user_header.lower(), None
+    def __init__(self, watcher, names, hosts, state, guests, history=None):
+        self.history, self.guests = history, guests
+        self.record, self.loop = Record(state, self.tell, self.noticed), None
         self.watcher, self.names, self.streams, self.web = watcher, names, Streams(), Web(self.answer, hosts)
         self.start, self.token, self.began = secrets.token_hex(8), secrets.token_urlsafe(32), time.time()
         self.files = {path: read_file(path[1:]) for path in FILES}
-        page = read_file("page.html").decode()
+        page, self.login_page = read_file("page.html").decode(), read_file("login.html")
         self.page = page.replace("{start}", self.start).replace("{history}", "yes" if history else "")
         self.gets = {"/": self.get_page, "/events": self.get_events, "/values.json": self.get_values, "/history.json": self.get_history,
                      "/healthz": self.get_health, "/metrics": self.get_metrics}
         self.posts = {"/write": self.post_write, "/acknowledge": self.post_acknowledge, "/recipe": self.post_recipe}
+        if guests.has_login:
+            self.posts["/logout"] = self.post_logout
         self.kept = {}
 
     def tell(self, kind, said):
@@ -122,23 +127,40 @@ class Routes:
         self.kept["why"] = self.watcher.why
 
     async def answer(self, request, reader, writer):
+        peer = peer_of(writer)
+        if self.guests.has_login and request.path == "/login":
+            return await self.guests.login(request, peer)
+        if self.guests.has_login and request.path in (*FILES, "/healthz"):
+            return self.got(request, "")
+        try:
+            by = await self.guests.who(request, peer)
+        except Bad as bad:
+            if bad.status != 401 or request.path != "/":
+                raise
+            return Answer(401, "text/html; charset=utf-8", self.login_page)
         if request.path in self.posts:
-            return await self.posts[request.path](request, by_of(request, writer, self.user_header))
+            return await self.posts[request.path](request, by)
+        if request.path == "/history.json" and request.method in ("GET", "HEAD"):
+            return await self.get_history(request)
+        if request.path == "/events" and request.method in ("GET", "HEAD"):
+            return await self.get_events(request, reader, writer)
+        return self.got(request, by)
+
+    def got(self, request, by):
+        """What is there to be read, and takes no time."""
         if request.path not in self.gets and request.path not in FILES:
             return plain(404, "there is nothing here: / is the page, /values.json its values")
         if request.method not in ("GET", "HEAD"):
             return plain(405, "this is read only", "Allow: GET, HEAD\r\n")
         if request.path in FILES:
             return Answer(200, FILES[request.path], self.files[request.path])
-        if request.path == "/history.json":
-            return await self.get_history(request)
-        if request.path == "/events":
-            return await self.get_events(request, reader, writer)
-        return self.gets[request.path](request)
+        return self.get_page(by) if request.path == "/" else self.gets[request.path](request)
 
-    def get_page(self, _):
-        token = self.token if self.names or self.watcher.words.has_alarms() else ""
-        return Answer(200, "text/html; charset=utf-8", self.page.replace("{token}", html.escape(token)).encode())
+    def get_page(self, by):
+        token = self.token if self.names or self.watcher.words.has_alarms() or self.guests.has_login else ""
+        user = html.escape(by) if self.guests.has_login else ""
+        page = self.page.replace("{token}", html.escape(token)).replace("{user}", user)
+        return Answer(200, "text/html; charset=utf-8", page.encode())
 
     async def get_events(self, request, reader, writer):
         if request.method == "HEAD":
@@ -310,6 +332,10 @@ class Routes:
         return [{"n": it.name, "port": it.port} for it in table.symbols for port, path in self.names
                 if lower(path) == lower(it.name) and port in (None, it.port) and is_recipes(it.shape)]
 
+    async def post_logout(self, request, _):
+        self.guard(request)
+        return self.guests.logout(request)
+
     async def post_acknowledge(self, request, by):
         """Acknowledges alarms by their numbers."""
         said = self.guard(request)
@@ -319,15 +345,10 @@ class Routes:
         return json_answer({"count": self.record.acknowledge(set(numbers), by)})
 
 
-def by_of(request, writer, header):
-    """Who asks: the name that a proxy tells, or the address."""
-    named = request.headers.get(header, "") if header else ""
-    try:
-        named = named.encode("latin-1").decode("utf-8")
-    except UnicodeDecodeError:
-        pass
-    peer = writer.get_extra_info("peername") or ("?",)
-    return short(named) if named.isprintable() and named else peer[0]
+def peer_of(writer):
+    """The address of who asks."""
+    peer = (writer.get_extra_info("peername") or ("?",))[0]
+    return address_of(peer) or peer
 
 
 def said_of(leaf, value):

@@ -18,6 +18,8 @@ def listed(name):
     """The servers of a file, each a table of texts."""
     try:
         root = parse(text_of(read_bytes(name))).data
+    except Ended as end:
+        raise Ended(f"{end.why}; --at takes a server from its tables [[server]] with {', '.join(KEYS)}", end.status) from None
     except TomlFault as fault:
         raise Ended(f"{name} is no TOML document: {fault.why}", 4) from None
     tables = root.get("server")

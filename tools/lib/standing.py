@@ -5,6 +5,7 @@ import tempfile
 from typing import NamedTuple
 
 from lib.files import read_bytes, sync_folder
+from lib.page_words import beside, empty_text
 from lib.words import Ended
 
 
@@ -34,10 +35,13 @@ def put(given, place, like=None, rights=None):
         raise Ended(f"{place} can't be written: {fault.strerror}", 4) from None
 
 
-def swap(given, place, keep):
+def swap(given, place, keep, page=None):
     """Puts a description over the one that stands there, which is kept as PLACE.before: at each moment both are
-    whole in a file.
+    whole in a file. So it is with the words of a page beside it; `page` is None where they stay.
     """
+    words = beside(place)
+    if page is not None or os.path.exists(words) or os.path.exists(words + ".before"):
+        put(words_at(words) if page is None else page, words + ".next", like=words)
     if keep is not None:
         put(keep, place + ".next", like=place)
     put(given, place)
@@ -45,13 +49,26 @@ def swap(given, place, keep):
 
 
 def swapped(place):
-    """The last step of a swap."""
-    if os.path.exists(place + ".next"):
+    """The last steps of a swap."""
+    words = beside(place)
+    moved(place + ".next", place + ".before")
+    if os.path.exists(words + ".next"):
+        put(words_at(words), words + ".before", like=words)
+        moved(words + ".next", words)
+
+
+def words_at(name):
+    """The words of a page that stand there; some that say nothing where none do."""
+    return read_bytes(name) if os.path.exists(name) else empty_text(os.path.basename(name)).encode()
+
+
+def moved(name, place):
+    if os.path.exists(name):
         try:
-            os.replace(place + ".next", place + ".before")
+            os.replace(name, place)
             sync_folder(os.path.dirname(place))
         except OSError as fault:
-            raise Ended(f"{place}.before can't be written: {fault.strerror}", 4) from None
+            raise Ended(f"{place} can't be written: {fault.strerror}", 4) from None
 
 
 class Note(NamedTuple):
@@ -83,7 +100,7 @@ def noted(place):
 
 
 def forget(place):
-    for name in (place + ".next", place + ".unfinished"):
+    for name in (place + ".next", beside(place) + ".next", place + ".unfinished"):
         try:
             os.unlink(name)
         except FileNotFoundError:

@@ -6,6 +6,12 @@ from lib.type_texts import PLAIN, NoType, lower, read_type
 
 # Plain types of controllers that a description has not, and what has as many bytes.
 STANDING = {**dict.fromkeys(("DATE", "TIME_OF_DAY", "TOD", "DATE_AND_TIME", "DT"), "UDINT"), **dict.fromkeys(("LTIME", "LDATE", "LTOD", "LDT"), "ULINT")}
+# What other languages call a plain type.
+CALLED = {
+    "BIT": "BOOL", "BOOLEAN": "BOOL", "FLOAT": "REAL", "FLOAT32": "REAL", "SINGLE": "REAL", "DOUBLE": "LREAL", "FLOAT64": "LREAL", "INT8": "SINT",
+    "INT16": "INT", "INT32": "DINT", "INT64": "LINT", "UINT8": "USINT", "UINT16": "UINT", "UINT32": "UDINT", "UINT64": "ULINT", "INTEGER": "DINT",
+    "LONG": "DINT", "CHAR": "BYTE",
+}
 ARRAY = re.compile(r"\s*array\s*\[([^\]]*)\]\s*of\s*(.*?)\s*", re.IGNORECASE | re.DOTALL)
 BOUND = re.compile(r"\s*([+-]?[0-9]{1,10})\s*\.\.\.?\s*([+-]?[0-9]{1,10})\s*")
 TEXT = re.compile(r"\s*string\s*(?:[(\[]\s*([0-9]{1,5})\s*[)\]])?\s*", re.IGNORECASE)
@@ -24,6 +30,8 @@ def type_meant(text, names):
     word = element_in(text)
     if word.upper() in STANDING:
         return f"{STANDING[word.upper()]} has its bytes"
+    if word.upper() in CALLED:
+        return f"{CALLED[word.upper()]} is its name here"
     near = nearest(word, names)
     return f"is `{near}` meant?" if near else None
 

@@ -13,10 +13,11 @@ from typing import NamedTuple
 MOST_OPEN, MOST_HEAD, MOST_LINES, MOST_BODY, HEAD_SECONDS, BODY_SECONDS, ANSWER_SECONDS = 128, 8192, 64, 400000, 5, 10, 30
 REQUEST = re.compile(r"([A-Z]{1,16}) (/[!-~]{0,2047}) HTTP/1\.[01]")
 NAME, VALUE = re.compile(r"[!#$%&'*+.^_`|~0-9A-Za-z-]{1,64}"), re.compile(r"[\t -~\x80-\xff]*")
+ONCE = ("host", "origin", "content-length", "content-type", "x-token", "cookie", "authorization")
 HOST = re.compile(r"(\[[0-9A-Fa-f:.]{2,45}\]|[0-9A-Za-z._-]{1,255})(?::[0-9]{1,5})?")
-REASONS = {200: "OK", 400: "Bad Request", 403: "Forbidden", 404: "Not Found", 405: "Method Not Allowed", 408: "Request Timeout", 409: "Conflict",
-           411: "Length Required", 413: "Content Too Large", 415: "Unsupported Media Type", 421: "Misdirected Request", 431: "Request Header Fields Too Large",
-           500: "Internal Server Error", 501: "Not Implemented", 503: "Service Unavailable", 504: "Gateway Timeout"}
+REASONS = {200: "OK", 400: "Bad Request", 401: "Unauthorized", 403: "Forbidden", 404: "Not Found", 405: "Method Not Allowed", 408: "Request Timeout", 409: "Conflict",
+           411: "Length Required", 413: "Content Too Large", 415: "Unsupported Media Type", 421: "Misdirected Request", 429: "Too Many Requests",
+           431: "Request Header Fields Too Large", 500: "Internal Server Error", 501: "Not Implemented", 503: "Service Unavailable", 504: "Gateway Timeout"}
 # Nothing but the files of this server runs in a page or is asked by it; no other page holds it in a frame or reads its answers.
 GUARDS = ("Content-Security-Policy: default-src 'none'; script-src 'self'; style-src 'self'; connect-src 'self'; img-src 'self'; base-uri 'none'; "
           "form-action 'none'; frame-ancestors 'none'; require-trusted-types-for 'script'; trusted-types 'none'\r\nX-Content-Type-Options: nosniff\r\n"
@@ -66,7 +67,7 @@ def head_of(given):
         if not colon or not NAME.fullmatch(name) or not VALUE.fullmatch(value):
             raise Bad(400, "a line of the head is no header")
         name = name.lower()
-        if name in headers and name in ("host", "origin", "content-length", "content-type", "x-token"):
+        if name in headers and name in ONCE:
             raise Bad(400, f"the header {name} stands twice")
         headers[name] = value.strip(" \t")
     return it[1], it[2], headers

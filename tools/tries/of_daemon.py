@@ -1,4 +1,4 @@
-"""adsd as a process: how it ends, who takes its log, whose stores it takes, and whom it turns away (bench/daemon.py
+"""adsd as a process: how it ends, who takes its log, whose stores it takes, and whom it turns away (tries/daemon.py
 has the longer tries)."""
 import concurrent.futures
 

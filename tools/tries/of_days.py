@@ -1,4 +1,4 @@
-"""Random days of a plant, in which no acknowledged value of a persistent symbol is lost: some of bench/days.py, with a
+"""Random days of a plant, in which no acknowledged value of a persistent symbol is lost: some of tries/days.py, with a
 fixed seed.
 """
 import os
@@ -9,7 +9,7 @@ import sys
 from tries.of_program import daemon_of
 from tries.running import TOOLS, see
 
-DAYS = os.path.join(TOOLS, "..", "bench", "days.py")
+DAYS = os.path.join(TOOLS, "..", "tries", "days.py")
 
 
 def tried(program, size):

@@ -4,6 +4,7 @@ import shutil
 import tempfile
 
 from lib.program import run as run_program
+from tries.deploy_pages import pages
 from tries.fake_server import Fake, told
 from tries.fit_values import fits
 from tries.kept_values import kept_values
@@ -273,7 +274,7 @@ def tried(program, size):
             taken(server, folder, place)
             stays_out(server, folder, place)
             signals(folder, place)
-        taken_over, count = fits(), kept_values(program, folder, size)
+        taken_over, count = fits(), kept_values(program, folder, size) + pages(program, folder, size)
     return (
         f"five descriptions taken, among them another NetId and a rollback; ten kept out of the place; {len(PLANNED) + 2} plans; "
         f"{taken_over} changes of a type; a plant with recipes through its changes and {count} that were cut off"

@@ -11,7 +11,7 @@ import tempfile
 
 from tries.running import EXAMPLES, PLANT, TOOLS, see
 
-UNITS = ["ads.service", "ads@.service", "adsd.service", "adsd@.service", "ads-discover.service"]
+UNITS = ["ads.service", "ads@.service", "adsd.service", "adsd@.service", "ads-discover.service", "ads-page.service", "ads-relay.service"]
 # In place of adsd: it prints its words, and which signals are blocked. No shell, since dash lets signals through again.
 STAND_IN = f"""#!{sys.executable}
 import signal, sys

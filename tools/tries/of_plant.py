@@ -16,6 +16,7 @@ from lib.verdict import verdict_on
 from lib.xml_tree import XmlFault
 from tries import line_faults
 from tries.damage import damaged_text, made, rendered
+from tries.import_more import more_imports
 from tries.random_lines import Lines, line_of
 from tries.running import EXAMPLES, ME, PLANT, TOOLS, Served, refused, see, tool
 
@@ -274,7 +275,7 @@ def imports(program, folder):
     line = os.path.join(folder, "imported.toml")
     words = "--net", "1.2.3.4.5.6", "--port", "300", "--route", "1.1.1.1.1.1=read", "--out", line
     out, err, status = tool("plant.py", "import", os.path.join(DATA, "filling.tmc"), *words)
-    see(status == 0 and out == f"{line}: 10 symbols and 4 types; 8 left out, each noted in a comment\n", out + err)
+    see(status == 0 and out == f"{line}: 10 symbols and 4 types; 7 left out, each noted in a comment\n", out + err)
     text = text_of(line)
     see('net = "1.2.3.4.5.6"' in text and "port = 300" in text and 'net = "1.1.1.1.1.1"\nrights = "read"' in text, f"the options of import: {text}")
 
@@ -339,7 +340,7 @@ def wrong_words(folder):
     refused(1, "--before is an option of build", "plant.py", "import", LINE, "--before", PLANT)
     refused(1, "--net is a NetId", "plant.py", "import", LINE, "--net", "5")
     refused(1, "--route is NETID=RIGHTS", "plant.py", "import", LINE, "--route", "1.1.1.1.1.1=all")
-    refused(1, "is the line itself", "plant.py", "build", written(folder, "own.toml", text_of(LINE)), "--out", os.path.join(folder, "own.toml"))
+    refused(1, "is the source itself", "plant.py", "build", written(folder, "own.toml", text_of(LINE)), "--out", os.path.join(folder, "own.toml"))
     refused(2, "is refused: ads: description rule 12 item 1", "plant.py", "build", LINE, "--before", os.path.join(EXAMPLES, "overlap.toml"))
     refused(2, "it is no XML", "plant.py", "import", LINE)
     refused(4, "No such file", "plant.py", "build", "/nowhere.toml")
@@ -364,6 +365,7 @@ def tried(program, size):
         faults = every_fault(folder)
         built = damaged_lines(seed, damaged)
         imports(program, folder)
+        more_imports(folder)
         bad_files(folder)
         damaged_files(seed, damaged)
         words_of_others(folder)

@@ -1,4 +1,5 @@
-"""`ads record` over files that are whole, changed by hand, ruled by others, or not its own: what it puts, what it leaves beside them and leaves alone."""
+"""`ads record` over files that are whole, changed by hand, ruled by others, or not its own, or that are moved while it runs: what it puts, what it leaves
+beside them and leaves alone."""
 import contextlib
 import os
 import shutil
@@ -6,6 +7,7 @@ import sqlite3
 import struct
 import subprocess
 import tempfile
+import threading
 import time
 
 from lib.frames import ADD, DELETE, NOTE, REQUEST, Frame
@@ -168,8 +170,156 @@ def puts_before_a_deletion(program, folder, count=20000):
     see(numbers_of(path) == list(range(1, count + 1)), "the rows behind slow puts")
 
 
+class Waiting:
+    """A server that sends a frame of samples behind the grant of a notification, and a second one when it is let go on."""
+
+    def __init__(self, count):
+        self.count, self.go, self.asked = count, threading.Event(), []
+
+    def answer(self, frame):
+        self.asked.append(frame.command)
+        if frame.command == DELETE:
+            return reply(frame, bytes(4))
+        if frame.command != ADD:
+            return data(frame, symbol(b"Main.count", b"UDINT", 0x4040, 0, 4, 19))
+        return self.notes(frame)
+
+    def notes(self, frame):
+        yield reply(frame, struct.pack("<II", 0, 1))
+        for first in (1, 1 + self.count):
+            yield Frame(frame.source, frame.target, NOTE, REQUEST, 0, 0, samples_of(first, self.count)).bytes()
+            self.go.wait(30)
+
+
+@contextlib.contextmanager
+def recording(program, path, count=5):
+    """A recording whose first frame of samples is settled, and the server that has a second one for it; it is given with what ends it."""
+    server = Waiting(count)
+    with Fake(server.answer) as fake:
+        words = ("record", "Main.count", "--mode", "change", "--cycle", "0", "--count", str(2 * count), "--store", path, "--to", fake.to, "--netid", NET, "--me", ME)
+        with subprocess.Popen([program, *words], stdin=subprocess.DEVNULL, stdout=subprocess.PIPE, stderr=subprocess.PIPE, text=True) as it:
+            def end():
+                server.go.set()
+                out, err = it.communicate(timeout=60)
+                return out, err, it.returncode
+            try:
+                yield it, end, server
+            finally:
+                server.go.set()
+                it.kill()
+
+
+def is_settled(path, count=5):
+    """Whether so many rows stand in a copy of the file and the log beside it."""
+    alone = path + ".look"
+    try:
+        for end in ("", "-wal"):
+            shutil.copyfile(path + end, alone + end)
+        with contextlib.closing(sqlite3.connect(alone)) as base:
+            return base.execute("SELECT count(*) FROM sample").fetchone() == (count,)
+    except (OSError, sqlite3.Error):
+        return False
+    finally:
+        for end in ("", "-wal", "-shm"):
+            with contextlib.suppress(OSError):
+                os.remove(alone + end)
+
+
+def settled(path, seconds=30):
+    """Waits until the first frame is settled."""
+    until = time.monotonic() + seconds
+    while not is_settled(path) and time.monotonic() < until:
+        time.sleep(0.05)
+    see(is_settled(path), f"nothing is recorded in {path}")
+
+
+def put_instead(path, text):
+    """Another file takes the name, at once."""
+    with open(path + ".new", "w", encoding="ascii") as file:
+        file.write(text)
+    os.replace(path + ".new", path)
+
+
+GONE, REPLACED = "the file or its folder was moved or removed", "another file stands there now"
+ELSEWHERE, LOG_GONE = "the file is in another folder now", "the file that ends in -wal beside it was moved, removed or replaced"
+
+
+def moved(program, folder):
+    """A file that is moved, removed or replaced while it is recorded ends the recording at the next rows; they stand in the file, wherever it is."""
+    at = lambda *names: os.path.join(folder, *names)  # noqa: E731
+
+    def by_link():
+        os.rename(at("here", "samples.db"), at("moved.db"))
+        put_instead(at("other.db"), "of another")
+        os.symlink(at("other.db"), at("here", "samples.db"))
+
+    def elsewhere():
+        os.rename(at("here", "samples.db"), at("moved.db"))
+        os.symlink(at("moved.db"), at("here", "samples.db"))
+
+    # What is done, what is told, where the rows are then, and what stands where the file was.
+    scenes = (("moved", lambda: os.rename(at("here", "samples.db"), at("moved.db")), GONE, "moved.db", []),
+              ("moved beside", lambda: os.rename(at("here", "samples.db"), at("here", "old.db")), GONE, "here/old.db", ["old.db"]),
+              ("removed", lambda: os.remove(at("here", "samples.db")), GONE, None, []),
+              ("replaced", lambda: put_instead(at("here", "samples.db"), "of another"), REPLACED, None, ["samples.db"]),
+              ("replaced by a link", by_link, REPLACED, "moved.db", ["samples.db"]),
+              ("behind a link", elsewhere, ELSEWHERE, "moved.db", ["samples.db"]),
+              ("without its log", lambda: os.remove(at("here", "samples.db-wal")), LOG_GONE, "here/samples.db", ["samples.db"]),
+              ("its folder moved", lambda: os.rename(at("here"), at("there")), GONE, "there/samples.db", None))
+    for what, change, why, rows, names in scenes:
+        os.mkdir(at("here"))
+        path = at("here", "samples.db")
+        with recording(program, path) as (_, end, _):
+            settled(path)
+            change()
+            out, err, status = end()
+        see((out, status) == FAULT, f"{what}: {out!r}, status {status}")
+        see(err == f"ads: {path}: {why}, so nothing more is recorded\n", f"{what}: standard error says {err!r}")
+        see(rows is None or numbers_of(at(rows)) == list(range(1, 11)), f"{what}: {rows} has not all rows")
+        left = None if names is None else sorted(os.listdir(at("here")))
+        see(left == names, f"{what}: what is left is {left}")
+        if what == "replaced":
+            with open(path, encoding="ascii") as file:
+                see(file.read() == "of another", "the file that replaced the recording does not stay as it is")
+        if rows:
+            see(record(program, at(rows))[1] == 0 and numbers_of(at(rows)) == list(range(1, 15)), f"{what}: the recording is not gone on with")
+        for name in os.listdir(folder):
+            shutil.rmtree(at(name)) if os.path.isdir(at(name)) else os.remove(at(name))
+
+
+def behind_links(program, folder):
+    """A link is followed; one that is gone while it is recorded ends the recording, and the file has all rows."""
+    path, link = os.path.join(folder, "samples.db"), os.path.join(folder, "link.db")
+    os.symlink(path, link)
+    with recording(program, link) as (_, end, _):
+        settled(path)
+        out, _, status = end()
+    see((out, status) == ("Main.count count 10 last 10 10\n", 0), f"behind a link: {out!r}, status {status}")
+    os.remove(path)
+    with recording(program, link) as (_, end, _):
+        settled(path)
+        os.remove(link)
+        out, err, status = end()
+    see((out, status) == FAULT and GONE in err, f"a link that is gone: {out!r}, {err!r}, status {status}")
+    see(numbers_of(path) == list(range(1, 11)) and os.listdir(folder) == ["samples.db"], f"behind a link that is gone stand {numbers_of(path)}, {os.listdir(folder)}")
+
+
+def no_files(program, folder):
+    """What is no regular file is refused before the server is asked for anything, and stays as it is."""
+    pipe, inner = os.path.join(folder, "pipe"), os.path.join(folder, "folder")
+    os.mkfifo(pipe)
+    os.mkdir(inner)
+    for path in (pipe, inner, "/dev/null"):
+        with recording(program, path) as (it, _, server):
+            out, err = it.communicate(timeout=20)
+            see((out, it.returncode) == FAULT and err == f"ads: {path}: it is no regular file\n", f"{path}: {out!r}, {err!r}, status {it.returncode}")
+            see(server.asked == [], f"{path}: the server is asked for {server.asked}")
+    see(sorted(os.listdir(folder)) == ["folder", "pipe"] and os.listdir(inner) == [], f"beside what is no file stands {sorted(os.listdir(folder))}")
+
+
 def tried(program, size):
-    for scene in (one_file, rows_missing, rules_of_others, files_of_others, puts_before_a_deletion):
+    for scene in (one_file, rows_missing, rules_of_others, files_of_others, puts_before_a_deletion, moved, behind_links, no_files):
         with tempfile.TemporaryDirectory() as folder:
             scene(program, folder)
-    return "one file at each end; rows that are missing, rules and files of others; a deletion behind five seconds of puts"
+    return ("one file at each end; rows that are missing, rules and files of others; a deletion behind five seconds of puts; files that are moved, removed or "
+            "replaced meanwhile; what is no file")

@@ -8,6 +8,7 @@ import signal
 import struct
 import tempfile
 
+from tries.page_login import logged_in
 from tries.paged import Page, Rig, Stream
 from tries.running import ME, NET, TOOLS, Served, refused, see, tool
 
@@ -49,6 +50,14 @@ BAD_WORDS = (
     ('[[port]]\nport = 851\nsymbol = [{ name = "Main.count", mim = 1 }]', "is `min` meant?"),
     ('[[port]]\nport = 851\nsymbol = [{ name = "Main.count", min = 2, max = 1 }]', "key `max`: it is below `min`"),
     ('[[type]]\nname = "Pump"\nmember = [{ name = "state", bits = ["a", "a"] }]', "another bit has the name"),
+    ('[[port]]\nport = 851\nsymbol = [{ name = "Main.mode", alarm = "x" }]', "key `alarm`: Mode is an enumeration"),
+    (
+        '[[port]]\nport = 851\nsymbol = [{ name = "Main.mode", alarm = "x", alarm_at = ["Fauled"] }]',
+        "key `alarm_at`: 'Fauled' is no value of Mode; is Faulted meant?",
+    ),
+    ('[[port]]\nport = 851\nsymbol = [{ name = "Main.door", alarm_at = false }]', "key `alarm_at`: no `alarm` stands"),
+    ('[[port]]\nport = 851\nsymbol = [{ name = "Main.door", alarm = "x", alarm_at = 0 }]', "true or false stands here"),
+    ('[[port]]\nport = 851\nsymbol = [{ name = "Main.count", alarm = "x", high = 1, alarm_at = 0 }]', "it belongs to"),
     ("\xff", "is no TOML document"),
 )
 
@@ -56,6 +65,11 @@ BAD_WORDS = (
 def acknowledge(page, numbers, **headers):
     given = {"Content_Type": "application/json", "X_Token": page.token(), **headers}
     return page.ask("/acknowledge", "POST", json.dumps({"alarms": numbers}), **given)
+
+
+def state_of(name):
+    with open(name, encoding="utf-8") as file:
+        return json.load(file)
 
 
 def rows_of(said):
@@ -105,6 +119,30 @@ def alarms_come(page, rig, stream):
         "an alarm that went stays until it is acknowledged",
     )
     return {name: row["id"] for name, row in rows_of(said).items()}
+
+
+def values_alarm(rig, stream):
+    """Alarms of FALSE, of a bit that is 0, and of values of an enumeration; they go again."""
+
+    def there(**wanted):
+        def holds(said):
+            rows = {row["name"].split(".")[1]: row for row in said["rows"] if row["went"] is None}
+            return {name: rows[name]["detail"] for name in rows if name in ("air", "mode", "relays")} == wanted
+
+        return holds
+
+    for name, given, wanted in (
+        ("Main.air", b"\0", {"air": ""}),
+        ("Main.relays", b"\xfe", {"air": "", "relays": ""}),
+        ("Main.mode", struct.pack("<h", 99), {"air": "", "relays": "", "mode": "Faulted"}),
+        ("Main.mode", struct.pack("<h", -2), {"air": "", "relays": "", "mode": "Starved"}),
+        ("Main.mode", struct.pack("<h", 1), {"air": "", "relays": ""}),
+        ("Main.air", b"\1", {"relays": ""}),
+        ("Main.relays", b"\1", {}),
+    ):
+        rig.put(name, given)
+        said = stream.next("alarms", there(**wanted))
+    return [row["id"] for row in said["rows"]]
 
 
 def acknowledged(page, stream, numbers):
@@ -175,6 +213,9 @@ def refusals(folder, plant):
         refused(2, part, "page.py", plant, *to, "--words", words)
     refused(4, "No such file", "page.py", plant, *to, "--words", os.path.join(folder, "none.toml"))
     refused(1, "--user-header is the name of a header", "page.py", plant, *to, "--user-header", "a b")
+    refused(1, "--proxy ADDRESS, that of the web server", "page.py", plant, *to, "--user-header", "X-User")
+    refused(1, "--user-header NAME, the header", "page.py", plant, *to, "--proxy", "127.0.0.1")
+    refused(1, "--proxy is an address", "page.py", plant, *to, "--user-header", "X-User", "--proxy", "proxy")
 
 
 def tells(program):
@@ -198,17 +239,20 @@ def tells(program):
                 )
                 limits_hold(page)
                 rig.put("Main.pump1.flow", struct.pack("<f", 1.0))
+                acknowledge(page, values_alarm(rig, stream))
+                stream.next("alarms", lambda said: not said["rows"])
                 acknowledged(page, stream, alarms_come(page, rig, stream))
                 page.until(
                     lambda: '"ack": null' in open(state, encoding="utf-8").read()
                     and "Main.door" in open(state, encoding="utf-8").read(),
                     "the state",
                 )
-                page.until(lambda: len(json.load(open(state, encoding="utf-8"))["past"]) == 1, "the last state")
+                page.until(lambda: "Main.door" in [it["name"] for it in state_of(state)["past"]], "the last state")
             page.process.send_signal(signal.SIGKILL)
             page.end()
             kept(plant, server, words, state, rig)
             named(plant, server)
+            logged_in(folder, plant, server)
             history_is_read(folder, plant, server)
             recipes_are_written(plant, server)
         refusals(folder, plant)
@@ -310,9 +354,18 @@ def history_is_read(folder, plant, server):
 
 
 def named(plant, server):
-    """The name that a proxy tells stands in the log."""
-    with Page(plant, server.to, "--write", "Main.count", "--user-header", "X-User") as page, Stream(page) as stream:
+    """The name that a proxy tells stands in the log; nobody but the proxy is answered."""
+    words = ("--write", "Main.count", "--user-header", "X-User", "--proxy")
+    with Page(plant, server.to, *words, "127.0.0.1") as page, Stream(page) as stream:
         page.until(page.is_well, "the server")
         page.write("Main.count", "20", page.token(), X_User="Jörg".encode().decode("latin-1"))
-        page.write("Main.count", "21", page.token())
-        see([stream.next("logged")["by"] for _ in range(2)] == ["Jörg", "127.0.0.1"], "who wrote")
+        see(stream.next("logged")["by"] == "Jörg", "who wrote")
+        status, why = page.write("Main.count", "21", page.token())
+        see(status == 403 and "tells no name by x-user" in why, f"a write without a name: {status} {why}")
+    with Page(plant, server.to, *words, "192.0.2.1", "--proxy", "2001:db8::1") as page:
+        page.until(page.is_well, "the server")
+        for path in ("/", "/values.json", "/metrics", "/events"):
+            status, _, said = page.ask(path, X_User="root")
+            is_told = b"127.0.0.1 is not named by --proxy" in said
+            see(status == 403 and is_told, f"{path} past the proxy: {status} {said}")
+        see(page.write("Main.count", "22", "x", X_User="root")[0] == 403, "a write past the proxy")

@@ -78,6 +78,10 @@ class Page:
     def token(self):
         return self.ask("/")[2].decode().split('name="token" content="')[1].split('"')[0]
 
+    def stream(self, cookie):
+        """The stream of a browser that has a session."""
+        return Stream(self, f"Cookie: {cookie}\r\n")
+
     def write(self, name, value, token, **headers):
         """The status of a write and its sentence."""
         given = {"Content_Type": "application/json", "X_Token": token, "Origin": f"http://127.0.0.1:{self.port}", **headers}
@@ -88,9 +92,9 @@ class Page:
 class Stream:
     """A browser's stream of changes."""
 
-    def __init__(self, page):
+    def __init__(self, page, head=""):
         self.socket = socket.create_connection(("127.0.0.1", page.port), timeout=20)
-        self.socket.sendall(f"GET /events HTTP/1.1\r\nHost: 127.0.0.1:{page.port}\r\n\r\n".encode())
+        self.socket.sendall(f"GET /events HTTP/1.1\r\nHost: 127.0.0.1:{page.port}\r\n{head}\r\n".encode())
         self.events = queue.Queue()
         threading.Thread(target=self.read, daemon=True).start()
 

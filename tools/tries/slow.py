@@ -1,10 +1,10 @@
-"""A disk that is slow: a library that makes each sync of a file take longer, made of bench/slow_sync.c where there is
+"""A disk that is slow: a library that makes each sync of a file take longer, made of tries/slow_sync.c where there is
 a compiler."""
 import os
 import shutil
 import subprocess
 
-SOURCE = os.path.join(os.path.dirname(os.path.abspath(__file__)), "..", "..", "bench", "slow_sync.c")
+SOURCE = os.path.join(os.path.dirname(os.path.abspath(__file__)), "..", "..", "tries", "slow_sync.c")
 
 
 def slow_disk(folder, ms):

@@ -2,6 +2,11 @@
 #![tactic(auto)]
 
 mod base;
+mod files;
+mod found;
+mod loss;
+mod node;
+mod places;
 mod sqlite_keeper;
 mod statements;
 mod tables;

@@ -3,7 +3,7 @@
 ghost use Rattle.std.specs.Prelude.{◌≡◌, ◌≤◌, None};
 ghost use Rattle.ads_outside.specs.Rose.{Rose};
 
-use crate::base::{Base, close_settled, open_base, write_back};
+use crate::base::{OpenFile, close_settled, open_base, write_back};
 use crate::tables::{put_row, settle_rows, total_of};
 use sample_store::{Keeper, KeeperOpen, Kept, Row, Total, Totalled};
 use sqlite::{Error, ErrorCode};
@@ -15,12 +15,12 @@ const UNOPENED: Error = Error::SqliteFailure(ErrorCode::CannotOpen);
 const MAX_GATHERED: u32 = 4_096;
 
 /// Samples in an SQLite file, in two tables. Puts are gathered in one transaction until they are settled, 4,096 at most. It
-/// tells nothing of its rows, and counts each refused statement as a fault. Before the first total behind a put, and when it
+/// tells nothing of its rows, and counts each refused statement as a fault. Behind each settling it looks whether the name still
+/// leads to the file; else that is a fault, which is told on standard error. Before the first total behind a put, and when it
 /// goes, it settles them, and SQLite's log is written back into the file and taken away.
 pub struct SqliteKeeper {
     rt: HostRuntime,
-    path: String,
-    conn: Option<Base>,
+    file: Option<OpenFile>,
     // Whether rows were written since the file was opened.
     is_written: bool,
     // The puts of the transaction that is open.
@@ -33,8 +33,7 @@ impl SqliteKeeper {
     pub fn new(rt: HostRuntime) -> SqliteKeeper {
         SqliteKeeper {
             rt,
-            path: String::new(rt.alloc()),
-            conn: None,
+            file: None,
             is_written: false,
             gathered: 0,
             faults: 0,
@@ -46,9 +45,8 @@ impl SqliteKeeper {
         ensures { self.new.faults ≡ self.old.faults }
     {
         self.close()?;
-        self.path = String::from_str(self.rt.alloc(), name)?;
-        let (conn, last) = open_base(&self.rt, name)?;
-        self.conn = Some(conn);
+        let (file, last) = open_base(&self.rt, name)?;
+        self.file = Some(file);
         Ok(last)
     }
 
@@ -58,9 +56,9 @@ impl SqliteKeeper {
     {
         self.is_written = false;
         self.gathered = 0;
-        match self.conn.take() {
+        match self.file.take() {
             None => Ok(()),
-            Some(conn) => close_settled(&self.rt, conn, self.path.as_str()),
+            Some(file) => close_settled(&self.rt, file),
         }
     }
 
@@ -68,7 +66,7 @@ impl SqliteKeeper {
         ensures { self.new.faults ≡ self.old.faults }
     {
         self.is_written = true;
-        put_by(&mut self.conn, row)?;
+        put_by(&mut self.file, row)?;
         if self.gathered < MAX_GATHERED - 1 {
             self.gathered += 1;
             return Ok(());
@@ -76,12 +74,12 @@ impl SqliteKeeper {
         self.settle_all()
     }
 
-    // The transaction that is open is ended.
+    // The transaction that is open is ended, and its rows stand where the name leads.
     fn settle_all(&mut self) -> Result<(), Error>
         ensures { self.new.faults ≡ self.old.faults }
     {
         self.gathered = 0;
-        settle_by(&mut self.conn)
+        settle_by(&self.rt, &mut self.file)
     }
 
     // The log is written back, and the file goes on open.
@@ -89,10 +87,10 @@ impl SqliteKeeper {
         ensures { self.new.faults ≡ self.old.faults }
     {
         self.is_written = false;
-        match self.conn.take() {
+        match self.file.take() {
             None => Ok(()),
-            Some(conn) => {
-                self.conn = Some(write_back(&self.rt, conn)?);
+            Some(file) => {
+                self.file = Some(written_back(&self.rt, file)?);
                 Ok(())
             }
         }
@@ -106,32 +104,41 @@ impl SqliteKeeper {
             self.settle_all()?;
             self.write_all()?;
         }
-        total_by(&mut self.conn, name)
+        total_by(&mut self.file, name)
     }
 }
 
 // Before a file was opened, a put fails.
-fn put_by(conn: &mut Option<Base>, row: &Row) -> Result<(), Error> {
-    match conn {
+fn put_by(file: &mut Option<OpenFile>, row: &Row) -> Result<(), Error> {
+    match file {
         None => Err(UNOPENED),
-        Some(conn) => put_row(conn, row),
+        Some(file) => put_row(&mut file.conn, row),
     }
 }
 
 // Before a file was opened there is nothing to settle.
-fn settle_by(conn: &mut Option<Base>) -> Result<(), Error> {
-    match conn {
+fn settle_by(rt: &HostRuntime, file: &mut Option<OpenFile>) -> Result<(), Error> {
+    match file {
         None => Ok(()),
-        Some(conn) => settle_rows(conn),
+        Some(file) => {
+            settle_rows(&mut file.conn)?;
+            file.places.look(rt)
+        }
     }
 }
 
 // Before a file was opened, a total fails.
-fn total_by(conn: &mut Option<Base>, name: &[u8]) -> Result<Option<Total>, Error> {
-    match conn {
+fn total_by(file: &mut Option<OpenFile>, name: &[u8]) -> Result<Option<Total>, Error> {
+    match file {
         None => Err(UNOPENED),
-        Some(conn) => total_of(conn, name),
+        Some(file) => total_of(&mut file.conn, name),
     }
+}
+
+fn written_back(rt: &HostRuntime, file: OpenFile) -> Result<OpenFile, Error> {
+    let OpenFile { conn, places } = file;
+    let conn = write_back(rt, conn)?;
+    Ok(OpenFile { conn, places })
 }
 
 // It is written out, so that whatever ends a run leaves one file.
@@ -139,15 +146,14 @@ impl Drop for SqliteKeeper {
     fn drop(self) {
         let SqliteKeeper {
             rt,
-            path,
-            conn,
+            file,
             is_written: _,
             gathered: _,
             faults: _,
         } = self;
-        if let Some(conn) = conn {
+        if let Some(file) = file {
             // Nobody is there to be told what fails here; the rows that were settled stand in the log then.
-            let _ = close_settled(&rt, conn, path.as_str());
+            let _ = close_settled(&rt, file);
         }
     }
 }

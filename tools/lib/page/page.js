@@ -7,7 +7,7 @@ import { Log } from "/log.js";
 import { Plot } from "/plot.js";
 import { Recipes } from "/recipe.js";
 import { Rows } from "/rows.js";
-import { clock, counted } from "/words.js";
+import { ask, clock, counted } from "/words.js";
 
 const $ = (id) => document.getElementById(id);
 const meta = (name) => document.querySelector(`meta[name="${name}"]`).content;
@@ -55,9 +55,23 @@ function listen() {
   on("beat", () => {});
   source.onerror = () => {
     alone(true);
-    if (source.readyState === EventSource.CLOSED) later();
+    if (source.readyState === EventSource.CLOSED) { later(); known(); }
   };
 }
+
+// A session that is over leads to the form by which one logs in.
+async function known() {
+  try {
+    if ((await fetch("/", { method: "HEAD" })).status === 401) location.reload();
+  } catch { /* the bar says that the page's program is gone */ }
+}
+
+$("leave").hidden = !meta("user");
+$("leave").textContent = t("Log out {0}", meta("user"));
+$("leave").addEventListener("click", async () => {
+  await ask("/logout", meta("token"), {});
+  location.reload();
+});
 
 function later() {
   clearTimeout(timer);

@@ -27,17 +27,28 @@ class Sheet {
     this.write = make("button", { type: "submit", class: "set", text: t("Write the recipe") });
     this.said = make("output", { class: "said", "aria-live": "polite" });
     this.body = make("tbody", {});
+    this.differs = make("tbody", {});
+    this.sure = make("button", { type: "submit", class: "set" });
+    this.not = make("button", { type: "button", class: "small-button", text: t("Not yet") });
+    this.look = make("div", { class: "recipe-look", role: "group", "aria-label": t("What will change"), hidden: true },
+      make("h3", { text: t("What will change") }), make("table", {}, this.differs), make("div", { class: "form-row" }, this.sure, this.not));
     const head = make("thead", {}, make("tr", {}, ...[t("Name"), t("now"), t("to be written"), t("Compared")].map((text) => make("th", { scope: "col", text }))));
     this.form = make("form", { class: "card recipe", "aria-label": symbol.path, novalidate: true },
       make("div", { class: "recipe-head" }, make("span", { class: "name", text: symbol.path }), make("label", { for: id, text: t("Recipe") }), this.one,
         make("label", { for: id + "-other", text: t("compare with") }), this.other, this.copy),
       make("div", { class: "recipe-sheet" }, make("table", {}, head, this.body)),
-      make("div", { class: "form-row" }, this.write, this.back), this.said);
+      this.choice = make("div", { class: "form-row" }, this.write, this.back), this.look, this.said);
     this.one.addEventListener("change", () => this.build());
     this.other.addEventListener("change", () => this.paint());
     this.copy.addEventListener("click", () => this.take());
     this.back.addEventListener("click", () => this.build());
-    this.form.addEventListener("submit", (event) => { event.preventDefault(); this.send(); });
+    this.not.addEventListener("click", () => { this.shut(); this.write.focus(); });
+    this.look.addEventListener("keydown", (event) => { if (event.key === "Escape") { event.stopPropagation(); this.not.click(); } });
+    this.form.addEventListener("submit", (event) => {
+      event.preventDefault();
+      if (this.look.hidden) this.open();
+      else this.send();
+    });
     this.options();
     this.build();
   }
@@ -71,6 +82,7 @@ class Sheet {
   // The rows of the chosen recipe, with its values in the fields.
   build() {
     this.fields = new Map();
+    this.shut();
     this.body.replaceChildren(...leavesOf(this.part(this.one.value), "", []).map(([path, leaf]) => {
       const unit = leaf.words && leaf.words.u ? leaf.words.u : "";
       const field = leaf.kind.k === "bool" || leaf.kind.k === "enum"
@@ -85,6 +97,33 @@ class Sheet {
     }));
     this.tell("", "");
     this.paint();
+  }
+
+  // A look at what differs, before it is written.
+  open() {
+    if (this.write.disabled) return;
+    this.tell("", "");
+    this.look.hidden = false;
+    this.choice.hidden = true;
+    this.paint();
+    this.sure.focus();
+  }
+
+  shut() {
+    this.look.hidden = true;
+    this.choice.hidden = false;
+  }
+
+  // What differs, as it is at this moment.
+  compare() {
+    const rows = [...this.fields].filter(([, it]) => it.field.value !== typed(it.leaf));
+    if (!rows.length && !this.busy) this.shut();
+    const said = rows.map(([path, it]) => [path, typed(it.leaf) || "''", it.field.value || "''"]), key = JSON.stringify(said);
+    if (this.compared === key) return;
+    this.compared = key;
+    this.sure.textContent = t(said.length === 1 ? "Write {0} value" : "Write {0} values", said.length);
+    this.differs.replaceChildren(...said.map(([path, now, then]) => make("tr", {}, make("th", { scope: "row", text: path }),
+      make("td", { class: "old", text: now }), make("td", { class: "arrow", "aria-label": t("becomes"), text: "→" }), make("td", { text: then }))));
   }
 
   // Another table of the server: the fields stay as they are where the recipe has the same values still.
@@ -112,6 +151,9 @@ class Sheet {
     this.copy.disabled = !other || !this.live;
     this.write.disabled = !changed || !this.live || this.busy;
     this.back.disabled = !changed;
+    this.sure.disabled = this.write.disabled;
+    for (const it of [this.one, this.other, ...[...this.fields.values()].map((own) => own.field)]) it.disabled = !this.live;
+    if (!this.look.hidden) this.compare();
   }
 
   take() {
@@ -136,6 +178,7 @@ class Sheet {
     const index = this.one.value, values = Object.fromEntries([...this.fields].map(([path, it]) => [path, it.field.value]));
     const said = await ask("/recipe", this.token, { name: this.symbol.path, port: this.port, index, values });
     this.busy = false;
+    this.shut();
     if (said.ok) this.tell(t("Written: {0}", this.symbol.path + index), "good");
     else this.tell(said.known ? t("Not written: {0}.", said.why) : t("Not known whether it was written: {0}.", said.why), "bad", said.parts);
     this.options();

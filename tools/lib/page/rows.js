@@ -23,10 +23,10 @@ function node(said, path, parent, symbol, table, leaves) {
 }
 
 // A bit of a number, as a part of it that has its name.
-function bitNode(of, [number, name, isAlarm]) {
+function bitNode(of, [number, name, isAlarm, at]) {
   return {
     ...of, name, bit: number, path: `${of.path} ${name}`, parent: of, type: t("bit {0}", number), comment: "", depth: of.depth + 1,
-    key: `${of.key} ${number}`, kind: { k: "bool", s: of.kind.s }, words: isAlarm ? { alarm: name } : null, parts: [], row: null, value: null,
+    key: `${of.key} ${number}`, kind: { k: "bool", s: of.kind.s }, words: isAlarm ? { alarm: name, at: [at] } : null, parts: [], row: null, value: null,
     found: `${of.path} ${name}`.toLowerCase(),
   };
 }
@@ -34,7 +34,8 @@ function bitNode(of, [number, name, isAlarm]) {
 function isAlarming(it) {
   const own = it.words;
   if (!own || !own.alarm || it.value === null) return false;
-  if (it.kind.k === "bool") return it.value;
+  if (it.kind.k === "bool") return it.value === (own.at ? own.at[0] : true);
+  if (own.at) return own.at.includes(String(it.value));
   return it.kind.k === "text" ? it.value !== "" : Number(it.value) < own.low || Number(it.value) > own.high;
 }
 
