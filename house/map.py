@@ -156,19 +156,12 @@ def made_text(groups, crates):
     ]
 
 
-# The drawing: a box a group, some groups in parts, at places by hand. A line leads down from a box to each box that it
+# The drawing: a box a group, at places by hand. A line leads down from a box to each box that it
 # uses and that none of the others that it uses does; so what a box uses is all that its lines lead to. No line runs
 # behind a box: `Drawing.line` says where one would.
-PARTS = {
-    "one client": ("net_routes", "sym_handles", "notify_table", "sum_commands", "session"),
-    "the relay": ("spec_relay", "ams_relay"),
-    "the local link": ("local_link",),
-    "samples": ("sample_store", "sqlite_samples"),
-    "cases": ("spec_examples", "run_examples"),
-}
 # (from the left, to the right, from the top row, to the bottom row)
 PLACES = {
-    "cases": (16, 856, 0, 0),
+    "cases": (16, 690, 0, 0), "examples": (706, 856, 0, 0),
     "the daemon": (16, 856, 1, 1),
     "the program": (16, 856, 2, 2),
     "stores": (16, 196, 3, 3), "the relay": (212, 376, 3, 3), "the local link": (392, 556, 3, 3),
@@ -182,6 +175,11 @@ PLACES = {
 }
 FILLS = {"what is believed": "#fdf3d8", "the ground": "#eeeeee", "cases": "#f5f5f5", "the client": "#e4f2e4",
          "samples": "#e4f2e4", "the local link": "#d9eef0"}
+# What stands below the names in a box.
+WRAPS = {
+    "the daemon": ("the wire: Watched (it ends at a stop, and tells the log) around Routed (the local router) around RealWire",
+                   "(sockets, with its allow list); beside the loop: SavesOn (a store) or Tells, which tell the log"),
+}
 FILL, SIDE, CHANNEL = "#e3ecf7", "what is believed", 36
 
 
@@ -195,15 +193,19 @@ def wrapped(words, wide):
     return [it + "," for it in lines[:-1]] + lines[-1:]
 
 
+def box_of(title):
+    """The name of a group's box: its title up to the colon or the comma."""
+    return re.split("[:,]", title)[0]
+
+
 class Drawing:
     """The boxes with their crates, and what each uses."""
 
     def __init__(self, groups, crates):
-        part = {name: title for title, names in PARTS.items() for name in names}
         self.holds, self.uses, self.faults = {}, {}, []
         for title, names in groups:
             for name in names:
-                self.holds.setdefault(part.get(name, title.split(":")[0]), []).append(name)
+                self.holds.setdefault(box_of(title), []).append(name)
         box = {name: title for title, names in self.holds.items() for name in names}
         for name, title in box.items():
             self.uses.setdefault(title, set()).update(box[use] for use in crates[name].uses if use in box
@@ -222,7 +224,8 @@ class Drawing:
             if title in self.places:
                 left, right, top, bottom = self.places[title]
                 if top == bottom:
-                    need[top] = max(need[top], 36 + 16 * len(wrapped(names, right - left - 20)))
+                    lines = len(wrapped(names, right - left - 20)) + len(WRAPS.get(title, ()))
+                    need[top] = max(need[top], 36 + 16 * lines)
         self.begins, y = [], 12
         for row in range(count):
             self.begins.append((y, y + need[row]))
@@ -288,7 +291,7 @@ class Drawing:
                            f'fill="{FILLS.get(title, FILL)}" stroke="#667"/>')
                 out.append(f'<text x="{a + 10}" y="{b + 20}" font-size="14" font-weight="bold" '
                            f'fill="#222">{title}</text>')
-                for n, line in enumerate(wrapped(names, c - a - 20)):
+                for n, line in enumerate((*wrapped(names, c - a - 20), *WRAPS.get(title, ()))):
                     out.append(f'<text x="{a + 10}" y="{b + 38 + 16 * n}" font-size="12" fill="#333">{line}</text>')
         for upper, lower in self.pairs():
             if upper in self.places and lower in self.places:
