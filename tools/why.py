@@ -58,7 +58,7 @@ def main(words):
         name, given = config.description, taken(config.description)
     it = verdict_on(given, config.signals if config and not (options["config"] or options["signals"]) else signals)
     source = source_said(it, given, name)
-    for line in it.lines + ([f"{name}: {source}"] if source else explained(it, name)):
+    for line in it.lines + explained(it, name) + ([f"{name}: {source}"] if source else []):
         print(line)
     return it.status
 

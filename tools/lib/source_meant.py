@@ -11,4 +11,4 @@ def source_said(verdict, given, name):
 
     if build(given, os.path.basename(name), None, MOST).faults:
         return ""
-    return f"it is a source: build the description of it by plant.py build {name} --out FILE"
+    return f"as a source it is right: plant.py build {name} --out FILE makes the description of it"

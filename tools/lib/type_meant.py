@@ -9,8 +9,7 @@ STANDING = {**dict.fromkeys(("DATE", "TIME_OF_DAY", "TOD", "DATE_AND_TIME", "DT"
 # What other languages call a plain type.
 CALLED = {
     "BIT": "BOOL", "BOOLEAN": "BOOL", "FLOAT": "REAL", "FLOAT32": "REAL", "SINGLE": "REAL", "DOUBLE": "LREAL", "FLOAT64": "LREAL", "INT8": "SINT",
-    "INT16": "INT", "INT32": "DINT", "INT64": "LINT", "UINT8": "USINT", "UINT16": "UINT", "UINT32": "UDINT", "UINT64": "ULINT", "INTEGER": "DINT",
-    "LONG": "DINT", "CHAR": "BYTE",
+    "INT16": "INT", "INT32": "DINT", "INT64": "LINT", "UINT8": "USINT", "UINT16": "UINT", "UINT32": "UDINT", "UINT64": "ULINT",
 }
 ARRAY = re.compile(r"\s*array\s*\[([^\]]*)\]\s*of\s*(.*?)\s*", re.IGNORECASE | re.DOTALL)
 BOUND = re.compile(r"\s*([+-]?[0-9]{1,10})\s*\.\.\.?\s*([+-]?[0-9]{1,10})\s*")
