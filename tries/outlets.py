@@ -270,14 +270,14 @@ def dashboard(store):
     """The statements of examples/grafana-plant.json, with what Grafana puts in place of its words, over a history with
     a gap."""
     where, found = store.fresh(), {}
-    with FakePlant({"GVL.v1": "DINT", "GVL.v'2": "LREAL"}) as plant:
+    with FakePlant({"GVL.v1": "DINT", "GVL.v'2": "LREAL", "GVL.on": "BOOL"}) as plant:
         for _ in range(2):
             it = recorder(plant, where)
             begun(it)
             time.sleep(2)
             ended(it, "the recorder")
     now = time.time_ns()
-    said = {"${name:sqlstring}": "'GVL.v1','GVL.v''2'", "$__interval_ms": "5000",
+    said = {"${name:sqlstring}": "'GVL.v1','GVL.v''2','GVL.on'", "$__interval_ms": "5000",
             "$__unixEpochNanoFilter(s.unix_ns)": f"s.unix_ns >= {now - 10 ** 12} AND s.unix_ns <= {now}",
             "$__unixEpochNanoFrom()": str(now - 10 ** 12), "$__unixEpochNanoTo()": str(now)}
     given = json.loads((ROOT / "examples/grafana-plant.json").read_text())
@@ -291,7 +291,7 @@ def dashboard(store):
             cursor = base.cursor()
             cursor.execute(statement)
             found[name] = len(cursor.fetchall())
-    see(all(found.values()) and found["names"] == found["Gaps"] == 2, f"the rows of each: {found}")
+    see(all(found.values()) and found["names"] == found["Gaps"] == 3, f"the rows of each: {found}")
     return f"ok: {len(found)} statements, rows {list(found.values())}"
 
 

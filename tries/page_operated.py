@@ -130,7 +130,8 @@ def recipe(it):
     )
     typed = (
         "const field = document.querySelectorAll('.recipe tbody input')[1]; field.value = arguments[0]; "
-        "field.dispatchEvent(new Event('input')); document.querySelector('.recipe .set').click()"
+        "field.dispatchEvent(new Event('input')); document.querySelector('.recipe .set').click(); "
+        "const look = document.querySelector('.recipe-look .set'); if (look) look.click()"
     )
     it.browser.script(typed, "2000")
     wrong = it.until("return document.querySelectorAll('.recipe .wrong')[1].textContent")
