@@ -35,10 +35,10 @@ module _ {W C D : Type 0} (every : ℕ) (of_world : BodyOf W) (step : EventStep 
   Also old first_disk disk first =
       MarksOf every of_world step marked old (HoldsSaves (contents first_disk) first.standing) first_disk disk
 
-  abbrev SoFar : (Standing W C → List Move → Type 0) → (Standing W C → Type 0) → (Standing W C → Type 0) → WireHistory → WireHistory → ℕ → ℕ
+  abbrev SoFar : (Standing W C → List Move → Type 0) → (Standing W C → Type 0) → (Standing W C → Type 0) → WireHistory → WireHistory → ℕ
       → D → D → StoreState → StoreState → ℕ → Type 0
-  SoFar Holds old_serves new_serves old new count left old_disk new_disk first now saved =
-      KeepsSoFar Holds every of_world step noted contents moment left_since old_serves new_serves old new count left old_disk new_disk first now saved
+  SoFar Holds old_serves new_serves old new count old_disk new_disk first now saved =
+      KeepsSoFar Holds every of_world step noted contents moment left_since old_serves new_serves old new count old_disk new_disk first now saved
 
   -- so the marks of a run end, before that of its end
   abbrev pub EndsMarked : Bool → (Standing W C → Type 0) → WireState → WireState → D → D → StoreState → Type 0
@@ -48,27 +48,27 @@ module _ {W C D : Type 0} (every : ℕ) (of_world : BodyOf W) (step : EventStep 
       (contents disk) old.history new.history)
 
   -- one that ended in a turn, or in the save behind it
-  pub stops_marked : (old_serves mid_serves : Standing W C → Type 0) (old : WireState) (mid : WireHistory) (new : WireState) (count left : ℕ)
+  pub stops_marked : (old_serves mid_serves : Standing W C → Type 0) (old : WireState) (mid : WireHistory) (new : WireState) (count : ℕ)
       (old_disk mid_disk disk : D) (first mid_store : StoreState) (saved : ℕ) (later : List Move)
-      → SoFar (Also old.history old_disk mid_disk first) old_serves mid_serves old.history mid count left old_disk mid_disk first mid_store saved
+      → SoFar (Also old.history old_disk mid_disk first) old_serves mid_serves old.history mid count old_disk mid_disk first mid_store saved
       → events_in later ≤ 1 → EndsAfter old new (history_after mid later) → MarksStay marked mid_disk disk
       → EndsMarked false old_serves old new old_disk disk first
-  stops_marked old_serves mid_serves old mid new count left old_disk mid_disk disk first mid_store saved later so_far few ended stay = λ x over marks told.
+  stops_marked old_serves mid_serves old mid new count old_disk mid_disk disk first mid_store saved later so_far few ended stay = λ x over marks told.
       let Holds : List (List ℕ) → Option (List ℕ) → Type 0 = HoldsSaves (contents old_disk) first.standing in
       let turns = so_far.paced.keeps.turns in
       marked_before every of_world step x.running.state Holds Holds old mid new turns.moves (marked mid_disk) (marked disk) marks (λ looked file holds. holds)
       false (contents disk) later few turns.logged ended stay (λ e. absurd (false≢true e)) (λ e. absurd (false≢true e)) (so_far.paced.also x over marks told)
 
   -- one that came to its end, and whose last save was done
-  last_marked : (old_serves mid_serves new_serves : Standing W C → Type 0) (old : WireState) (mid : WireHistory) (new : WireState) (count left : ℕ)
+  last_marked : (old_serves mid_serves new_serves : Standing W C → Type 0) (old : WireState) (mid : WireHistory) (new : WireState) (count : ℕ)
       (old_disk mid_disk disk : D) (first mid_store now : StoreState) (saved : ℕ) (more : List (List ℕ))
-      → (so_far : SoFar (Also old.history old_disk mid_disk first) old_serves mid_serves old.history mid count left old_disk mid_disk first mid_store saved)
+      → (so_far : SoFar (Also old.history old_disk mid_disk first) old_serves mid_serves old.history mid count old_disk mid_disk first mid_store saved)
       → EndsAfter old new (history_after mid []) → Stays mid_serves new_serves → MarksStay marked mid_disk disk
       → StaysTold contents old_disk disk → IsReady contents may_leave disk now → now.shut ≡ false
       → now.standing ≡ runs.standing_after_all first.standing (so_far.saves ++ more)
       → ((z : Standing W C) → StandsOver new_serves mid.opened z → saves_in (last_of (body_of first) so_far.saves) (of_world z.running.state.world ∷ []) ≡ more)
       → EndsMarked true old_serves old new old_disk disk first
-  last_marked old_serves mid_serves new_serves old mid new count left old_disk mid_disk disk first mid_store now saved more so_far ended stays stay told
+  last_marked old_serves mid_serves new_serves old mid new count old_disk mid_disk disk first mid_store now saved more so_far ended stays stay told
       ready open_ standing adds = λ x over marks here.
       let Holds : List (List ℕ) → Option (List ℕ) → Type 0 = HoldsSaves (contents old_disk) first.standing in
       let keeps = so_far.paced.keeps in
@@ -91,47 +91,47 @@ module _ {W C D : Type 0} (every : ℕ) (of_world : BodyOf W) (step : EventStep 
 
   -- by its last save
   by_marked : (by : SaveEnd) (ended : RunEnd) (old_serves mid_serves new_serves : Standing W C → Type 0) (old : WireState) (mid : WireHistory)
-      (new : WireState) (count left : ℕ) (old_disk mid_disk disk : D) (first mid_store now : StoreState) (saved : ℕ)
-      → SoFar (Also old.history old_disk mid_disk first) old_serves mid_serves old.history mid count left old_disk mid_disk first mid_store saved
+      (new : WireState) (count : ℕ) (old_disk mid_disk disk : D) (first mid_store now : StoreState) (saved : ℕ)
+      → SoFar (Also old.history old_disk mid_disk first) old_serves mid_serves old.history mid count old_disk mid_disk first mid_store saved
       → EndsAfter old new (history_after mid []) → Stays mid_serves new_serves
       → AfterSave by (IsBodyOf of_world new_serves) contents moment left_since mid_disk disk mid_store now → IsReady contents may_leave disk now
       → MarksStay marked mid_disk disk → EndsMarked (is_to_end (end_by_save by ended saved)) old_serves old new old_disk disk first
-  by_marked save.Same ended old_serves mid_serves new_serves old mid new count left old_disk mid_disk disk first mid_store now saved so_far after stays same
+  by_marked save.Same ended old_serves mid_serves new_serves old mid new count old_disk mid_disk disk first mid_store now saved so_far after stays same
       ready stay =
       let B : Bool → Type 0 = λ b. EndsMarked b old_serves old new old_disk disk first in
       subst B (sym (came_to_end ended saved))
-      (last_marked old_serves mid_serves new_serves old mid new count left old_disk mid_disk disk first mid_store now saved [] so_far after stays stay
+      (last_marked old_serves mid_serves new_serves old mid new count old_disk mid_disk disk first mid_store now saved [] so_far after stays stay
       (told_same contents moment left_since old_disk mid_disk disk so_far.told same.disk) ready
       (ap (λ (s : StoreState). s.shut) same.store ∙ so_far.open_)
       (ap (λ (s : StoreState). s.standing) same.store ∙ (so_far.standing ∙ ap (runs.standing_after_all first.standing) (sym (append-nil so_far.saves))))
       (λ z over. same_adds first mid_store so_far.saves same.body
       (of_world z.running.state.world) so_far.standing same.stands (same.is z over.stands)))
-  by_marked save.Saved ended old_serves mid_serves new_serves old mid new count left old_disk mid_disk disk first mid_store now saved so_far after stays s
+  by_marked save.Saved ended old_serves mid_serves new_serves old mid new count old_disk mid_disk disk first mid_store now saved so_far after stays s
       ready stay =
       let B : Bool → Type 0 = λ b. EndsMarked b old_serves old new old_disk disk first in
       subst B (sym (came_to_end ended (saved + 1)))
-      (last_marked old_serves mid_serves new_serves old mid new count left old_disk mid_disk disk first mid_store now saved (s.body ∷ []) so_far after
+      (last_marked old_serves mid_serves new_serves old mid new count old_disk mid_disk disk first mid_store now saved (s.body ∷ []) so_far after
       stays stay (told_then contents moment left_since old_disk mid_disk disk so_far.told s.told) ready
       (ap (λ (t : StoreState). t.shut) s.store)
       (ap (λ (t : StoreState). t.standing) s.store ∙ standing_then so_far.saves s.body first.standing mid_store.standing so_far.standing)
       (λ z over. other_adds first mid_store so_far.saves s.body
       (of_world z.running.state.world) so_far.standing s.differs (s.is z over.stands)))
-  by_marked save.Failed ended old_serves mid_serves new_serves old mid new count left old_disk mid_disk disk first mid_store now saved so_far after stays failed
-      ready stay = stops_marked old_serves mid_serves old mid new count left old_disk mid_disk disk first mid_store saved [] so_far (omega arith) after stay
-  by_marked save.Limit ended old_serves mid_serves new_serves old mid new count left old_disk mid_disk disk first mid_store now saved so_far after stays refused
-      ready stay = stops_marked old_serves mid_serves old mid new count left old_disk mid_disk disk first mid_store saved [] so_far (omega arith) after stay
-  by_marked save.Memory ended old_serves mid_serves new_serves old mid new count left old_disk mid_disk disk first mid_store now saved so_far after stays wanted
-      ready stay = stops_marked old_serves mid_serves old mid new count left old_disk mid_disk disk first mid_store saved [] so_far (omega arith) after stay
+  by_marked save.Failed ended old_serves mid_serves new_serves old mid new count old_disk mid_disk disk first mid_store now saved so_far after stays failed
+      ready stay = stops_marked old_serves mid_serves old mid new count old_disk mid_disk disk first mid_store saved [] so_far (omega arith) after stay
+  by_marked save.Limit ended old_serves mid_serves new_serves old mid new count old_disk mid_disk disk first mid_store now saved so_far after stays refused
+      ready stay = stops_marked old_serves mid_serves old mid new count old_disk mid_disk disk first mid_store saved [] so_far (omega arith) after stay
+  by_marked save.Memory ended old_serves mid_serves new_serves old mid new count old_disk mid_disk disk first mid_store now saved so_far after stays wanted
+      ready stay = stops_marked old_serves mid_serves old mid new count old_disk mid_disk disk first mid_store saved [] so_far (omega arith) after stay
 
   pub ends_marked : (end : KeepEnd) (ended : RunEnd) (old_serves mid_serves new_serves : Standing W C → Type 0) (old : WireState) (mid : WireHistory)
-      (new : WireState) (count left : ℕ) (old_disk mid_disk disk : D) (first mid_store now : StoreState) (saved : ℕ)
-      → SoFar (Also old.history old_disk mid_disk first) old_serves mid_serves old.history mid count left old_disk mid_disk first mid_store saved
+      (new : WireState) (count : ℕ) (old_disk mid_disk disk : D) (first mid_store now : StoreState) (saved : ℕ)
+      → SoFar (Also old.history old_disk mid_disk first) old_serves mid_serves old.history mid count old_disk mid_disk first mid_store saved
       → EndsAfter old new mid → Stays mid_serves new_serves
       → EndsBySave end ended saved (IsBodyOf of_world new_serves) contents moment left_since mid_disk disk mid_store now → IsReady contents may_leave disk now
       → MarksStay marked mid_disk disk → EndsMarked (is_to_end end) old_serves old new old_disk disk first
-  ends_marked end ended old_serves mid_serves new_serves old mid new count left old_disk mid_disk disk first mid_store now saved so_far after stays ends ready
+  ends_marked end ended old_serves mid_serves new_serves old mid new count old_disk mid_disk disk first mid_store now saved so_far after stays ends ready
       stay =
       let P : KeepEnd → Type 0 = λ e. EndsMarked (is_to_end e) old_serves old new old_disk disk first in
       subst P (sym ends.is)
-      (by_marked ends.by ended old_serves mid_serves new_serves old mid new count left old_disk mid_disk disk first mid_store now saved so_far
+      (by_marked ends.by ended old_serves mid_serves new_serves old mid new count old_disk mid_disk disk first mid_store now saved so_far
       (none_after old new mid after) stays ends.saves ready stay)

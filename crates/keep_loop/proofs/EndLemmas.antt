@@ -52,9 +52,9 @@ ends_after run.Budget old new limit count last came = inl came.1
 
 module _ {W C D : Type 0} (every : ℕ) (of_world : BodyOf W) (step : EventStep W C) (noted : Noting W C) (contents : D → Option (List ℕ))
     (may_leave : D → List ℕ → Type 0) (moment : D → ℕ) (left_since : D → ℕ → List ℕ → Type 0) (Also : Standing W C → List Move → Type 0) where
-  abbrev SoFar : (Standing W C → Type 0) → (Standing W C → Type 0) → WireHistory → WireHistory → ℕ → ℕ → D → D → StoreState → StoreState → ℕ → Type 0
-  SoFar old_serves new_serves old new count left old_disk new_disk first now saved =
-      KeepsSoFar Also every of_world step noted contents moment left_since old_serves new_serves old new count left old_disk new_disk first now saved
+  abbrev SoFar : (Standing W C → Type 0) → (Standing W C → Type 0) → WireHistory → WireHistory → ℕ → D → D → StoreState → StoreState → ℕ → Type 0
+  SoFar old_serves new_serves old new count old_disk new_disk first now saved =
+      KeepsSoFar Also every of_world step noted contents moment left_since old_serves new_serves old new count old_disk new_disk first now saved
 
   -- so a run ends
   abbrev Ends : KeepEnd → (Standing W C → Type 0) → (Standing W C → Type 0) → WireState → WireState → ℕ → D → D → StoreState → Type 0
@@ -161,13 +161,13 @@ module _ {W C D : Type 0} (every : ℕ) (of_world : BodyOf W) (step : EventStep 
 
   -- the disk failed in the save of a tick
   pub fails_at_tick : (old_serves mid_serves new_serves : Standing W C → Type 0) (old : WireState) (mid : WireHistory)
-      (new : WireState) (count left limit : ℕ) (old_disk mid_disk disk : D) (first mid_store : StoreState) (saved : ℕ) → count < limit
-      → (so_far : SoFar old_serves mid_serves old.history mid count left old_disk mid_disk first mid_store saved)
+      (new : WireState) (count limit : ℕ) (old_disk mid_disk disk : D) (first mid_store : StoreState) (saved : ℕ) → count < limit
+      → (so_far : SoFar old_serves mid_serves old.history mid count old_disk mid_disk first mid_store saved)
       → TickKeeps old_serves new_serves old.history new.history count first mid_store so_far.saves
       → (b : IsBegun (IsBodyOf of_world new_serves) contents moment left_since mid_disk disk mid_store) → is_over_limit mid_store.standing b.body ≡ false
       → ((d : D) (t : ℕ) (c : List ℕ) → t ≤ moment d → may_leave d c → left_since d t c)
       → Ends keep.StoreFault old_serves new_serves old new limit old_disk disk first
-  fails_at_tick old_serves mid_serves new_serves old mid new count left limit old_disk mid_disk disk first mid_store saved fewer so_far tick b
+  fails_at_tick old_serves mid_serves new_serves old mid new count limit old_disk mid_disk disk first mid_store saved fewer so_far tick b
       within counts = record {
         saves = so_far.saves ++ b.body ∷ [];
         took = at_tick old_serves new_serves old new count limit first (so_far.saves ++ b.body ∷ []) fewer
@@ -181,12 +181,12 @@ module _ {W C D : Type 0} (every : ℕ) (of_world : BodyOf W) (step : EventStep 
 
   -- it was refused by its limit
   pub limit_at_tick : (old_serves mid_serves new_serves : Standing W C → Type 0) (old : WireState) (mid : WireHistory)
-      (new : WireState) (count left limit : ℕ) (old_disk mid_disk disk : D) (first mid_store : StoreState) (saved : ℕ) → count < limit
-      → (so_far : SoFar old_serves mid_serves old.history mid count left old_disk mid_disk first mid_store saved)
+      (new : WireState) (count limit : ℕ) (old_disk mid_disk disk : D) (first mid_store : StoreState) (saved : ℕ) → count < limit
+      → (so_far : SoFar old_serves mid_serves old.history mid count old_disk mid_disk first mid_store saved)
       → TickKeeps old_serves new_serves old.history new.history count first mid_store so_far.saves
       → (d : Differs (IsBodyOf of_world new_serves) mid_store) → is_over_limit mid_store.standing d.body ≡ true → disk ≡ mid_disk
       → IsReady contents may_leave mid_disk mid_store → Ends keep.StoreLimit old_serves new_serves old new limit old_disk disk first
-  limit_at_tick old_serves mid_serves new_serves old mid new count left limit old_disk mid_disk disk first mid_store saved fewer so_far tick d over same
+  limit_at_tick old_serves mid_serves new_serves old mid new count limit old_disk mid_disk disk first mid_store saved fewer so_far tick d over same
       ready = record {
         saves = so_far.saves ++ d.body ∷ [];
         took = at_tick old_serves new_serves old new count limit first (so_far.saves ++ d.body ∷ []) fewer
@@ -199,14 +199,14 @@ module _ {W C D : Type 0} (every : ℕ) (of_world : BodyOf W) (step : EventStep 
 
   -- memory was wanting behind a tick: for the body, or in its save
   pub memory_at_tick : (old_serves mid_serves new_serves : Standing W C → Type 0) (old : WireState) (mid : WireHistory)
-      (new : WireState) (count left limit : ℕ) (old_disk mid_disk disk : D) (first mid_store : StoreState) (saved : ℕ) → count < limit
-      → (so_far : SoFar old_serves mid_serves old.history mid count left old_disk mid_disk first mid_store saved)
+      (new : WireState) (count limit : ℕ) (old_disk mid_disk disk : D) (first mid_store : StoreState) (saved : ℕ) → count < limit
+      → (so_far : SoFar old_serves mid_serves old.history mid count old_disk mid_disk first mid_store saved)
       → TakesEvent step noted mid_serves new_serves mid new.history turn.Tick
       → TickKeeps old_serves new_serves old.history new.history count first mid_store so_far.saves
       → (disk ≡ mid_disk) ⊎ IsBegun (IsBodyOf of_world new_serves) contents moment left_since mid_disk disk mid_store
       → IsReady contents may_leave mid_disk mid_store → ((d : D) (t : ℕ) (c : List ℕ) → t ≤ moment d → may_leave d c → left_since d t c)
       → Ends keep.Memory old_serves new_serves old new limit old_disk disk first
-  memory_at_tick old_serves mid_serves new_serves old mid new count left limit old_disk mid_disk disk first mid_store saved fewer so_far takes tick (inl same)
+  memory_at_tick old_serves mid_serves new_serves old mid new count limit old_disk mid_disk disk first mid_store saved fewer so_far takes tick (inl same)
       ready counts = record {
         saves = so_far.saves;
         took = inl (breaks_off old_serves mid_serves old mid new count limit first so_far.saves takes.leads.moves so_far.paced.keeps
@@ -216,7 +216,7 @@ module _ {W C D : Type 0} (every : ℕ) (of_world : BodyOf W) (step : EventStep 
         stands = none_last old_disk mid_disk disk first.standing mid_store so_far.saves [] so_far.saves (sym (append-nil so_far.saves)) (omega arith)
             so_far.within so_far.standing so_far.told ready so_far.open_ same;
       }
-  memory_at_tick old_serves mid_serves new_serves old mid new count left limit old_disk mid_disk disk first mid_store saved fewer so_far takes tick (inr b)
+  memory_at_tick old_serves mid_serves new_serves old mid new count limit old_disk mid_disk disk first mid_store saved fewer so_far takes tick (inr b)
       ready counts = record {
         saves = so_far.saves ++ b.body ∷ [];
         took = inr (at_tick old_serves new_serves old new count limit first (so_far.saves ++ b.body ∷ []) fewer
@@ -229,13 +229,13 @@ module _ {W C D : Type 0} (every : ℕ) (of_world : BodyOf W) (step : EventStep 
       }
 
   -- memory was wanting in a turn
-  pub memory_broken : (old_serves new_serves : Standing W C → Type 0) (old : WireState) (mid : WireHistory) (new : WireState) (count left limit : ℕ)
+  pub memory_broken : (old_serves new_serves : Standing W C → Type 0) (old : WireState) (mid : WireHistory) (new : WireState) (count limit : ℕ)
       (old_disk disk : D) (first now : StoreState) (saved : ℕ) (later : List Move)
-      → (so_far : SoFar old_serves serves_any old.history mid count left old_disk disk first now saved) → new.history ≡ history_after mid later
+      → (so_far : SoFar old_serves serves_any old.history mid count old_disk disk first now saved) → new.history ≡ history_after mid later
       → count + events_in later ≤ limit
       → ((x : Standing W C) → StandsOver old_serves old.history.opened x → AreOffers step x.running.state (so_far.paced.keeps.turns.moves ++ later))
       → IsReady contents may_leave disk now → Ends keep.Memory old_serves new_serves old new limit old_disk disk first
-  memory_broken old_serves new_serves old mid new count left limit old_disk disk first now saved later so_far logged most offers ready = record {
+  memory_broken old_serves new_serves old mid new count limit old_disk disk first now saved later so_far logged most offers ready = record {
     saves = so_far.saves;
     took = inl (record {
       last = mid;
@@ -254,11 +254,11 @@ module _ {W C D : Type 0} (every : ℕ) (of_world : BodyOf W) (step : EventStep 
 
   -- the turns of a run, the body at whose end was saved or stands
   last_keeps : (old_serves mid_serves new_serves : Standing W C → Type 0) (old mid : WireHistory)
-      (count left : ℕ) (old_disk mid_disk : D) (first mid_store : StoreState) (saved : ℕ) (more : List (List ℕ))
-      → (so_far : SoFar old_serves mid_serves old mid count left old_disk mid_disk first mid_store saved) → Stays mid_serves new_serves
+      (count : ℕ) (old_disk mid_disk : D) (first mid_store : StoreState) (saved : ℕ) (more : List (List ℕ))
+      → (so_far : SoFar old_serves mid_serves old mid count old_disk mid_disk first mid_store saved) → Stays mid_serves new_serves
       → ((z : Standing W C) → StandsOver new_serves mid.opened z → saves_in (last_of (body_of first) so_far.saves) (of_world z.running.state.world ∷ []) ≡ more)
       → Keeps step noted old_serves new_serves (bodies_to_end every of_world step) (body_of first) old mid count (so_far.saves ++ more)
-  last_keeps old_serves mid_serves new_serves old mid count left old_disk mid_disk first mid_store saved more so_far stays adds =
+  last_keeps old_serves mid_serves new_serves old mid count old_disk mid_disk first mid_store saved more so_far stays adds =
       keeps_last every of_world step noted old_serves new_serves (body_of first) old mid count so_far.saves more
       (keeps_to every of_world step noted old_serves mid_serves new_serves (bodies_looked_at every of_world step)
       (body_of first) old mid count so_far.saves (stands_over mid_serves new_serves mid.opened stays) so_far.paced.keeps) adds
@@ -304,13 +304,13 @@ module _ {W C D : Type 0} (every : ℕ) (of_world : BodyOf W) (step : EventStep 
 
   -- a body that does not stand, at the end
   last_took : (ended : RunEnd) (old_serves mid_serves new_serves : Standing W C → Type 0) (old : WireState) (mid : WireHistory) (new : WireState)
-      (count left limit : ℕ) (old_disk mid_disk : D) (first mid_store : StoreState) (saved : ℕ) (body : List ℕ)
-      → (so_far : SoFar old_serves mid_serves old.history mid count left old_disk mid_disk first mid_store saved) → CameOf ended old new limit count mid
+      (count limit : ℕ) (old_disk mid_disk : D) (first mid_store : StoreState) (saved : ℕ) (body : List ℕ)
+      → (so_far : SoFar old_serves mid_serves old.history mid count old_disk mid_disk first mid_store saved) → CameOf ended old new limit count mid
       → Stays mid_serves new_serves → IsBodyOf of_world new_serves body → is_standing (body_of mid_store) body ≡ false
       → StopsInSave every of_world step noted old_serves (body_of first) old new limit (so_far.saves ++ body ∷ [])
-  last_took ended old_serves mid_serves new_serves old mid new count left limit old_disk mid_disk first mid_store saved body so_far came stays is differs =
+  last_took ended old_serves mid_serves new_serves old mid new count limit old_disk mid_disk first mid_store saved body so_far came stays is differs =
       at_end ended old_serves new_serves old mid new count limit first (so_far.saves ++ body ∷ []) came
-      (last_keeps old_serves mid_serves new_serves old.history mid count left old_disk mid_disk first mid_store saved (body ∷ []) so_far stays
+      (last_keeps old_serves mid_serves new_serves old.history mid count old_disk mid_disk first mid_store saved (body ∷ []) so_far stays
       (λ z over. other_adds first mid_store so_far.saves body
       (of_world z.running.state.world) so_far.standing differs (is z over.stands)))
 
@@ -334,19 +334,19 @@ module _ {W C D : Type 0} (every : ℕ) (of_world : BodyOf W) (step : EventStep 
 
   -- the end of a run by its last save
   pub ends_by : (by : SaveEnd) (ended : RunEnd) (old_serves mid_serves new_serves : Standing W C → Type 0) (old : WireState) (mid : WireHistory)
-      (new : WireState) (count left limit : ℕ) (old_disk mid_disk disk : D) (first mid_store now : StoreState) (saved : ℕ)
-      → SoFar old_serves mid_serves old.history mid count left old_disk mid_disk first mid_store saved
+      (new : WireState) (count limit : ℕ) (old_disk mid_disk disk : D) (first mid_store now : StoreState) (saved : ℕ)
+      → SoFar old_serves mid_serves old.history mid count old_disk mid_disk first mid_store saved
       → CameOf ended old new limit count mid → Stays mid_serves new_serves
       → AfterSave by (IsBodyOf of_world new_serves) contents moment left_since mid_disk disk mid_store now → IsReady contents may_leave disk now
       → IsReady contents may_leave mid_disk mid_store → ((d : D) (t : ℕ) (c : List ℕ) → t ≤ moment d → may_leave d c → left_since d t c)
       → Ends (end_by_save by ended saved) old_serves new_serves old new limit old_disk disk first
-  ends_by save.Same ended old_serves mid_serves new_serves old mid new count left limit old_disk
+  ends_by save.Same ended old_serves mid_serves new_serves old mid new count limit old_disk
       mid_disk disk first mid_store now saved so_far came stays same ready mid_ready counts =
       let P : List (List ℕ) → Type 0 = λ l. Keeps step noted old_serves new_serves (bodies_to_end every of_world step) (body_of first) old.history mid count
       l in
       all_done ended saved so_far.saves old_serves new_serves old new limit old_disk disk first
       (took_all ended old_serves new_serves old mid new count limit first so_far.saves came (subst P (append-nil so_far.saves)
-      (last_keeps old_serves mid_serves new_serves old.history mid count left old_disk mid_disk first mid_store saved [] so_far stays
+      (last_keeps old_serves mid_serves new_serves old.history mid count old_disk mid_disk first mid_store saved [] so_far stays
       (λ z over. same_adds first mid_store so_far.saves same.body
       (of_world z.running.state.world) so_far.standing same.stands (same.is z over.stands)))))
       (left_same contents moment left_since old_disk mid_disk disk first.standing so_far.saves so_far.left same.disk)
@@ -354,11 +354,11 @@ module _ {W C D : Type 0} (every : ℕ) (of_world : BodyOf W) (step : EventStep 
       (file_stands old_disk mid_disk disk (runs.standing_after_all first.standing so_far.saves) now
       (told_same contents moment left_since old_disk mid_disk disk so_far.told same.disk) ready
       (ap (λ (s : StoreState). s.shut) same.store ∙ so_far.open_) (ap (λ (s : StoreState). s.standing) same.store ∙ so_far.standing))
-  ends_by save.Saved ended old_serves mid_serves new_serves old mid new count left limit old_disk
+  ends_by save.Saved ended old_serves mid_serves new_serves old mid new count limit old_disk
       mid_disk disk first mid_store now saved so_far came stays s ready mid_ready counts =
       all_done ended (saved + 1) (so_far.saves ++ s.body ∷ []) old_serves new_serves old new limit old_disk disk first
       (took_all ended old_serves new_serves old mid new count limit first (so_far.saves ++ s.body ∷ []) came
-      (last_keeps old_serves mid_serves new_serves old.history mid count left old_disk mid_disk first mid_store saved (s.body ∷ []) so_far stays
+      (last_keeps old_serves mid_serves new_serves old.history mid count old_disk mid_disk first mid_store saved (s.body ∷ []) so_far stays
       (λ z over. other_adds first mid_store so_far.saves s.body
       (of_world z.running.state.world) so_far.standing s.differs (s.is z over.stands))))
       (left_then contents moment left_since old_disk mid_disk disk first.standing
@@ -369,12 +369,12 @@ module _ {W C D : Type 0} (every : ℕ) (of_world : BodyOf W) (step : EventStep 
       (told_then contents moment left_since old_disk mid_disk disk so_far.told s.told) ready
       (ap (λ (t : StoreState). t.shut) s.store)
       (ap (λ (t : StoreState). t.standing) s.store ∙ standing_then so_far.saves s.body first.standing mid_store.standing so_far.standing))
-  ends_by save.Failed ended old_serves mid_serves new_serves old mid new count left limit old_disk
+  ends_by save.Failed ended old_serves mid_serves new_serves old mid new count limit old_disk
       mid_disk disk first mid_store now saved so_far came stays failed ready mid_ready counts =
       let b = failed.0 in
       record {
         saves = so_far.saves ++ b.body ∷ [];
-        took = last_took ended old_serves mid_serves new_serves old mid new count left limit old_disk mid_disk first mid_store saved b.body so_far
+        took = last_took ended old_serves mid_serves new_serves old mid new count limit old_disk mid_disk first mid_store saved b.body so_far
             came stays b.is b.differs;
         left = left_then contents moment left_since old_disk mid_disk disk first.standing
             mid_store.standing so_far.saves (b.body ∷ []) so_far.left so_far.told so_far.standing b.left;
@@ -382,19 +382,19 @@ module _ {W C D : Type 0} (every : ℕ) (of_world : BodyOf W) (step : EventStep 
         stands = begun_last old_disk mid_disk disk first.standing mid_store.standing so_far.saves b.body counts so_far.within so_far.standing so_far.told
             b.left;
       }
-  ends_by save.Limit ended old_serves mid_serves new_serves old mid new count left limit old_disk
+  ends_by save.Limit ended old_serves mid_serves new_serves old mid new count limit old_disk
       mid_disk disk first mid_store now saved so_far came stays refused ready mid_ready counts =
       let d = refused.0 in
       record {
         saves = so_far.saves ++ d.body ∷ [];
-        took = last_took ended old_serves mid_serves new_serves old mid new count left limit old_disk mid_disk first mid_store saved d.body so_far
+        took = last_took ended old_serves mid_serves new_serves old mid new count limit old_disk mid_disk first mid_store saved d.body so_far
             came stays d.is d.differs;
         left = left_more contents moment left_since old_disk mid_disk disk first.standing so_far.saves (d.body ∷ []) so_far.left refused.2;
         counted = over_then so_far.saves d.body first.standing mid_store.standing true so_far.within so_far.standing refused.1;
         stands = none_last old_disk mid_disk disk first.standing mid_store so_far.saves (d.body ∷ []) (so_far.saves ++ d.body ∷ []) refl (omega arith)
             so_far.within so_far.standing so_far.told mid_ready so_far.open_ refused.2;
       }
-  ends_by save.Memory ended old_serves mid_serves new_serves old mid new count left limit old_disk
+  ends_by save.Memory ended old_serves mid_serves new_serves old mid new count limit old_disk
       mid_disk disk first mid_store now saved so_far came stays (inl same) ready mid_ready counts = record {
         saves = so_far.saves;
         took = inl (breaks_here ended old_serves mid_serves old mid new count limit first so_far.saves so_far.paced.keeps came);
@@ -403,10 +403,10 @@ module _ {W C D : Type 0} (every : ℕ) (of_world : BodyOf W) (step : EventStep 
         stands = none_last old_disk mid_disk disk first.standing mid_store so_far.saves [] so_far.saves (sym (append-nil so_far.saves)) (omega arith)
             so_far.within so_far.standing so_far.told mid_ready so_far.open_ same;
       }
-  ends_by save.Memory ended old_serves mid_serves new_serves old mid new count left limit old_disk
+  ends_by save.Memory ended old_serves mid_serves new_serves old mid new count limit old_disk
       mid_disk disk first mid_store now saved so_far came stays (inr b) ready mid_ready counts = record {
         saves = so_far.saves ++ b.body ∷ [];
-        took = inr (last_took ended old_serves mid_serves new_serves old mid new count left limit old_disk mid_disk first mid_store saved b.body so_far
+        took = inr (last_took ended old_serves mid_serves new_serves old mid new count limit old_disk mid_disk first mid_store saved b.body so_far
             came stays b.is b.differs);
         left = left_then contents moment left_since old_disk mid_disk disk first.standing
             mid_store.standing so_far.saves (b.body ∷ []) so_far.left so_far.told so_far.standing b.left;
@@ -417,15 +417,15 @@ module _ {W C D : Type 0} (every : ℕ) (of_world : BodyOf W) (step : EventStep 
 
   -- the same, whatever that save was
   pub ends_here : (end : KeepEnd) (ended : RunEnd) (old_serves mid_serves new_serves : Standing W C → Type 0) (old : WireState) (mid : WireHistory)
-      (new : WireState) (count left limit : ℕ) (old_disk mid_disk disk : D) (first mid_store now : StoreState) (saved : ℕ)
-      → SoFar old_serves mid_serves old.history mid count left old_disk mid_disk first mid_store saved
+      (new : WireState) (count limit : ℕ) (old_disk mid_disk disk : D) (first mid_store now : StoreState) (saved : ℕ)
+      → SoFar old_serves mid_serves old.history mid count old_disk mid_disk first mid_store saved
       → CameOf ended old new limit count mid → Stays mid_serves new_serves
       → EndsBySave end ended saved (IsBodyOf of_world new_serves) contents moment left_since mid_disk disk mid_store now → IsReady contents may_leave disk now
       → IsReady contents may_leave mid_disk mid_store → ((d : D) (t : ℕ) (c : List ℕ) → t ≤ moment d → may_leave d c → left_since d t c)
       → Ends end old_serves new_serves old new limit old_disk disk first
-  ends_here end ended old_serves mid_serves new_serves old mid new count left limit old_disk mid_disk disk first mid_store now saved so_far came stays ends
+  ends_here end ended old_serves mid_serves new_serves old mid new count limit old_disk mid_disk disk first mid_store now saved so_far came stays ends
       ready mid_ready counts =
       let P : KeepEnd → Type 0 = λ e. Ends e old_serves new_serves old new limit old_disk disk first in
       subst P (sym ends.is)
-      (ends_by ends.by ended old_serves mid_serves new_serves old mid new count left limit old_disk
+      (ends_by ends.by ended old_serves mid_serves new_serves old mid new count limit old_disk
       mid_disk disk first mid_store now saved so_far came stays ends.saves ready mid_ready counts)

@@ -1,4 +1,4 @@
--- The saves so far go on with a turn.
+-- The save of one body more: whether there is one, and what stands then.
 use Rattle.std.proofs.Common.{◌≡◌, ℕ, ◌+◌, List, [], ◌∷◌, ◌++◌, length, true, false, sym, ap, ◌∙◌}
 use Rattle.std.proofs.lemmas.List.{length-append}
 use Rattle.ads_served.specs.Standing.{Standing}

@@ -1,5 +1,5 @@
 -- What was shown of turns, in terms of a run with a store: its saves, how it ends, and its marks.
-use Rattle.std.proofs.Common.{◌≡◌, ℕ, ◌+◌, ◌-◌, ◌<◌, ◌≤◌, List, [], ◌∷◌, ◌++◌, false, refl, sym, ap, ◌∙◌, subst, inl, arith}
+use Rattle.std.proofs.Common.{◌≡◌, ℕ, ◌+◌, ◌<◌, ◌≤◌, List, [], ◌∷◌, ◌++◌, false, refl, sym, ap, ◌∙◌, subst, inl, arith}
 use Rattle.std.specs.Prelude.{Bool, Option}
 use Rattle.ads_outside.specs.declared.end.End.{End}
 use Rattle.ads_outside.specs.declared.end.End.TheVariants as end
@@ -22,9 +22,9 @@ use Rattle.keep_loop.specs.declared.run_end.RunEnd.{RunEnd}
 use Rattle.keep_loop.specs.declared.run_end.RunEnd.TheVariants as run
 use Rattle.keep_loop.specs.declared.save_end.SaveEnd.{SaveEnd}
 use Rattle.keep_loop.specs.declared.save_end.SaveEnd.TheVariants as save
-use Rattle.keep_loop.specs.Bodies.{BodyOf, bodies_at_ticks, bodies_looked_at, is_standing, saves_in}
+use Rattle.keep_loop.specs.Bodies.{BodyOf, bodies_looked_at, is_standing, saves_in}
 use Rattle.keep_loop.specs.Ending.{EndsBySave, EndsAsStopped}
-use Rattle.keep_loop.specs.Keeping.{AfterKeep, Keeps, TookTurns, CountsSaves, StandsAtEnd, KeepsSoFar, left_behind}
+use Rattle.keep_loop.specs.Keeping.{AfterKeep, Keeps, TookTurns, CountsSaves, StandsAtEnd, KeepsSoFar}
 use Rattle.keep_loop.specs.Saving.{LeavesEach}
 use Rattle.keep_loop.specs.Marking.{HoldsSaves, MarksSoFar, is_to_end}
 use Rattle.keep_loop.specs.Saver.{BeginsAnew, KeepsDisk, SeenBy, StopsAtLook}
@@ -36,7 +36,7 @@ use Rattle.keep_loop.specs.Shown.{looked_at}
 use Rattle.keep_loop.proofs.KeepLemmas.{other_adds}
 use Rattle.keep_loop.proofs.SaverLemmas.{due_more}
 use Rattle.keep_loop.proofs.TurnLemmas.{saves_more}
-use Rattle.keep_loop.proofs.ShownLemmas.{bodies_of_turns, looked_of_turns, marks_of_turns}
+use Rattle.keep_loop.proofs.ShownLemmas.{looked_of_turns, marks_of_turns}
 
 -- how the turns of a run end, in terms of the loop
 abbrev pub end_of_turns : RunEnd → End
@@ -61,7 +61,7 @@ module _ {W C D : Type 0} (every : ℕ) (of_world : BodyOf W) (step : EventStep 
   abbrev SoFar : (Standing W C → Type 0) → (Standing W C → Type 0) → WireHistory → WireHistory → ℕ → Type 0
   SoFar old_serves new_serves old new count =
       KeepsSoFar (Also every of_world step noted contents may_leave moment left_since marked old old_disk disk first) every of_world step noted contents
-      moment left_since old_serves new_serves old new count left old_disk disk first now saved
+      moment left_since old_serves new_serves old new count old_disk disk first now saved
 
   abbrev RunEnds : KeepEnd → (Standing W C → Type 0) → (Standing W C → Type 0) → WireState → WireState → ℕ → D → Type 0
   RunEnds end old_serves new_serves old new limit last_disk = AfterKeep
@@ -85,10 +85,6 @@ module _ {W C D : Type 0} (every : ℕ) (of_world : BodyOf W) (step : EventStep 
                 (looked_of_turns every of_world step x.running.state old (λ looked file. Unit {0}) all.turns all.one
                 ∙ ap (bodies_looked_at every of_world step x.running.state) (sym all.are));
           };
-          pace = λ x over.
-              let all = shows.shown x over in
-              (all.seen anew).pace ∙ ap (left_behind every (every - 1)) (bodies_of_turns of_world step all.turns x.running.state old all.one
-              ∙ ap (bodies_at_ticks of_world step x.running.state) (sym all.are));
           also = λ x over marks told.
               let all = shows.shown x over in
               let Holds : List (List ℕ) → Option (List ℕ) → Type 0 = HoldsSaves (contents old_disk) first.standing in
@@ -166,7 +162,7 @@ module _ {W C D : Type 0} (every : ℕ) (of_world : BodyOf W) (step : EventStep 
       let c = came_of ended old_serves new_serves old new limit after in
       ends_here every of_world step noted contents may_leave moment left_since
       (Also every of_world step noted contents may_leave moment left_since marked old.history old_disk disk first) end ended old_serves new_serves new_serves
-      old c.last new c.count left limit old_disk disk last_disk first now last saved
+      old c.last new c.count limit old_disk disk last_disk first now last saved
       (so_far_of old_serves new_serves old.history c.last c.count some c.shows) c.came (λ x stands. stands) ends ready mid_ready counts
 
   pub run_marked : (end : KeepEnd) (ended : RunEnd) (old_serves new_serves : Standing W C → Type 0) (old new : WireState) (limit : ℕ) (last_disk : D)
@@ -178,7 +174,7 @@ module _ {W C D : Type 0} (every : ℕ) (of_world : BodyOf W) (step : EventStep 
   run_marked end ended old_serves new_serves old new limit last_disk last some after ends ready stay =
       let c = came_of ended old_serves new_serves old new limit after in
       ends_marked every of_world step noted contents may_leave moment left_since marked end ended old_serves new_serves new_serves
-      old c.last new c.count left old_disk disk last_disk first now last saved
+      old c.last new c.count old_disk disk last_disk first now last saved
       (so_far_of old_serves new_serves old.history c.last c.count some c.shows) (ends_after ended old new limit c.count c.last c.came) (λ x stands. stands)
       ends ready stay
 
@@ -191,14 +187,14 @@ module _ {W C D : Type 0} (every : ℕ) (of_world : BodyOf W) (step : EventStep 
   broken_keeps old_serves new_serves old new limit some broken ready =
       memory_broken every of_world step noted contents may_leave moment left_since
       (Also every of_world step noted contents may_leave moment left_since marked old.history old_disk disk first) old_serves new_serves old broken.last new
-      broken.count left limit old_disk disk first now saved broken.later
+      broken.count limit old_disk disk first now saved broken.later
       (so_far_of old_serves serves_any old.history broken.last broken.count some broken.shows) broken.logged broken.most broken.offers ready
 
   pub broken_marked : (old_serves : Standing W C → Type 0) (old new : WireState) (limit : ℕ) → StandsForSome (StandsOver old_serves old.history.opened)
       → ShowsBroken of_world step noted old_serves old.history new.history limit Seen → ((l : List Mark) → marked disk l → marked disk l)
       → EndsMarked every of_world step noted contents may_leave moment left_since marked false old_serves old new old_disk disk first
   broken_marked old_serves old new limit some broken stay =
-      stops_marked every of_world step noted contents may_leave moment left_since marked old_serves serves_any old broken.last new broken.count left
+      stops_marked every of_world step noted contents may_leave moment left_since marked old_serves serves_any old broken.last new broken.count
       old_disk disk disk first now saved broken.later
       (so_far_of old_serves serves_any old.history broken.last broken.count some broken.shows) broken.few (inl broken.logged) stay
 
@@ -243,14 +239,14 @@ module _ {W C D : Type 0} (every : ℕ) (of_world : BodyOf W) (step : EventStep 
       subst (λ (e : KeepEnd). RunEnds e old_serves new_serves old new limit last_disk)
       (sym so) (fails_at_tick every of_world step noted contents may_leave moment left_since
       (Also every of_world step noted contents may_leave moment left_since marked old.history old_disk disk first) old_serves mid_serves new_serves
-      old mid new count left limit old_disk disk last_disk first now saved fewer
+      old mid new count limit old_disk disk last_disk first now saved fewer
       (so_far_of old_serves mid_serves old.history mid count some shows)
       (tick_keeps old_serves mid_serves new_serves old.history mid new.history count stops.due some shows takes) stops.saves.0 stops.saves.1 counts)
   stopped_keeps save.Limit end old_serves mid_serves new_serves old mid new count limit last_disk last some fewer shows takes stops so counts =
       subst (λ (e : KeepEnd). RunEnds e old_serves new_serves old new limit last_disk)
       (sym so) (limit_at_tick every of_world step noted contents may_leave moment left_since
       (Also every of_world step noted contents may_leave moment left_since marked old.history old_disk disk first) old_serves mid_serves new_serves
-      old mid new count left limit old_disk disk last_disk first now saved fewer
+      old mid new count limit old_disk disk last_disk first now saved fewer
       (so_far_of old_serves mid_serves old.history mid count some shows)
       (tick_keeps old_serves mid_serves new_serves old.history mid new.history count stops.due some shows takes) stops.saves.0 stops.saves.1 stops.saves.2
       stops.ready)
@@ -258,7 +254,7 @@ module _ {W C D : Type 0} (every : ℕ) (of_world : BodyOf W) (step : EventStep 
       subst (λ (e : KeepEnd). RunEnds e old_serves new_serves old new limit last_disk)
       (sym so) (memory_at_tick every of_world step noted contents may_leave moment left_since
       (Also every of_world step noted contents may_leave moment left_since marked old.history old_disk disk first) old_serves mid_serves new_serves
-      old mid new count left limit old_disk disk last_disk first now saved fewer
+      old mid new count limit old_disk disk last_disk first now saved fewer
       (so_far_of old_serves mid_serves old.history mid count some shows) takes
       (tick_keeps old_serves mid_serves new_serves old.history mid new.history count stops.due some shows takes) stops.saves stops.ready counts)
 
@@ -270,7 +266,7 @@ module _ {W C D : Type 0} (every : ℕ) (of_world : BodyOf W) (step : EventStep 
   stopped_marked end by old_serves mid_serves new_serves old mid new count last_disk some shows takes stay so =
       subst (λ (to_end : Bool). EndsMarked every of_world step noted contents may_leave moment left_since marked to_end old_serves old new old_disk last_disk
       first) (sym (not_to_end by end so))
-      (stops_marked every of_world step noted contents may_leave moment left_since marked old_serves mid_serves old mid new count left
+      (stops_marked every of_world step noted contents may_leave moment left_since marked old_serves mid_serves old mid new count
       old_disk disk last_disk first now saved takes.leads.moves
       (so_far_of old_serves mid_serves old.history mid count some shows) (let one = takes.leads.events in omega (arith, one)) (inl takes.leads.logged) stay)
 

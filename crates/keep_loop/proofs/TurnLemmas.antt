@@ -1,4 +1,4 @@
--- A turn more, or the end: the saves among the bodies of all moves.
+-- The saves among the bodies of all moves, with that of the last body.
 use Rattle.std.proofs.Common.{◌≡◌, ℕ, List, [], ◌∷◌, ◌++◌, sym, ap, ◌∙◌}
 use Rattle.std.specs.Prelude.{Option}
 use Rattle.ads_outside.specs.WireState.{WireHistory}

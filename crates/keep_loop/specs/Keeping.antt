@@ -17,7 +17,7 @@ use Rattle.keep_loop.specs.declared.keep_end.KeepEnd.{KeepEnd}
 use Rattle.keep_loop.specs.declared.keep_end.KeepEnd.TheVariants as keep
 use Rattle.keep_loop.specs.declared.run_end.RunEnd.{RunEnd}
 use Rattle.keep_loop.specs.declared.run_end.RunEnd.TheVariants as run
-use Rattle.keep_loop.specs.Bodies.{BodyOf, bodies_at_ticks, bodies_looked_at, bodies_to_end, saves_in, is_any_over}
+use Rattle.keep_loop.specs.Bodies.{BodyOf, bodies_looked_at, bodies_to_end, saves_in, is_any_over}
 use Rattle.keep_loop.specs.Saving.{LeavesEach, StaysTold}
 
 -- the bodies of a log from a state on
@@ -156,23 +156,21 @@ left_behind every left [] = left
 left_behind every zero (body ∷ bodies) = left_behind every (every - 1) bodies
 left_behind every (suc left) (body ∷ bodies) = left_behind every left bodies
 
--- the saves so far, how many more ticks are let pass, and what else holds of the moves so far. No public clause cites it.
+-- the saves so far, and what else holds of the moves so far. No public clause cites it.
 pub record KeepsPaced {W C : Type 0} (Also : Standing W C → List Move → Type 0) (every : ℕ) (body_of : BodyOf W) (step : EventStep W C) (noted : Noting W C)
-    (old_serves new_serves : Standing W C → Type 0) (stood : Option (List ℕ)) (old new : WireHistory) (count left : ℕ)
+    (old_serves new_serves : Standing W C → Type 0) (stood : Option (List ℕ)) (old new : WireHistory) (count : ℕ)
     (saves : List (List ℕ)) : Type 0 where
   pub keeps : Keeps step noted old_serves new_serves (bodies_looked_at every body_of step) stood old new count saves
-  pub pace : (x : Standing W C) → StandsOver old_serves old.opened x
-      → left ≡ left_behind every (every - 1) (bodies_at_ticks body_of step x.running.state keeps.turns.moves)
   pub also : (x : Standing W C) → StandsOver old_serves old.opened x → Also x keeps.turns.moves
 
 -- the saves so far, the file, and the store. No public clause cites it.
 pub record KeepsSoFar {W C D : Type 0} (Also : Standing W C → List Move → Type 0) (every : ℕ) (body_of_world : BodyOf W) (step : EventStep W C)
     (noted : Noting W C)
     (contents : D → Option (List ℕ)) (moment : D → ℕ) (left_since : D → ℕ → List ℕ → Type 0)
-    (old_serves new_serves : Standing W C → Type 0) (old new : WireHistory) (count left_out : ℕ) (old_disk new_disk : D)
+    (old_serves new_serves : Standing W C → Type 0) (old new : WireHistory) (count : ℕ) (old_disk new_disk : D)
     (first now : StoreState) (saved : ℕ) : Type 0 where
   pub saves : List (List ℕ)
-  pub paced : KeepsPaced Also every body_of_world step noted old_serves new_serves (body_of first) old new count left_out saves
+  pub paced : KeepsPaced Also every body_of_world step noted old_serves new_serves (body_of first) old new count saves
   pub counted : saved ≡ length saves
   pub within : is_any_over first.standing saves ≡ false
   pub standing : now.standing ≡ runs.standing_after_all first.standing saves
