@@ -94,18 +94,18 @@ core_marked Marked Now d waves lines told standing marked marks here =
     record { more = m.more; told = m.told; are = marks_are d waves lines told standing m.more m.are }
 
 -- what the core's log, its counts and the number of saves come to
-pub text_saved : (inside new : CoreView) (d : Description) (waves : List Wave) (lines : List ScriptLine) (log : List Move) (count : ℕ) (text : List ℕ)
+pub text_saved : (core : CoreView) (d : Description) (waves : List Wave) (lines : List ScriptLine) (log : List Move) (count : ℕ) (text : List ℕ)
     (standing : Option slots.Standing) (saves : List (List ℕ)) (Stands : List (List ℕ) → Type 0) (Marked : Type 0)
-    → inside ≡ new → IsWholePlay served_step (notes_of_event served) (StandsAt new) (begun d waves) lines log count standing saves Stands Marked
-    → ((x : Standing World Client) → StandsAt inside x → text ≡ (log_text_of x.notes log ++ summary_text_of (summary_of x.running.state)) ++ saved_line count)
+    → IsWholePlay served_step (notes_of_event served) (StandsAt core) (begun d waves) lines log count standing saves Stands Marked
+    → ((x : Standing World Client) → StandsAt core x → text ≡ (log_text_of x.notes log ++ summary_text_of (summary_of x.running.state)) ++ saved_line count)
     → text ≡ saved_text d waves lines (length saves)
 unfolding served
-text_saved inside new d waves lines log count text standing saves Stands Marked same whole told =
+text_saved core d waves lines log count text standing saves Stands Marked whole told =
     let x = begun d waves in
     let y = standing_after_all served_step (notes_of_event served) x log in
     let notes : y.notes ≡ notes_of served (server_start d waves) log = notes_played served x log in
     let state : y.running.state ≡ state_after served_step (server_start d waves) log = state_played served_step (notes_of_event served) x log in
-    told y (subst (λ (k : CoreView). StandsAt k y) (sym same) whole.play.stands)
+    told y whole.play.stands
     ∙ (ap (λ (ns : List ReloadNote). (log_text_of ns log ++ summary_text_of (summary_of y.running.state)) ++ saved_line count) notes
     ∙ (ap (λ (s : MachineState World Client). (log_text_of (notes_of served (server_start d waves) log) log ++ summary_text_of (summary_of s)) ++ saved_line
     count) state

@@ -18,7 +18,6 @@ ghost use Rattle.keep_play.specs.KeptScript.{ServesUnused};
 ghost use Rattle.keep_play.specs.Begun.{begun};
 
 use crate::KeptPlay;
-use crate::persistent_core::KeptCore;
 use crate::played::Played;
 use crate::playing::keep_script;
 use crate::texts::text_of;
@@ -58,8 +57,7 @@ pub fn keep_play<T: Threads + Sync, D: Disk, G: Sources>(
         Err(e) => Err(e),
         Ok(StoreOpen::Failed) => Ok(KeptPlay::StoreFault),
         Ok(StoreOpen::Ready(opened)) => {
-            let mut held = opened;
-            play_opened(rt, alloc, description, signals, script, &mut held, disk)
+            play_opened(rt, alloc, description, signals, script, opened, disk)
         }
     }
 }
@@ -71,21 +69,21 @@ fn play_opened<T: Threads + Sync, D: Disk, G: Sources>(
     description: Description,
     signals: G,
     script: Script,
-    store: &mut Store,
+    store: Store,
     disk: &mut D,
 ) -> Result<KeptPlay, NoMemory>
     requires new { OpenNew [] script }
     requires few { length (G.waves signals) < 2 ^ 32 }
     requires accepted { IsAccepted (description_of description) (length (G.waves signals)) }
-    requires ready { IsReady D.contents D.may_leave disk.old store.old }
-    requires open { store.old.shut ≡ false }
-    ensures ends { IfOk result (λ end. EndsSo (kept_text (description_of description) (G.waves signals) script store.old.standing)
+    requires ready { IsReady D.contents D.may_leave disk.old store }
+    requires open { store.shut ≡ false }
+    ensures ends { IfOk result (λ end. EndsSo (kept_text (description_of description) (G.waves signals) script store.standing)
         (AllMarked (description_of description) (G.waves signals) script
-        (disk_used D.contents D.may_leave D.moment D.left_since D.marked D.fault_count disk.old disk.new) store.old.standing)
-        (disk_used D.contents D.may_leave D.moment D.left_since D.marked D.fault_count disk.old disk.new) end store.old.standing
-        (saves_of_play (description_of description) (G.waves signals) script store.old.standing)) }
-    ensures left { LeavesEach D.contents D.moment D.left_since disk.old disk.new store.old.standing
-        (saves_of_play (description_of description) (G.waves signals) script store.old.standing) }
+        (disk_used D.contents D.may_leave D.moment D.left_since D.marked D.fault_count disk.old disk.new) store.standing)
+        (disk_used D.contents D.may_leave D.moment D.left_since D.marked D.fault_count disk.old disk.new) end store.standing
+        (saves_of_play (description_of description) (G.waves signals) script store.standing)) }
+    ensures left { LeavesEach D.contents D.moment D.left_since disk.old disk.new store.standing
+        (saves_of_play (description_of description) (G.waves signals) script store.standing) }
     ensures untold { D.contents disk.old ≡ None → D.contents disk.new ≡ None }
     ensures names { D.names disk.new ≡ D.names disk.old }
     ensures later { D.fault_count disk.old ≤ D.fault_count disk.new }
@@ -94,45 +92,44 @@ fn play_opened<T: Threads + Sync, D: Disk, G: Sources>(
         Ok(stored) => stored,
         Err(e) => return Err(e),
     };
-    let core = match Core::build(alloc, stored, signals) {
+    let mut core = match Core::build(alloc, stored, signals) {
         Ok(core) => core,
         Err(e) => return Err(e),
     };
-    let mut kept = KeptCore { core };
-    play_core(rt, alloc, &mut kept, script, store, disk)
+    play_core(rt, alloc, &mut core, script, store, disk)
 }
 
 // The play on a core, before any move of it.
 fn play_core<T: Threads + Sync, D: Disk, G: Sources>(
     rt: &T,
     alloc: Global,
-    kept: &mut KeptCore<G>,
+    core: &mut Core<G>,
     script: Script,
-    store: &mut Store,
+    store: Store,
     disk: &mut D,
 ) -> Result<KeptPlay, NoMemory>
     requires new { OpenNew [] script }
-    requires some { ServesUnused (StandsAt kept.old) }
-    requires ready { IsReady D.contents D.may_leave disk.old store.old }
-    requires open { store.old.shut ≡ false }
-    ensures ends { IfOk result (λ end. (d : described.Description) (waves : List Wave) → StandsAt kept.old (begun d waves)
-        → EndsSo (saved_text d waves script (length (saves_over d waves script (body_of store.old))))
+    requires some { ServesUnused (StandsAt core.old) }
+    requires ready { IsReady D.contents D.may_leave disk.old store }
+    requires open { store.shut ≡ false }
+    ensures ends { IfOk result (λ end. (d : described.Description) (waves : List Wave) → StandsAt core.old (begun d waves)
+        → EndsSo (saved_text d waves script (length (saves_over d waves script (body_of store))))
         (MarkedOver d waves script (disk_used D.contents D.may_leave D.moment D.left_since D.marked D.fault_count disk.old disk.new)
-        store.old.standing)
-        (disk_used D.contents D.may_leave D.moment D.left_since D.marked D.fault_count disk.old disk.new) end store.old.standing
-        (saves_over d waves script (body_of store.old))) }
-    ensures left { (d : described.Description) (waves : List Wave) → StandsAt kept.old (begun d waves)
-        → LeavesEach D.contents D.moment D.left_since disk.old disk.new store.old.standing
-        (saves_over d waves script (body_of store.old)) }
+        store.standing)
+        (disk_used D.contents D.may_leave D.moment D.left_since D.marked D.fault_count disk.old disk.new) end store.standing
+        (saves_over d waves script (body_of store))) }
+    ensures left { (d : described.Description) (waves : List Wave) → StandsAt core.old (begun d waves)
+        → LeavesEach D.contents D.moment D.left_since disk.old disk.new store.standing
+        (saves_over d waves script (body_of store)) }
     ensures untold { D.contents disk.old ≡ None → D.contents disk.new ≡ None }
     ensures names { D.names disk.new ≡ D.names disk.old }
     ensures later { D.fault_count disk.old ≤ D.fault_count disk.new }
 {
-    match keep_script(rt, alloc, kept, script, store, disk) {
+    match keep_script(rt, alloc, core, script, store, disk) {
         Err(e) => Err(e),
         Ok(Played::StoreFault) => Ok(KeptPlay::StoreFault),
         Ok(Played::StoreLimit) => Ok(KeptPlay::StoreLimit),
-        Ok(Played::Done(log, saved)) => match text_of(alloc, &kept.core, &log, saved) {
+        Ok(Played::Done(log, saved)) => match text_of(alloc, core, &log, saved) {
             Err(e) => Err(e),
             Ok(text) => Ok(KeptPlay::Done(text)),
         },

@@ -3,7 +3,6 @@
 
 mod keeping;
 mod kept_play;
-mod persistent_core;
 mod played;
 mod playing;
 mod texts;

@@ -14,7 +14,8 @@ ghost use Rattle.keep_play.specs.KeptScript.{ServesUnused, StandsAfter, EndsPlay
 
 use crate::played::Played;
 use ads_base::NoMemory;
-use keep_loop::{KeepEnd, Persistent, keep_turns};
+use ads_served::Served;
+use keep_loop::{KeepEnd, keep_turns};
 use persist_store::{Disk, Store};
 use replay_script::{Script, ScriptWire};
 use std::alloc::Global;
@@ -22,27 +23,27 @@ use std::thread::Threads;
 
 /// Plays a script, whose lines open each connection once, on what is served, and saves its body after each tick and at
 /// the end, where it differs from the one that stands, or nothing stands.
-pub(crate) fn keep_script<T: Threads + Sync, M: Persistent, D: Disk>(
+pub(crate) fn keep_script<T: Threads + Sync, M: Served, D: Disk>(
     rt: &T,
     alloc: Global,
     served: &mut M,
     script: Script,
-    store: &mut Store,
+    store: Store,
     disk: &mut D,
 ) -> Result<Played, NoMemory>
     requires new { OpenNew [] script }
     requires some { ServesUnused (M.serves served.old) }
-    requires ready { IsReady D.contents D.may_leave disk.old store.old }
-    requires open { store.old.shut ≡ false }
+    requires ready { IsReady D.contents D.may_leave disk.old store }
+    requires open { store.shut ≡ false }
     ensures ends { IfOk result (λ played. (x : Standing M.World M.Client) → M.serves served.old x → IsUnused x
-        → EndsPlay played M.steps M.noted (M.serves served.new) x script store.old.standing
-        (saves_of_script M.body_of M.steps x.running.state script (body_of store.old))
-        (StandsAfter D.contents D.may_leave disk.old disk.new store.old.standing)
+        → EndsPlay played M.steps M.noted (M.serves served.new) x script store.standing
+        (saves_of_script M.body_of M.steps x.running.state script (body_of store))
+        (StandsAfter D.contents D.may_leave disk.old disk.new store.standing)
         ((marks : List Mark) → D.marked disk.old marks → MarksMore (D.marked disk.new) marks
-        (MarksScript M.body_of M.steps x.running.state script (D.contents disk.old) store.old.standing))) }
+        (MarksScript M.body_of M.steps x.running.state script (D.contents disk.old) store.standing))) }
     ensures left { (x : Standing M.World M.Client) → M.serves served.old x → IsUnused x
-        → LeavesEach D.contents D.moment D.left_since disk.old disk.new store.old.standing
-        (saves_of_script M.body_of M.steps x.running.state script (body_of store.old)) }
+        → LeavesEach D.contents D.moment D.left_since disk.old disk.new store.standing
+        (saves_of_script M.body_of M.steps x.running.state script (body_of store)) }
     ensures untold { D.contents disk.old ≡ None → D.contents disk.new ≡ None }
     ensures names { D.names disk.new ≡ D.names disk.old }
     ensures later { D.fault_count disk.old ≤ D.fault_count disk.new }

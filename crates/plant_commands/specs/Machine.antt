@@ -1,5 +1,5 @@
 -- What a run of the loop over any machine leaves in the wire and in the sink; no public clause cites this.
-use Rattle.std.specs.Prelude.{◌≢◌, ◌≤◌, ℕ, List}
+use Rattle.std.specs.Prelude.{◌≡◌, ◌≢◌, ◌≤◌, ℕ, List}
 use Rattle.ads_outside.specs.declared.end.End.{End}
 use Rattle.ads_outside.specs.declared.end.End.TheVariants as end
 use Rattle.ads_outside.specs.declared.moves.Move.{Move}
@@ -18,6 +18,14 @@ use Rattle.plant_commands.specs.Serving.{EndsBehind, AddsToLog, AddsToStreams, P
 -- what is served stands for x, whatever numbers a wire has opened
 abbrev pub StandsAnew : {W C : Type 0} → (Standing W C → Type 0) → Standing W C → Type 0
 StandsAnew serves x = (opened : List ℕ) → StandsOver serves opened x
+
+-- a line is that of the counts of whatever is stood for
+abbrev pub TellsOf : {W C : Type 0} → (Standing W C → Type 0) → (MachineState W C → List ℕ) → List ℕ → Type 0
+TellsOf {W} {C} serves counts line = (x : Standing W C) → serves x → line ≡ counts x.running.state
+
+-- each line that a machine tells is that of the counts of whatever it stands for
+abbrev pub TellsCounts : {M W C : Type 0} → (M → List ℕ → Type 0) → (M → Standing W C → Type 0) → (MachineState W C → List ℕ) → Type 0
+TellsCounts {M} tells serves counts = (machine : M) (line : List ℕ) → tells machine line → TellsOf (serves machine) counts line
 
 -- from here on the wire made these moves, and ended so; and they are moves of the machine
 pub record Moves {W C : Type 0} (step : EventStep W C) (x : Standing W C) (limit : ℕ) (ended : End) (moves : List Move)

@@ -3,6 +3,6 @@ use Rattle.plant_commands.proofs.MachineLemmas.{counts_same}
 use Rattle.plant_commands.proofs.machine_run.print_machine.Goals as goal
 
 pub returns-in-Ok-clause-prints : goal.returns-in-Ok-clause-prints
-returns-in-Ok-clause-prints g c = λ x stands.
+returns-in-Ok-clause-prints g c = λ counts tells x stands.
     counts_same c.args.status c.in-Ok.line _ c.print_counts.result (g.S.Sink.state c.args.out.now) (g.S.Sink.state c.print_counts.new.out)
-    (c.in-Ok.ensures x stands) c.print_counts.ensures.prints
+    (tells c.args.machine.now c.in-Ok.line c.in-Ok.ensures x stands) c.print_counts.ensures.prints

@@ -5,7 +5,7 @@ use Rattle.ads_outside.specs.Rose.{Rose}
 use Rattle.type_layout.specs.Descriptions.{description_of}
 use Rattle.spec_relay.specs.RelayState.{relay_start}
 use Rattle.ams_relay.specs.Relays.{standing_at_start}
-use Rattle.run_tasks.specs.Service.{OfRelay}
+use Rattle.run_tasks.specs.Service.{OfRelay, relay_counts}
 use Rattle.run_tasks.specs.Verdict.{Serves, verdict_of_file, verdict_of_service}
 use Rattle.run_tasks.specs.EndsOr.{WantsMemory}
 use Rattle.run_tasks.specs.Outcomes.{IsRead}
@@ -76,7 +76,8 @@ returns-clause-ends g c =
     (relay_ends _ d name listen read.bytes c.args.events s out out_new wire wire_new
     (started_with listen c.as_str.result.now name c.as_str-in-Ok.result.now read.bytes c.as_slice.result.now c.as_str.ensures c.as_str-in-Ok.ensures
     c.as_slice.ensures)
-    (c.start_machine.ensures.ends (standing_at_start (relay_start d)) (relay_anew c.in-Ok.router d c.in-Ok.ensures))))
+    (c.start_machine.ensures.ends relay_counts (λ relay line told. told) (standing_at_start (relay_start d))
+    (relay_anew c.in-Ok.router d c.in-Ok.ensures))))
 
 pub returns-in-Err-build-clause-reads : goal.returns-in-Err-build-clause-reads
 returns-in-Err-build-clause-reads g c = reads_one c.end_without_memory-in-Err-build.result _ _ c.args.description.now c.in-Ok-Ok.ensures.reads

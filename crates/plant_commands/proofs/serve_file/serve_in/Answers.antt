@@ -4,7 +4,7 @@ use Rattle.ads_outside.specs.Named.{bytes_of}
 use Rattle.ads_outside.specs.Rose.{Rose}
 use Rattle.type_layout.specs.Descriptions.{description_of}
 use Rattle.server_core.specs.Profiles.{profile_of}
-use Rattle.run_tasks.specs.Service.{server_with_in}
+use Rattle.run_tasks.specs.Service.{server_counts, server_with_in}
 use Rattle.run_tasks.specs.Verdict.{Serves, verdict_of_file, verdict_of_serve_in}
 use Rattle.run_tasks.specs.EndsOr.{WantsMemory}
 use Rattle.run_tasks.specs.Outcomes.{IsRead}
@@ -86,7 +86,7 @@ returns-clause-ends g c =
     (server_ends _ profile d waves name listen read.bytes c.args.events s out out_new wire wire_new
     (started_with listen c.as_str.result.now name c.as_str-in-Ok.result.now read.bytes c.as_slice.result.now c.as_str.ensures c.as_str-in-Ok.ensures
     c.as_slice.ensures)
-    (c.start_machine.ensures.ends (at_start_in profile d waves)
+    (c.start_machine.ensures.ends server_counts (λ core line told. told) (at_start_in profile d waves)
     (core_anew c.in-Ok.core profile d waves (stands_at_start c.in-Ok.core profile d waves c.in-Ok.ensures.serves c.in-Ok.ensures.counted
     c.in-Ok.ensures.notes)))))
 
