@@ -410,9 +410,7 @@ fn serve_posted<T: Threads + Sync, S: Sink>(
         store,
         before: None,
     };
-    serve_signals(
-        rt, threads, setup, list, files, watched, out, disk, told,
-    )
+    serve_signals(rt, threads, setup, list, files, watched, out, disk, told)
 }
 
 // Serves over the wire and the disk, with the signals of the list.

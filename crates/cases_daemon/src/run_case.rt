@@ -217,9 +217,7 @@ fn serve_posted<
     let told = CaseTold {
         board: board.handle()?,
     };
-    serve_signals(
-        threads, alloc, setup, list, files, watched, out, disk, told,
-    )
+    serve_signals(threads, alloc, setup, list, files, watched, out, disk, told)
 }
 
 // Serves with the signals of the list.

@@ -77,14 +77,7 @@ pub(crate) fn keep_read<
 }
 
 // Serves a description that was read over an open store and a wire.
-fn keep_opened<
-    T: Threads + Sync,
-    W: Wire,
-    S: Sink,
-    D: Disk,
-    G: Sources,
-    N: Told<Core<G>> + Drop,
->(
+fn keep_opened<T: Threads + Sync, W: Wire, S: Sink, D: Disk, G: Sources, N: Told<Core<G>> + Drop>(
     rt: &T,
     alloc: Global,
     profile: Profile,
@@ -141,14 +134,7 @@ fn keep_opened<
 }
 
 // Starts the wire, and serves a core over it and over an open store.
-fn keep_core<
-    T: Threads + Sync,
-    W: Wire,
-    S: Sink,
-    D: Disk,
-    G: Sources,
-    N: Told<Core<G>> + Drop,
->(
+fn keep_core<T: Threads + Sync, W: Wire, S: Sink, D: Disk, G: Sources, N: Told<Core<G>> + Drop>(
     rt: &T,
     alloc: Global,
     listen: &str,
@@ -177,22 +163,13 @@ fn keep_core<
     ensures store_fault { result ≡ Status.StoreFault → Rose (D.fault_count disk.old) (D.fault_count disk.new) }
 {
     match start_and_tell(listen, name, first, wire, out) {
-        Ok(()) => run_kept(
-            rt, alloc, core, file, store, every, wire, out, disk, told,
-        ),
+        Ok(()) => run_kept(rt, alloc, core, file, store, every, wire, out, disk, told),
         Err(status) => status,
     }
 }
 
 // A core is served, its bodies are kept, and what that comes to is printed.
-fn run_kept<
-    T: Threads + Sync,
-    W: Wire,
-    S: Sink,
-    D: Disk,
-    G: Sources,
-    N: Told<Core<G>> + Drop,
->(
+fn run_kept<T: Threads + Sync, W: Wire, S: Sink, D: Disk, G: Sources, N: Told<Core<G>> + Drop>(
     rt: &T,
     alloc: Global,
     core: &mut Core<G>,

@@ -27,13 +27,7 @@ use std::thread::Threads;
 
 /// Serves a description that was read over a wire, until that ends.
 #[tactic(auto, using(spec_persistent::proofs::StoredLemmas::accepted_may_begin))]
-pub(crate) fn serve_read<
-    T: Threads + Sync,
-    W: Wire,
-    S: Sink,
-    G: Sources,
-    N: Told<Core<G>> + Drop,
->(
+pub(crate) fn serve_read<T: Threads + Sync, W: Wire, S: Sink, G: Sources, N: Told<Core<G>> + Drop>(
     rt: &T,
     alloc: Global,
     profile: Profile,
