@@ -1,6 +1,7 @@
 //! A stop by a signal that waits, or by a file.
 
-ghost use Rattle.std.specs.Prelude.{◌≡◌, ◌≤◌, IfOk, IsSome, is_some, length, vec_len};
+ghost use Rattle.std.specs.Prelude.{◌≡◌, ◌≢◌, ◌≤◌, ◌%◌, IfOk, IsNone, is_some, length, vec_len};
+ghost use Rattle.ads_outside.specs.Rose.{raised};
 
 use crate::mask::{INTERRUPT, TERMINATE, mask_in};
 use ads_base::NoMemory;
@@ -14,11 +15,11 @@ use std::rt::Files as SystemFiles;
 /// Where Linux tells the signals of a process.
 const STATUS_FILE: &str = "/proc/self/status";
 
-/// Only each so many looks are made.
-const EACH: u32 = 10;
+/// The system is asked in each so many looks.
+const EACH: u64 = 10;
 
 /// Asks for an end where SIGTERM or SIGINT waits for the process, since it is blocked, or where the stop file is there.
-/// That is looked up in each tenth look, beginning with the first.
+/// The system is asked in each tenth look, beginning with the first.
 #[derive(Drop)]
 pub struct SignalStop<R: SystemFiles + Drop> {
     rt: R,
@@ -26,20 +27,26 @@ pub struct SignalStop<R: SystemFiles + Drop> {
     status: Option<R::File>,
     file: Option<Text>,
     buffer: Vec<u8>,
-    rest: u32,
+    looks: u64,
+    // How often the system was asked.
+    lookups: u64,
     asked: u64,
 }
 
 impl<R: SystemFiles + Drop> SignalStop<R> {
-    /// Nothing was looked up.
-    pub fn new(alloc: Global, rt: R, file: Option<Text>) -> Result<SignalStop<R>, NoMemory> {
+    /// It was not looked at.
+    pub fn new(alloc: Global, rt: R, file: Option<Text>) -> Result<SignalStop<R>, NoMemory>
+        ensures looks { IfOk result (λ s. s.looks ≡ 0) }
+        ensures asked { IfOk result (λ s. s.asked ≡ 0) }
+    {
         let status = fs::open(&rt, STATUS_FILE).ok();
         Ok(SignalStop {
             rt,
             status,
             file,
             buffer: empty_buffer(alloc)?,
-            rest: 0,
+            looks: 0,
+            lookups: 0,
             asked: 0,
         })
     }
@@ -53,16 +60,20 @@ impl<R: SystemFiles + Drop> SignalStop<R> {
 
     /// Whether SIGTERM is blocked, so that it waits for the process and does not end it.
     pub fn is_terminate_blocked(&mut self) -> bool
-        ensures { self.new.asked ≡ self.old.asked }
+        ensures looks { self.new.looks ≡ self.old.looks }
+        ensures asked { self.new.asked ≡ self.old.asked }
     {
         let n = self.read_status();
         mask_in(&self.buffer.as_slice()[..n], "SigBlk:") & TERMINATE != 0
     }
 
-    // What asks for an end now.
+    // What asks for an end now, by the system's word.
     fn cause(&mut self) -> Option<StopCause>
-        ensures { self.new.asked ≡ self.old.asked }
+        ensures looks { self.new.looks ≡ self.old.looks }
+        ensures lookups { self.new.lookups ≡ raised self.old.lookups }
+        ensures asked { self.new.asked ≡ self.old.asked }
     {
+        self.lookups = self.lookups.saturating_add(1);
         let n = self.read_status();
         let status = &self.buffer.as_slice()[..n];
         let waiting = mask_in(status, "ShdPnd:") | mask_in(status, "SigPnd:");
@@ -80,6 +91,8 @@ impl<R: SystemFiles + Drop> SignalStop<R> {
 
     // Reads the status into the buffer, and tells how many bytes of it stand there.
     fn read_status(&mut self) -> usize
+        ensures looks { self.new.looks ≡ self.old.looks }
+        ensures lookups { self.new.lookups ≡ self.old.lookups }
         ensures asked { self.new.asked ≡ self.old.asked }
         ensures within { result ≤ vec_len self.new.buffer }
     {
@@ -129,14 +142,24 @@ fn empty_buffer(alloc: Global) -> Result<Vec<u8>, AllocError> {
 }
 
 impl<R: SystemFiles + Drop> Stop for SignalStop<R> {
+    ghost use Rattle.daemon_outside.specs.Stops.{raised_if};
+
+    ghost looks = { λ s. s.looks };
+
     ghost asked = { λ s. s.asked };
 
-    fn look(&mut self) -> Option<StopCause> {
-        if self.rest != 0 {
-            self.rest -= 1;
+    fn look(&mut self) -> Option<StopCause>
+        ensures looks { self.new.looks ≡ raised self.old.looks }
+        ensures asked { self.new.asked ≡ raised_if (is_some result) self.old.asked }
+        ensures later { self.old.asked ≤ self.new.asked }
+        ensures asks { self.old.looks % 10 ≡ 0 → self.new.lookups ≡ raised self.old.lookups }
+        ensures waits { self.old.looks % 10 ≢ 0 → IsNone result }
+    {
+        let number = self.looks;
+        self.looks = number.saturating_add(1);
+        if number % EACH != 0 {
             return None;
         }
-        self.rest = EACH - 1;
         let found = self.cause();
         if found.is_some() {
             self.asked = self.asked.saturating_add(1);

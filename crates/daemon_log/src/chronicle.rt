@@ -505,6 +505,8 @@ impl<
     B: Beacon + Drop,
     F: Beacon + Drop,
 > Onlooker<W> for Chronicle<N, J, L, B, F> {
+    ghost seen = { λ _ _. Unit {0} };
+
     fn listens(&mut self, listen: &str, name: &str, first: &[u8]) {
         self.first(listen, name, first);
     }

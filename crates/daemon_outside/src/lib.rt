@@ -4,7 +4,6 @@
 mod beacon;
 mod log_outlet;
 mod mem_beacon;
-mod mem_onlooker;
 mod mem_outlet;
 mod mem_stop;
 mod onlooker;
@@ -17,7 +16,6 @@ mod stop_cause;
 pub use beacon::Beacon;
 pub use log_outlet::LogOutlet;
 pub use mem_beacon::MemBeacon;
-pub use mem_onlooker::{MemOnlooker, Sight};
 pub use mem_outlet::MemOutlet;
 pub use mem_stop::MemStop;
 pub use onlooker::Onlooker;

@@ -1,6 +1,6 @@
 //! A stop in memory, for tests.
 
-ghost use Rattle.std.specs.Prelude.{◌≡◌, ◌≤◌, ◌↔◌, IsSome, IsTrue};
+ghost use Rattle.std.specs.Prelude.{◌≡◌, ◌≤◌, is_some};
 
 use crate::{Stop, StopCause};
 use std::marker::Model;
@@ -44,15 +44,19 @@ impl MemStop {
 }
 
 impl Stop for MemStop {
-    ghost use Rattle.ads_outside.specs.Rose.{Rose};
+    ghost use Rattle.ads_outside.specs.Rose.{raised};
     ghost use Rattle.daemon_outside.specs.MemStop.{asks_next, looked_at};
+    ghost use Rattle.daemon_outside.specs.Stops.{raised_if};
+
+    ghost looks = { λ s. s.looks };
 
     ghost asked = { λ s. s.asks };
 
     fn look(&mut self) -> Option<StopCause>
-        ensures asked { IsSome result → Rose self.old.asks self.new.asks }
+        ensures looks { self.new.looks ≡ raised self.old.looks }
+        ensures asked { self.new.asks ≡ raised_if (is_some result) self.old.asks }
         ensures later { self.old.asks ≤ self.new.asks }
-        ensures answer { IsSome result ↔ IsTrue (asks_next self.old) }
+        ensures answer { is_some result ≡ asks_next self.old }
         ensures counted { self.new ≡ looked_at self.old }
     {
         self.looks = self.looks.saturating_add(1);

@@ -1,3 +1,4 @@
+mod NetLemmas
 mod ReadingLemmas
 mod SettleLemmas
 mod TextLemmas

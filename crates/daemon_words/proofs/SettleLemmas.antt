@@ -3,6 +3,6 @@ use Rattle.std.proofs.Common.{◌≡◌, ◌≢◌, ℕ, ◌<◌, ◌≤◌, ◌
 use Rattle.std.specs.Fmt.{decimal}
 use Rattle.std.proofs.lemmas.Fmt.{decimal_injective}
 
-pub not_within : (count : ℕ) (text : List ℕ) → count < 2 ^ 64 → text ≡ decimal count → 3600 < count → (n : ℕ) → n ≤ 3600 → text ≢ decimal n
-not_within count text small is over n within e =
-    let same : count ≡ n = decimal_injective count n small (omega (arith, within)) (sym is ∙ e) in omega (arith, same, over, within)
+pub not_within : (most count : ℕ) (text : List ℕ) → count < 2 ^ 64 → text ≡ decimal count → most < count → (n : ℕ) → n ≤ most → text ≢ decimal n
+not_within most count text small is over n within e =
+    let same : count ≡ n = decimal_injective count n small (omega (arith, small, over, within)) (sym is ∙ e) in omega (arith, same, over, within)

@@ -1,6 +1,6 @@
 -- Joined texts, one more at a time; and answers that say less of what was done.
 use Rattle.std.proofs.Common.{◌≡◌, ℕ, ◌+◌, ◌<◌, List, [], length, drop, get_or, sym, ap, ◌∙◌}
-use Rattle.std.specs.Prelude.{Result, Ok, Err, OnOk, IfOk}
+use Rattle.std.specs.Prelude.{Result, Ok, Err, OnOk, IfOk, Option, Some, None, IfSome}
 use Rattle.std.proofs.lemmas.List.{at_drop_more}
 use Rattle.daemon_words.specs.Setups.{line_with, line_with_all, joined}
 
@@ -11,6 +11,10 @@ on_ok (Err e) f p = tt
 pub if_ok : {A E : Type 0} (r : Result A E) (P Q : A → Type 0) → ((a : A) → P a → Q a) → IfOk r P → IfOk r Q
 if_ok (Ok a) P Q f p = f a p
 if_ok (Err e) P Q f p = tt
+
+pub if_some : {A : Type 0} (o : Option A) (P Q : A → Type 0) → ((a : A) → P a → Q a) → IfSome o P → IfSome o Q
+if_some (Some a) P Q f p = f a p
+if_some None P Q f p = tt
 
 -- the line with one more text, and with those that are left
 pub joined_next : (texts : List (List ℕ)) (i : ℕ) (line new text : List ℕ) → i < length texts → get_or texts i text ≡ text → new ≡ line_with line text

@@ -1,6 +1,7 @@
 pub mod Asking
 pub mod Files
 pub mod KeptNames
+pub mod Nets
 pub mod OthersWords
 pub mod Reading
 pub mod Said

@@ -13,6 +13,7 @@ mod given;
 mod ip_net;
 mod joined_texts;
 mod log_form;
+mod net_text;
 mod others_word;
 mod printed;
 mod printed_signal;
