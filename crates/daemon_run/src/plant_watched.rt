@@ -2,13 +2,15 @@
 
 ghost use Rattle.std.specs.Prelude.{◌+◌, ◌<◌, ◌≤◌, ◌^◌, ◌≡◌, length, IfSome, None};
 ghost use Rattle.ads_outside.specs.Named.{bytes_of};
-ghost use Rattle.ads_outside.specs.Rose.{Rose};
+ghost use Rattle.ads_outside.specs.Rose.{Rose, raised};
 ghost use Rattle.server_core.specs.Profiles.{profile_of};
 ghost use Rattle.persist_store.specs.Disk.{OpensOnly};
 ghost use Rattle.keep_play.specs.KeptDisk.{disk_used};
 ghost use Rattle.run_tasks.specs.BeforeRun.{IsBeforeRun};
 ghost use Rattle.run_tasks.specs.Readings.{OverFile, ReadsOne};
+ghost use Rattle.daemon_outside.specs.Stops.{raised_if};
 ghost use Rattle.watched_wire.specs.Ends.{with_ends};
+ghost use Rattle.watched_wire.specs.Ticks.{TicksAre};
 ghost use Rattle.daemon_run.specs.Plant.{serving, verdict_on};
 ghost use Rattle.daemon_run.specs.PlantEnds.{PlantBy};
 
@@ -60,6 +62,11 @@ pub fn run_watched<
         (Rose (F.state files.old).faults (F.state files.new).faults) result (S.state out.old) (S.state out.new)
         (disk_used D.contents D.may_leave D.moment D.left_since D.marked D.fault_count disk.old disk.new)
         (with_ends wire.old.ends (W.state wire.old.wire).history) (with_ends wire.new.ends (W.state wire.new.wire).history)) }
+    // A stop was looked for once at the start and once behind each tick; none of these looks but the last found one, which ended it.
+    ensures ticks { TicksAre wire.new.ticks (W.state wire.new.wire).history.log }
+    ensures looks { raised_if wire.new.due (P.looks wire.new.stop) ≡ raised wire.new.ticks }
+    ensures calm { wire.new.ends ≡ 0 → P.asked wire.new.stop ≡ 0 }
+    ensures once { P.asked wire.new.stop ≤ 1 }
     ensures by_stop { result ≡ Status.Done → 0 < P.asked wire.new.stop + (W.state wire.new.wire).history.ends }
     ensures no_disk { store.now ≡ None → disk.new ≡ disk.old }
     ensures opens { IfSome store.now (OpensOnly (D.names disk.old) (D.names disk.new)) }
@@ -85,5 +92,6 @@ pub fn run_watched<
         signals,
     );
     wire.ended_for_a_reason();
+    wire.looks_behind_each_tick();
     status
 }
