@@ -275,7 +275,9 @@ def moved(program, folder):
             out, err, status = end()
         see((out, status) == FAULT, f"{what}: {out!r}, status {status}")
         see(err == f"ads: {path}: {why}, so nothing more is recorded\n", f"{what}: standard error says {err!r}")
-        see(rows is None or numbers_of(at(rows)) == list(range(1, 11)), f"{what}: {rows} has not all rows")
+        # (a look that comes in front of the second frame ends it without that frame's rows)
+        held = rows and numbers_of(at(rows))
+        see(rows is None or held in (list(range(1, 6)), list(range(1, 11))), f"{what}: {rows} has the rows {held}")
         left = None if names is None else sorted(os.listdir(at("here")))
         see(left == names, f"{what}: what is left is {left}")
         if what == "replaced":
