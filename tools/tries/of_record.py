@@ -274,7 +274,9 @@ def moved(program, folder):
             change()
             out, err, status = end()
         see((out, status) == FAULT, f"{what}: {out!r}, status {status}")
-        see(err == f"ads: {path}: {why}, so nothing more is recorded\n", f"{what}: standard error says {err!r}")
+        # (a look in the moment of the change finds one name as before, and another not)
+        said = [f"ads: {path}: {it}, so nothing more is recorded\n" for it in (why, ELSEWHERE)]
+        see(err in said, f"{what}: standard error says {err!r}")
         # (a look that comes in front of the second frame ends it without that frame's rows)
         held = rows and numbers_of(at(rows))
         see(rows is None or held in (list(range(1, 6)), list(range(1, 11))), f"{what}: {rows} has the rows {held}")
