@@ -17,3 +17,4 @@ pub use loop_end::LoopEnd;
 pub use looping::serve;
 pub use nobody::Nobody;
 pub use turn_end::Turn;
+pub use turning::turn;

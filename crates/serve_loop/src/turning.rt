@@ -12,9 +12,9 @@ ghost use Rattle.serve_loop.specs.Telling.{StaysTold, Hears, HearsOrNot, TellsTu
 ghost use Rattle.serve_loop.specs.TurnTaken.{ComesBy, AfterTurn, turn_of_event};
 ghost use Rattle.serve_loop.specs.Wanting.{WasWanting};
 
-use crate::Beside;
 use crate::rounds::serve_each;
 use crate::turn_end::Turn;
+use crate::{Beside, Nobody};
 use ads_base::NoMemory;
 use ads_outside::{Event, Next, Wire};
 use ads_served::Served;
@@ -23,7 +23,23 @@ use std::thread::Threads;
 
 /// Takes one event of the wire, and offers each connection, in the order of opening, what waits for it, until it is
 /// taken or the connection is blocked. A failed offer loses that connection alone; one that is closing is then shut.
-/// `numbers` is room for the connections that are to be served.
+pub fn turn<T: Threads + Sync, W: Wire, M: Served>(
+    rt: &T,
+    alloc: Global,
+    served: &mut M,
+    wire: &mut W,
+) -> Turn
+    ensures turn { AfterTurn result M.steps M.noted (M.serves served.old) (M.serves served.new) (W.state wire.old) (W.state wire.new) }
+    ensures kept { W.kept wire.new ≡ W.kept wire.old }
+    ensures later { (W.state wire.old).faults ≤ (W.state wire.new).faults }
+    ensures wanted { (W.state wire.old).wants ≤ (W.state wire.new).wants }
+    ensures memory { result ≡ Turn.Memory → WasWanting (M.has_failed served.new) (W.state wire.old) (W.state wire.new) }
+{
+    let mut numbers = Vec::new(alloc);
+    turn_with::<T, W, M, (), Nobody>(rt, alloc, served, wire, &mut Nobody, &mut numbers)
+}
+
+/// The same, with what stands beside a loop, and room for the numbers of the connections that are to be served.
 pub(crate) fn turn_with<T: Threads + Sync, W: Wire, M: Served, O, A: Beside<M, O>>(
     rt: &T,
     alloc: Global,
