@@ -1,6 +1,6 @@
 //! The plant of a setup is served over the real outside.
 
-ghost use Rattle.std.specs.Prelude.{◌≡◌, option_map};
+ghost use Rattle.std.specs.Prelude.{◌≡◌, ◌<◌, ◌^◌, length, option_map};
 ghost use Rattle.adsd_program.specs.Profiles.{manner_said, rights_said};
 
 use crate::kept_body::{first_body, net_in, standing_body};
@@ -26,7 +26,7 @@ use port_device::Manner;
 use run_tasks::{
     Status, end_without_memory, print_and_end, print_line, print_outcome, read_description,
 };
-use server_core::Profile;
+use server_core::{Profile, Sources};
 use signals::Signal;
 use std::io::ErrorKind;
 use std::thread::Threads;
@@ -432,7 +432,24 @@ fn serve_signals<T: Threads + Sync, S: Sink>(
     if signals.len() > 1_024 {
         return Err(NoMemory);
     }
-    Ok(run_watched(
+    Ok(serve_with(rt, threads, setup, files, watched, out, disk, told, signals))
+}
+
+// Serves over the wire and the disk, with these signals.
+fn serve_with<T: Threads + Sync, S: Sink, G: Sources>(
+    rt: &HostRuntime,
+    threads: &T,
+    setup: &Setup,
+    files: &mut ReadBefore,
+    watched: &mut RealWatched,
+    out: &mut S,
+    disk: &mut StoreFile,
+    told: LogTold,
+    signals: G,
+) -> Status
+    requires few { length (G.waves signals) < 2 ^ 32 }
+{
+    run_watched(
         threads,
         rt.alloc(),
         profile_of(setup),
@@ -446,7 +463,7 @@ fn serve_signals<T: Threads + Sync, S: Sink>(
         disk,
         told,
         signals,
-    ))
+    )
 }
 
 // The log, with what judges descriptions for it.

@@ -1,6 +1,6 @@
 //! A run of the daemon over files, a wire, a sink, a disk and a log in memory.
 
-ghost use Rattle.std.specs.Prelude.{[], IsTrue};
+ghost use Rattle.std.specs.Prelude.{◌<◌, ◌^◌, [], IsTrue, length};
 ghost use Rattle.ads_outside.specs.Opened.{are_new};
 
 use crate::case_judge::CaseJudge;
@@ -16,7 +16,7 @@ use persist_store::{Disk, MemDisk};
 use port_device::Manner;
 use run_sheets::{Came, Fault, Given, Runs, StoreCase, WireCase, log_text, open_new};
 use run_tasks::{Status, print_and_end};
-use server_core::Profile;
+use server_core::{Profile, Sources};
 use signals::Signal;
 use std::alloc::Global;
 use std::thread::Threads;
@@ -247,7 +247,35 @@ fn serve_signals<
     if signals.len() > 1_024 {
         return Err(NoMemory);
     }
-    Ok(run_watched(
+    Ok(serve_with(
+        threads, alloc, setup, files, watched, out, disk, told, signals,
+    ))
+}
+
+// Serves with these signals.
+fn serve_with<
+    T: Threads + Sync,
+    F: Files,
+    W: Wire + Drop,
+    P: Stop + Drop,
+    O: Onlooker<W> + Drop,
+    S: Sink,
+    D: Disk,
+    G: Sources,
+>(
+    threads: &T,
+    alloc: Global,
+    setup: &Setup,
+    files: &mut F,
+    watched: &mut Watched<W, P, O>,
+    out: &mut S,
+    disk: &mut D,
+    told: CaseTold,
+    signals: G,
+) -> Status
+    requires few { length (G.waves signals) < 2 ^ 32 }
+{
+    run_watched(
         threads,
         alloc,
         profile_of(setup),
@@ -261,7 +289,7 @@ fn serve_signals<
         disk,
         told,
         signals,
-    ))
+    )
 }
 
 // Whether this is one of the words.
